@@ -1,0 +1,233 @@
+"""The nine calls. Each takes a volume as bytes, changes nothing in place and gives a Result.
+
+A refused call gives everything back as it came; a refused format or mount, the blank drive.
+"""
+
+from typing import NamedTuple
+
+import keys
+import tree
+from answers import ACCEPTED, Answer, altered
+from drive import (BLANK, CHANGING, MARK, NO_SECRET, STEADY, Drive, counter_test, first_tests,
+                   seal_change, shape_and_length_test, state_in_limits)
+from layout import EPOCH_TOP, HEAD, Record, layout, read_record, shape_in_limits
+from nuggets import change, contents, path_answer, read_tests, rekey_tests, touched, write_tests
+from primitives import number
+
+
+class Report(NamedTuple):
+    nuggets: int = 0
+    moved: int = 0
+    left: int = 0
+    flakes: int = 0
+    share: int = 0
+
+
+class Result(NamedTuple):
+    """`span` is where a stored flake begins and its length; `pads` the encipherings."""
+    answer: Answer
+    drive: Drive
+    volume: bytes
+    buffer: bytes = b""
+    report: Report = Report()
+    span: tuple = (0, 0)
+    pads: tuple = ()
+
+
+def share_of(moved, nuggets):
+    """In hundredths of a percent, rounded down."""
+    return moved * 10000 // nuggets
+
+
+def format(volume, n, p, f, salt, secret, outside):
+    if not shape_in_limits(n, p, f):
+        return Result(Answer(1), BLANK, volume)
+    lay = layout(n, p, f)
+    bad = Answer(2) if len(volume) != lay.length else counter_test(outside)
+    if bad:
+        return Result(bad, BLANK, volume)
+    work = bytearray(lay.length)
+    work[lay.records:lay.tags] = Record(0, 0, 1).stored() * n
+    work[lay.tree:lay.flakes] = tree.build(work, lay)
+    drive = seal_change(Drive(n, p, f, salt, epoch=1, counter=outside, present=secret), work)
+    return Result(ACCEPTED, drive, bytes(work))
+
+
+def head_shape_test(volume):
+    """Mount's 2 under 104 bytes, 3, 1, 2. Only then may the shape be relied on."""
+    if len(volume) < HEAD:
+        return Answer(2)
+    if volume[:5] != MARK:
+        return Answer(3)
+    n, p, f = number(volume[8:12]), number(volume[12:14]), number(volume[14:16])
+    if not (shape_in_limits(n, p, f) and state_in_limits(volume[5], number(volume[6:8]))):
+        return Answer(1)
+    return Answer(2) if len(volume) != layout(n, p, f).length else None
+
+
+def head_drive(volume, present, old):
+    """The drive that a head of good shape describes."""
+    n, p, f = number(volume[8:12]), number(volume[12:14]), number(volume[14:16])
+    state, epoch = volume[5], number(volume[6:8])
+    leaving = epoch - 1 if state == CHANGING else 0
+    kept = old if state == CHANGING else NO_SECRET
+    node1 = tree.node(volume, layout(n, p, f), 1)
+    return Drive(n, p, f, volume[16:32], state, leaving, epoch, number(volume[32:40]),
+                 node1, present, kept)
+
+
+def mount_tests(drive, volume, outside):
+    """4, 5, 6, 7 whole."""
+    if volume[72:104] != keys.seal(drive.present, volume[:72], drive.node1):
+        return Answer(4)
+    check = keys.old_check(drive.old, drive.salt, drive.epoch) if drive.changing else bytes(32)
+    if volume[40:72] != check:
+        return Answer(5)
+    if drive.counter != outside:
+        return Answer(6)
+    return altered(tree.whole_test(volume, drive.layout, drive.epoch, drive.changing))
+
+
+def mount(volume, present, old, outside):
+    bad = head_shape_test(volume)
+    if bad:
+        return Result(bad, BLANK, volume)
+    drive = head_drive(volume, present, old)
+    bad = mount_tests(drive, volume, outside)
+    return Result(bad, BLANK, volume) if bad else Result(ACCEPTED, drive, volume)
+
+
+def range_test(drive, offset, length):
+    return Answer(8) if offset + length > drive.layout.contents else None
+
+
+def read(drive, volume, offset, buffer):
+    """Fills a buffer of the given buffer's length."""
+    bad = first_tests(drive, volume) or range_test(drive, offset, len(buffer))
+    if bad:
+        return Result(bad, drive, volume, buffer)
+    pieces = touched(drive.layout, offset, len(buffer))
+    for n in pieces:
+        bad = read_tests(volume, drive, n, [piece.flake for piece in pieces[n]])
+        if bad:
+            return Result(bad, drive, volume, buffer)
+    parts = []
+    for n in pieces:
+        for piece in pieces[n]:
+            text = contents(volume, drive, n, piece.flake)
+            parts.append(text[piece.start:piece.start + piece.length])
+    return Result(ACCEPTED, drive, volume, b"".join(parts))
+
+
+def write(drive, volume, offset, data):
+    bad = first_tests(drive, volume) or range_test(drive, offset, len(data))
+    if not bad and not data:
+        return Result(ACCEPTED, drive, volume)
+    bad = bad or counter_test(drive.counter)
+    if bad:
+        return Result(bad, drive, volume)
+    pieces = touched(drive.layout, offset, len(data))
+    for n in pieces:
+        bad = write_tests(volume, drive, n, [piece.flake for piece in pieces[n]])
+        if bad:
+            return Result(bad, drive, volume)
+    work = bytearray(volume)
+    pads = []
+    for n in pieces:
+        pads += change(work, drive, n, pieces[n], data)
+    after = seal_change(drive, work)
+    return Result(ACCEPTED, after, bytes(work), pads=tuple(pads))
+
+
+def begin_tests(drive, secret):
+    """9, 10, 15, 13."""
+    if drive.changing:
+        return Answer(9)
+    if secret == drive.present:
+        return Answer(10)
+    if drive.epoch == EPOCH_TOP:
+        return Answer(15)
+    return counter_test(drive.counter)
+
+
+def begin(drive, volume, secret):
+    bad = first_tests(drive, volume) or begin_tests(drive, secret)
+    if bad:
+        return Result(bad, drive, volume)
+    work = bytearray(volume)
+    after = seal_change(drive._replace(state=CHANGING, leaving=drive.epoch, epoch=drive.epoch + 1,
+                                       present=secret, old=drive.present), work)
+    return Result(ACCEPTED, after, bytes(work))
+
+
+def sweep_tests(drive, volume, nugget):
+    """9, 8, 7 path, 12, 13, then 14 and 7 flakes."""
+    if not drive.changing:
+        return Answer(9)
+    if nugget >= drive.n:
+        return Answer(8)
+    bad = path_answer(volume, drive, nugget)
+    if bad:
+        return bad
+    if read_record(volume, drive.layout, nugget).epoch == drive.epoch:
+        return Answer(12)
+    return counter_test(drive.counter) or rekey_tests(volume, drive, nugget)
+
+
+def sweep(drive, volume, nugget):
+    bad = first_tests(drive, volume) or sweep_tests(drive, volume, nugget)
+    if bad:
+        return Result(bad, drive, volume)
+    work = bytearray(volume)
+    pads = change(work, drive, nugget, [], b"")
+    after = seal_change(drive, work)
+    return Result(ACCEPTED, after, bytes(work), pads=tuple(pads))
+
+
+def count(drive, volume):
+    """The report's values, read from the records."""
+    records = [read_record(volume, drive.layout, n) for n in range(drive.n)]
+    moved = sum(record.epoch == drive.epoch for record in records)
+    flakes = sum(len(record.present()) for record in records)
+    return Report(drive.n, moved, drive.n - moved, flakes, share_of(moved, drive.n))
+
+
+def whole_answer(drive, volume):
+    return altered(tree.whole_test(volume, drive.layout, drive.epoch, drive.changing))
+
+
+def finish_tests(drive, volume):
+    """9, 7 whole, 11, 13."""
+    if not drive.changing:
+        return Answer(9)
+    bad = whole_answer(drive, volume)
+    if bad:
+        return bad
+    left = count(drive, volume).left
+    return Answer(11, left=left) if left else counter_test(drive.counter)
+
+
+def finish(drive, volume):
+    bad = first_tests(drive, volume) or finish_tests(drive, volume)
+    if bad:
+        return Result(bad, drive, volume)
+    work = bytearray(volume)
+    after = seal_change(drive._replace(state=STEADY), work)
+    return Result(ACCEPTED, after, bytes(work))
+
+
+def report(drive, volume):
+    bad = first_tests(drive, volume) or whole_answer(drive, volume)
+    if bad:
+        return Result(bad, drive, volume)
+    return Result(ACCEPTED, drive, volume, report=count(drive, volume))
+
+
+def stored_flake(drive, volume, nugget, flake):
+    """No head test and no tag: the span of the stored bytes within the volume."""
+    bad = shape_and_length_test(drive, volume)
+    if not bad and (nugget >= drive.n or flake >= drive.p):
+        bad = Answer(8)
+    if bad:
+        return Result(bad, drive, volume)
+    return Result(ACCEPTED, drive, volume, span=(drive.layout.flake_at(nugget, flake), drive.f))
