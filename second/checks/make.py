@@ -1,0 +1,114 @@
+"""A volume made from scratch after document 01's tables, for the checks.
+
+It doesn't use the program's own keys, tags, tree or head, so that a slip there shows.
+"""
+
+import hashlib
+import struct
+from functools import lru_cache
+from typing import NamedTuple
+
+from drive import Drive
+from primitives import keystream, poly1305
+
+SALT = bytes(range(100, 116))
+PRESENT, OLD, OTHER = b"\x01" * 32, b"\x02" * 32, b"\x03" * 32
+
+
+def h(message, key=b""):
+    return hashlib.blake2s(message, key=key, digest_size=32).digest()
+
+
+@lru_cache(maxsize=65536)
+def pad_of(secret, salt, nugget, keycount, flake, f):
+    key = h(b"N" + salt + struct.pack("<I", nugget), secret)
+    return keystream(key, struct.pack("<IQ", 0, keycount), flake * (f // 64), f // 64)
+
+
+@lru_cache(maxsize=65536)
+def tag_of(secret, salt, nugget, keycount, flake, stored):
+    key = h(b"N" + salt + struct.pack("<I", nugget), secret)
+    return poly1305(h(b"F" + struct.pack("<HQ", flake, keycount), key), stored)
+
+
+def mixed(text, pad):
+    return bytes(a ^ b for a, b in zip(text, pad))
+
+
+def some_text(nugget, flake, f):
+    return (h(struct.pack("<IH", nugget, flake)) * (f // 32))[:f]
+
+
+class Spec(NamedTuple):
+    """What a volume shall hold. A record is a list: keycount, journal, epoch."""
+    n: int
+    p: int
+    f: int
+    state: int
+    epoch: int
+    counter: int
+    records: list
+    present: bytes = PRESENT
+    old: bytes = OLD
+    text: object = some_text
+    node1: bytes = None
+    check: bytes = None
+    salt: bytes = SALT
+
+
+def power(n):
+    l = 1
+    while l < n:
+        l *= 2
+    return l
+
+
+def tree_of(spec, records, tags):
+    l = power(spec.n)
+    nodes = [bytes(32)] * (2 * l)
+    for n in range(spec.n):
+        mine = tags[16 * spec.p * n:16 * spec.p * (n + 1)]
+        nodes[l + n] = h(b"L" + struct.pack("<I", n) + records[18 * n:18 * n + 18] + mine)
+    for i in range(l - 1, 0, -1):
+        nodes[i] = h(b"T" + nodes[2 * i] + nodes[2 * i + 1])
+    if spec.node1 is not None:
+        nodes[1] = spec.node1
+    return nodes[1:]
+
+
+def head_of(spec, node1):
+    check = bytes(32)
+    if spec.state == 1:
+        check = h(b"O" + spec.salt + struct.pack("<H", spec.epoch), spec.old)
+    if spec.check is not None:
+        check = spec.check
+    front = struct.pack("<3sHBHIHH16sQ32s", b"NGT", 1, spec.state, spec.epoch, spec.n, spec.p,
+                        spec.f, spec.salt, spec.counter, check)
+    return front + h(b"H" + front + node1, spec.present)
+
+
+def made(spec):
+    """The drive and the volume of a spec. Absent flakes have zero tags and zero bytes."""
+    records, tags, flakes = b"", [], []
+    for n, (keycount, journal, epoch) in enumerate(spec.records):
+        records += struct.pack("<QQH", keycount & 2**64 - 1, journal, epoch)
+        secret = spec.present if epoch == spec.epoch else spec.old
+        for f in range(spec.p):
+            stored, tag = bytes(spec.f), bytes(16)
+            if journal >> f & 1:
+                pad = pad_of(secret, spec.salt, n, keycount, f, spec.f)
+                stored = mixed(spec.text(n, f, spec.f), pad)
+                tag = tag_of(secret, spec.salt, n, keycount, f, stored)
+            flakes.append(stored)
+            tags.append(tag)
+    nodes = tree_of(spec, records, b"".join(tags))
+    volume = head_of(spec, nodes[0]) + records + b"".join(tags + nodes + flakes)
+    changing = spec.state == 1
+    drive = Drive(spec.n, spec.p, spec.f, spec.salt, spec.state, spec.epoch - 1 if changing else 0,
+                  spec.epoch, spec.counter, nodes[0], spec.present,
+                  spec.old if changing else bytes(32))
+    return drive, volume
+
+
+def flipped(volume, at, bit=0):
+    return volume[:at] + bytes([volume[at] ^ 1 << bit]) + volume[at + 1:]

@@ -1,0 +1,53 @@
+"""Published vectors: RFC 8439 for ChaCha20 and Poly1305, RFC 7693 for BLAKE2s."""
+
+from primitives import blake2s, chacha20_block, keystream, poly1305, xor
+
+KEY = bytes(range(32))
+BLOCKS = [
+    ("2.3.2", KEY, 1, "000000090000004a00000000",
+     "10f1e7e4d13b5915500fdd1fa32071c4c7d1f4c733c068030422aa9ac3d46c4e"
+     "d2826446079faa0914c2d705d98b02a2b5129cd1de164eb9cbd083e8a2503c4e"),
+    ("A.1 first", bytes(32), 0, "00" * 12,
+     "76b8e0ada0f13d90405d6ae55386bd28bdd219b8a08ded1aa836efcc8b770dc7"
+     "da41597c5157488d7724e03fb8d84a376a43b8f41518a11cc387b669b2ee6586"),
+    ("A.1 second", bytes(32), 1, "00" * 12,
+     "9f07e7be5551387a98ba977c732d080dcb0f29a048e3656912c6533e32ee7aed"
+     "29b721769ce64e43d57133b074d839d531ed1f28510afb45ace10a1f4b794d6f"),
+]
+SUNSCREEN = (b"Ladies and Gentlemen of the class of '99: If I could offer you only one tip for "
+             b"the future, sunscreen would be it.")
+SUNSCREEN_ENCIPHERED = (
+    "6e2e359a2568f98041ba0728dd0d6981e97e7aec1d4360c20a27afccfd9fae0b"
+    "f91b65c5524733ab8f593dabcd62b3571639d624e65152ab8f530c359f0861d8"
+    "07ca0dbf500d6a6156a38e088a22b65e52bc514d16ccf806818ce91ab7793736"
+    "5af90bbf74a35be6b40b8eedf2785e42874d")
+F16 = "ff" * 16
+TAGS = [
+    ("2.5.2", "85d6be7857556d337f4452fe42d506a80103808afb0db2fd4abff6af4149f51b",
+     b"Cryptographic Forum Research Group".hex(), "a8061dc1305136c6c22b8baf0c0127a9"),
+    ("A.3 zero key", "00" * 32, "00" * 64, "00" * 16),
+    ("A.3 wrap past the prime", "02" + "00" * 31, F16, "03" + "00" * 15),
+    ("A.3 sum past 128 bits", "02" + "00" * 15 + F16, "02" + "00" * 15, "03" + "00" * 15),
+    ("A.3 carry", "01" + "00" * 31, F16 + "f0" + "ff" * 15 + "11" + "00" * 15, "05" + "00" * 15),
+    ("A.3 exactly the prime", "01" + "00" * 31, F16 + "fb" + "fe" * 15 + "01" * 16, "00" * 16),
+    ("A.3 just below", "02" + "00" * 31, "fd" + "ff" * 15, "fa" + "ff" * 15),
+]
+
+
+def run(tally):
+    for name, key, counter, nonce, want in BLOCKS:
+        got = chacha20_block(key, counter, bytes.fromhex(nonce))
+        tally.same(f"RFC 8439 {name}", got.hex(), want)
+    nonce = bytes.fromhex("000000000000004a00000000")
+    pad = keystream(KEY, nonce, 1, 2)[:len(SUNSCREEN)]
+    tally.same("RFC 8439 2.4.2", xor(SUNSCREEN, pad).hex(), SUNSCREEN_ENCIPHERED)
+    for name, key, message, want in TAGS:
+        got = poly1305(bytes.fromhex(key), bytes.fromhex(message))
+        tally.same(f"RFC 8439 {name}", got.hex(), want)
+    tally.same("RFC 7693 abc", blake2s(b"", b"abc").hex(),
+               "508c5e8c327c14e2e1a72ba34eeb452f37458b209ed63a294d999b4c86675982")
+    over = keystream(KEY, nonce, 2**32 - 2, 4)
+    alone = [chacha20_block(KEY, c, nonce) for c in (2**32 - 2, 2**32 - 1, 0, 1)]
+    tally.same("the block counter rolls over", over, b"".join(alone))
+    many = b"".join(chacha20_block(KEY, 7 + i, nonce) for i in range(64))
+    tally.same("64 blocks at once", keystream(KEY, nonce, 7, 64), many)
