@@ -231,6 +231,26 @@ def not_refused(tally):
     tally.same("both secrets may be equal while changing", got.answer, Answer(0))
 
 
+def junk_kept(tally):
+    """A steady drive's old secret and epoch being left: not looked at, kept by calls that
+    change nothing, zeros after an accepted change."""
+    drive, volume = made(Spec(3, 2, 64, 0, 3, 9, MOVED))
+    junk = drive._replace(old=OTHER, leaving=77)
+    for got in (read_call(junk, volume), empty_write(junk, volume), calls.report(junk, volume),
+                stored_call(junk, volume), calls.sweep(junk, volume, 0)):
+        tally.same("junk kept", (got.drive, got.volume), (junk, volume))
+    got, clean = write_call(junk, volume), write_call(drive, volume)
+    tally.same("zeros after a write", got, clean)
+    tally.same("zeros there", (got.drive.old, got.drive.leaving), (bytes(32), 0))
+    got = calls.begin(junk, volume, OTHER)
+    tally.same("begin keeps the present one", got, calls.begin(drive, volume, OTHER))
+    tally.same("kept there", (got.drive.old, got.drive.leaving), (PRESENT, 3))
+    drive, volume = made(Spec(3, 2, 64, 1, 3, 9, MOVED))
+    got = calls.finish(drive, volume)
+    tally.same("zeros after a finish", got.drive, drive._replace(state=0, leaving=0, counter=10,
+                                                                old=bytes(32)))
+
+
 def more_answers(tally):
     """Ranges over plain integers, the steady check, counts left, and wrong drive secrets."""
     drive, volume = made(Spec(3, 2, 64, 1, 3, 9, MIXED))
@@ -262,4 +282,5 @@ def run(tally):
             if {pair[0][0], pair[1][0]} not in APART:
                 tried(tally, row, pair)
     not_refused(tally)
+    junk_kept(tally)
     more_answers(tally)

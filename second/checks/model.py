@@ -1,0 +1,125 @@
+"""What a history of calls must do, told on plain data: no cipher, no tree, no volume.
+
+It predicts each call's answer and the encipherings listed, in document 01's words.
+"""
+
+import struct
+
+from checks.make import Spec
+
+TOP = 2**64 - 1
+
+
+class Model:
+    """Starts from a spec whose present flakes hold the spec's texts."""
+
+    def __init__(self, spec):
+        self.n, self.p, self.f = spec.n, spec.p, spec.f
+        self.salt = spec.salt
+        self.state, self.epoch, self.counter = spec.state, spec.epoch, spec.counter
+        self.records = [list(record) for record in spec.records]
+        self.present, self.old = spec.present, spec.old
+        self.shadow = bytearray()
+        for n, (_, journal, _) in enumerate(self.records):
+            for f in range(self.p):
+                self.shadow += spec.text(n, f, self.f) if journal >> f & 1 else bytes(self.f)
+
+    def size(self):
+        return self.n * self.p * self.f
+
+    def text(self, n, f, size):
+        at = (n * self.p + f) * size
+        return bytes(self.shadow[at:at + size])
+
+    def spec(self):
+        """The volume that must stand now, for `made`."""
+        return Spec(self.n, self.p, self.f, self.state, self.epoch, self.counter, self.records,
+                    self.present, self.old, self.text, salt=self.salt)
+
+    def left(self):
+        return sum(record[2] != self.epoch for record in self.records)
+
+    def flakes(self, n):
+        return [f for f in range(self.p) if self.records[n][1] >> f & 1]
+
+    def report(self):
+        moved = self.n - self.left()
+        present = sum(len(self.flakes(n)) for n in range(self.n))
+        return (self.n, moved, self.n - moved, present, moved * 10000 // self.n)
+
+    def rekey(self, n):
+        """Raises the keycount and moves the nugget."""
+        self.records[n][0] += 1
+        self.records[n][2] = self.epoch
+
+    def write(self, offset, data):
+        """The answer's number and the pads; if accepted the model moves on."""
+        if offset + len(data) > self.size():
+            return 8, []
+        if not data:
+            return 0, []
+        if self.counter == TOP:
+            return 13, []
+        plan = {}
+        for flake in range(offset // self.f, (offset + len(data) - 1) // self.f + 1):
+            plan.setdefault(flake // self.p, set()).add(flake % self.p)
+        anew = {n for n in plan
+                if plan[n] & set(self.flakes(n)) or self.records[n][2] != self.epoch}
+        if any(self.records[n][0] == TOP for n in anew):
+            return 14, []
+        pads = []
+        for n in plan:
+            fresh = plan[n] | set(self.flakes(n)) if n in anew else plan[n]
+            if n in anew:
+                self.rekey(n)
+            self.records[n][1] |= sum(1 << f for f in plan[n])
+            pads += [(n, self.records[n][0], f) for f in sorted(fresh)]
+        self.shadow[offset:offset + len(data)] = data
+        self.counter += 1
+        return 0, pads
+
+    def begin(self, secret):
+        if self.state:
+            return 9, []
+        if secret == self.present:
+            return 10, []
+        if self.epoch == 65535:
+            return 15, []
+        if self.counter == TOP:
+            return 13, []
+        self.state, self.epoch, self.counter = 1, self.epoch + 1, self.counter + 1
+        self.present, self.old = secret, self.present
+        return 0, []
+
+    def sweep(self, n):
+        if not self.state:
+            return 9, []
+        if n >= self.n:
+            return 8, []
+        if self.records[n][2] == self.epoch:
+            return 12, []
+        if self.counter == TOP:
+            return 13, []
+        if self.records[n][0] == TOP:
+            return 14, []
+        self.rekey(n)
+        self.counter += 1
+        return 0, [(n, self.records[n][0], f) for f in self.flakes(n)]
+
+    def finish(self):
+        if not self.state:
+            return 9, []
+        if self.left():
+            return 11, []
+        if self.counter == TOP:
+            return 13, []
+        self.state, self.counter, self.old = 0, self.counter + 1, bytes(32)
+        return 0, []
+
+    def read(self, offset, length):
+        return 8 if offset + length > self.size() else 0
+
+
+def records_in(volume, n):
+    """The records as they stand in a volume's bytes."""
+    return [struct.unpack_from("<QQH", volume, 104 + 18 * i) for i in range(n)]

@@ -1,0 +1,169 @@
+"""The sheet's lines, the sample, and the script runner; also as programs of their own."""
+
+import hashlib
+import os
+import subprocess
+import sys
+import tempfile
+
+import calls
+import run as runner
+import sample
+import sheet
+from answers import FLAKE, HEAD, NODE, RECORD, Answer, Place
+from layout import layout
+
+from checks.make import OLD, PRESENT, SALT, Spec, flipped, made
+
+HERE = os.path.dirname(os.path.dirname(os.path.abspath(__file__)))
+SAMPLE_LINE = b"nuggets=3 moved=1 left=2 flakes=2 share=33.33\n"
+CLASSES = ["form"] * 3 + ["key"] * 3 + ["altered"] + ["request"] * 5 + ["spent"] * 3
+
+
+def lines(tally):
+    for number in range(1, 16):
+        want = f"refused={number} class={CLASSES[number - 1]}"
+        if number != 7:
+            tally.same(f"line of {number}", sheet.refusal_line(Answer(number)), want)
+            tally.same(f"line of {number} with a count",
+                       sheet.refusal_line(Answer(number, left=4)), want)
+    for place, words in ((Place(HEAD), "head"), (Place(RECORD, 2), "record 2"),
+                         (Place(NODE, 5), "node 5"), (Place(FLAKE, 2, 1), "flake 2 1"),
+                         (Place(NODE, 32767), "node 32767"), (Place(RECORD, 0), "record 0")):
+        tally.same(f"line of 7 {words}", sheet.refusal_line(Answer(7, place)),
+                   f"refused=7 class=altered place={words}")
+    for number in (-1, 0, 16, 255):
+        tally.same(f"class of {number}", sheet.class_of(number), None)
+
+
+def sheet_input(drive, volume, outside=None):
+    counter = drive.counter if outside is None else outside
+    return drive.present + drive.old + counter.to_bytes(8, "little") + volume
+
+
+def refusals(tally):
+    drive, volume = made(Spec(3, 2, 64, 1, 3, 9, [[4, 3, 2], [7, 3, 3], [0, 1, 2]]))
+    good = sheet_input(drive, volume)
+    for words, data in (
+            (b"nuggets=3 moved=1 left=2 flakes=5 share=33.33", good),
+            (b"refused=2 class=form", b""), (b"refused=2 class=form", good[:71]),
+            (b"refused=2 class=form", good[:72]), (b"refused=2 class=form", good[:175]),
+            (b"refused=2 class=form", good[:176]), (b"refused=2 class=form", good + b"\0"),
+            (b"refused=3 class=form", flipped(good, 72)),
+            (b"refused=1 class=form", flipped(good, 77, 3)),
+            (b"refused=4 class=key", flipped(good, 0)),
+            (b"refused=5 class=key", flipped(good, 32)),
+            (b"refused=6 class=key", flipped(good, 71, 7)),
+            (b"refused=7 class=altered place=record 2", flipped(good, 72 + 104 + 36)),
+            (b"refused=7 class=altered place=node 7", flipped(good, 72 + 254 + 192)),
+            (b"refused=7 class=altered place=node 2", flipped(good, 72 + 254 + 32))):
+        tally.same(f"sheet {words.decode()}", sheet.line(data), words + b"\n")
+    moved = made(Spec(2, 1, 64, 0, 3, 9, [[4, 1, 3], [7, 0, 3]]))
+    tally.same("all moved", sheet.line(sheet_input(*moved)),
+               b"nuggets=2 moved=2 left=0 flakes=1 share=100.00\n")
+    for p, want in ((14, b"nuggets=1 moved=1 left=0 flakes=0 share=100.00\n"),
+                    (15, b"refused=2 class=form\n")):
+        got = calls.format(bytes(layout(1, p, 4096).length), 1, p, 4096, SALT, PRESENT, 0)
+        tally.same(f"volume of {len(got.volume)} bytes",
+                   sheet.line(sheet_input(got.drive, got.volume)), want)
+    mark = b"XGT" + bytes(61437)
+    tally.same("61,512 bytes", sheet.line(bytes(72) + mark), b"refused=3 class=form\n")
+    tally.same("61,513 bytes", sheet.line(bytes(73) + mark), b"refused=2 class=form\n")
+
+
+def started(name, *arguments, given=b""):
+    done = subprocess.run([sys.executable, os.path.join(HERE, name), *arguments], input=given,
+                          capture_output=True, timeout=60)
+    return done.returncode, done.stdout
+
+
+def programs(tally):
+    with tempfile.TemporaryDirectory() as place:
+        path = os.path.join(place, "sample")
+        tally.same("sample.py", started("sample.py", path), (0, b""))
+        with open(path, "rb") as made_file:
+            data = made_file.read()
+        tally.same("sample again", data, sample.sample())
+        tally.same("sample's hash", hashlib.sha256(data).hexdigest(), SAMPLE_HASH)
+        tally.same("sheet.py", started("sheet.py", given=data), (0, SAMPLE_LINE))
+        tally.same("sheet.py refuses", started("sheet.py", given=data[:-1]),
+                   (0, b"refused=2 class=form\n"))
+        with open(path, "w", encoding="utf-8") as script:
+            script.write(SCRIPT)
+        want = "".join(line + "\n" for line in runner.run(SCRIPT)[0]).encode()
+        tally.same("run.py", started("run.py", path), (1, want))
+    tally.same("run.py without a script", started("run.py")[0], 2)
+    tally.same("sample line", sheet.line(sample.sample()), SAMPLE_LINE)
+
+
+SAMPLE_HASH = "9aa64680250d07a9539097850c8a4e2921375683242fc91997785949500ed36b"
+SCRIPT = """# figure 10, a key change, a stale image, and lines that aren't understood
+volume 314
+format 1 2 64 aa*16 01*32 0
+write 0 11*64
+write 0x40 22*64
+keep before
+write 0 33
+read 62 4
+report
+begin 02*32
+finish
+sweep 0
+stored_flake 0 1
+finish
+back before
+report
+mount 02*32 00*32 7
+flip 0 1
+mount 01*32 00*32 3
+flip 400 1
+write 0
+read x 1
+begin 02*31
+write 0 zz
+write -1 00
+volume 99999999999
+write 0 00*99999999999
+back nowhere
+nonsense \u00e9
+"""
+ANSWERS = """3 format answer=0 place=- counter=1
+4 write answer=0 place=- counter=2 0/0/0
+5 write answer=0 place=- counter=3 0/0/1
+7 write answer=0 place=- counter=4 0/1/0,0/1/1
+8 read answer=0 place=- counter=4
+9 report answer=0 place=- counter=4
+10 begin answer=0 place=- counter=5
+11 finish answer=11 place=- left=1 counter=5
+12 sweep answer=0 place=- counter=6 0/2/0,0/2/1
+13 stored_flake answer=0 place=- counter=6
+14 finish answer=0 place=- counter=7
+16 report answer=7 place=head counter=7
+17 mount answer=4 place=- counter=0
+19 mount answer=3 place=- counter=0""".split("\n")
+
+
+def script(tally):
+    got, good = runner.run(SCRIPT)
+    tally.same("not all was understood", good, False)
+    for line, want in zip(got, ANSWERS):
+        words = want.split(" ")
+        pads = words.pop() if "/" in words[-1] else "-"
+        tally.same("script line", line[:len(" ".join(words))], " ".join(words))
+        listed = line.split("pads=")[1].split(" ")[0]
+        short = ",".join("/".join(pad.split("/")[:3]) for pad in listed.split(","))
+        tally.same(f"pads of {want}", short, pads)
+    tally.same("bytes read", got[4].split("bytes=")[1], "11112222")
+    tally.same("report told", got[5].split("report=")[1], "1,1,0,2,10000")
+    tally.same("span told", got[9].split("span=")[1], f"{314 - 64}+64")
+    refused = got[len(ANSWERS):]
+    tally.same("refusal lines", [line.split(" ", 1)[0] for line in refused],
+               [str(at) for at in range(20, 30)])
+    for line in refused:
+        tally.same("refusal line", line.split(" ", 1)[1][:15], "not understood:")
+    tally.same("a good script", runner.run("volume 9\n# no more\n\nfinish")[1], True)
+
+
+def run(tally):
+    for part in (lines, refusals, programs, script):
+        part(tally)
