@@ -90,7 +90,8 @@ def bad_states(tally):
         for got in drive_calls(bad, volume):
             tally.same(f"drive with {words}", got[:3], (calls.Answer(1), bad, volume))
     for got in drive_calls(BLANK, volume) + drive_calls(BLANK, b""):
-        tally.same("blank drive", (got.answer, got.drive, got.span), (calls.Answer(1), BLANK, (0, 0)))
+        tally.same("blank drive", (got.answer, got.drive, got.span),
+                   (calls.Answer(1), BLANK, (0, 0)))
     for at, byte in ((5, 2), (5, 255), (6, 0), (6, 1)):
         bad = volume[:at] + bytes([byte]) + volume[at + 1:]
         got = calls.mount(bad, PRESENT, bytes(32), 4)

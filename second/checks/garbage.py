@@ -11,7 +11,7 @@ from layout import layout
 
 from checks.make import PRESENT, SALT, Spec, flipped, made
 
-ROUNDS = 3000
+ROUNDS = 5000
 TOP = 2**64 - 1
 WORDS = (0, 1, 2, 3, 5, 63, 64, 65, 96, 128, 4096, 4160, 16384, 16385, 2**16, 2**31, 2**32 - 1)
 LINE = re.compile(rb"(nuggets=\d+ moved=\d+ left=\d+ flakes=\d+ share=\d+\.\d\d|refused=[1-6] class="
@@ -28,7 +28,7 @@ POSSIBLE = {
 def wild_record(chance, p, epoch):
     """Well formed or not, as it comes."""
     journal = chance.choice((0, 1, 2**p - 1, 2**p % 2**64, chance.getrandbits(64)))
-    epochs = (epoch, epoch, epoch - 1, epoch - 2, epoch + 1, 0, 65535)
+    epochs = (epoch, epoch, epoch - 1, epoch - 1, epoch - 2, epoch + 1, 65535)
     return [chance.choice((0, 1, TOP - 1, TOP)), journal, chance.choice(epochs) % 65536]
 
 
@@ -78,7 +78,7 @@ def every_call(chance, drive, volume):
     yield "write", drive, calls.write(drive, volume, offset, data), b""
     secret = chance.choice((drive.present, data[:32].ljust(32, b"s")))
     yield "begin", drive, calls.begin(drive, volume, secret), b""
-    yield "sweep", drive, calls.sweep(drive, volume, number), b""
+    yield "sweep", drive, calls.sweep(drive, volume, chance.choice((0, 0, number))), b""
     yield "finish", drive, calls.finish(drive, volume), b""
     yield "report", drive, calls.report(drive, volume), b""
     yield "stored_flake", drive, calls.stored_flake(drive, volume, number, other), b""

@@ -6,8 +6,6 @@ from drive import BLANK
 from checks.make import flipped, made, mixed, pad_of
 from checks.model import Model, records_in
 
-CHANGES = ("write", "begin", "sweep", "finish")
-
 
 class History:
     def __init__(self, tally, words, spec):
@@ -43,6 +41,8 @@ class History:
         self.secrets += [self.model.present] if name == "begin" else []
         self.demands(before, got.pads)
         self.mount()
+        got = calls.mount(before, self.model.present, self.model.old, self.model.counter)
+        self.tally.holds(f"{self.words}: the image just left", got.answer.number in (4, 5, 6))
 
     def demands(self, before, pads):
         """Layout byte for byte, the list of encipherings, and each present flake's pad."""
@@ -90,7 +90,7 @@ class History:
             got = calls.mount(image, present, old, self.model.counter)
             self.tally.holds(f"{self.words}: stale image", got.answer.number in (4, 5, 6))
             self.same("stale image drive", got.drive, BLANK)
-        got = getattr(calls, "report")(self.drive, image)
+        got = calls.report(self.drive, image)
         self.same("stale image under the drive", (got.answer.number, got.answer.place.kind), (7, 1))
 
     def wrong_mount(self, chance):

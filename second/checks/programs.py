@@ -2,6 +2,7 @@
 
 import hashlib
 import os
+import struct
 import subprocess
 import sys
 import tempfile
@@ -11,6 +12,7 @@ import run as runner
 import sample
 import sheet
 from answers import FLAKE, HEAD, NODE, RECORD, Answer, Place
+from drive import BLANK, Drive, drive_of_image
 from layout import layout
 
 from checks.make import OLD, PRESENT, SALT, Spec, flipped, made
@@ -34,6 +36,24 @@ def lines(tally):
                    f"refused=7 class=altered place={words}")
     for number in (-1, 0, 16, 255):
         tally.same(f"class of {number}", sheet.class_of(number), None)
+
+
+def images(tally):
+    """The C interface's images of drives and answers."""
+    secrets = PRESENT, OLD
+    drive = Drive(3, 2, 64, SALT, 1, 6, 7, 2**64 - 2, b"n" * 32, *secrets)
+    image = struct.pack("<IIIBxHH6x16sQ32s32s32s", 3, 2, 64, 1, 7, 6, SALT, 2**64 - 2, b"n" * 32,
+                        *secrets)
+    tally.same("drive's image", drive.image(), image)
+    tally.same("drive of an image", drive_of_image(image), drive)
+    tally.same("image's length", len(BLANK.image()), 144)
+    for answer, want in ((Answer(0), (0, 0, 0, 0)), (Answer(6), (6, 0, 0, 0)),
+                         (Answer(7, Place(HEAD)), (7, 1, 0, 0)),
+                         (Answer(7, Place(RECORD, 9)), (7, 2, 9, 0)),
+                         (Answer(7, Place(NODE, 5)), (7, 3, 5, 0)),
+                         (Answer(7, Place(FLAKE, 2, 1)), (7, 4, 2, 1)),
+                         (Answer(11, left=4), (11, 0, 4, 0))):
+        tally.same(f"image of {answer}", answer.image(), struct.pack("<4I", *want))
 
 
 def sheet_input(drive, volume, outside=None):
@@ -165,5 +185,5 @@ def script(tally):
 
 
 def run(tally):
-    for part in (lines, refusals, programs, script):
+    for part in (lines, images, refusals, programs, script):
         part(tally)

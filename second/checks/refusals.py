@@ -265,12 +265,18 @@ def more_answers(tally):
     tally.same("two left", calls.finish(drive, volume).answer, Answer(11, left=2))
     for n in range(3):
         tally.same(f"sweep of {n}", calls.sweep(drive, volume, n).answer.number, (0, 12, 0)[n])
-    _, odd = made(Spec(3, 2, 64, 0, 3, 9, MOVED, check=b"\x01" + bytes(31)))
-    tally.same("steady, check not zero", calls.mount(odd, PRESENT, OLD, 9).answer, Answer(5))
+    for n in (3, 65536, 2**31, 2**32 - 1):
+        tally.same(f"sweep of {n}", calls.sweep(drive, volume, n).answer, Answer(8))
     for words in ({"old": OTHER}, {"present": OTHER}, {"counter": 8}, {"salt": bytes(16)},
                   {"node1": bytes(32)}, {"epoch": 4, "leaving": 3}):
         got = calls.report(drive._replace(**words), volume)
         tally.same(f"drive with another {words}", got.answer, at7(HEAD))
+    drive, odd = made(Spec(3, 2, 64, 0, 3, 9, MIXED))
+    for got in (calls.mount(odd, PRESENT, OLD, 9), read_call(drive, odd), write_call(drive, odd),
+                calls.report(drive, odd)):
+        tally.same("one less while steady", got.answer, at7(RECORD, 0))
+    _, odd = made(Spec(3, 2, 64, 0, 3, 9, MOVED, check=b"\x01" + bytes(31)))
+    tally.same("steady, check not zero", calls.mount(odd, PRESENT, OLD, 9).answer, Answer(5))
 
 
 def run(tally):

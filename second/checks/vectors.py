@@ -1,5 +1,8 @@
 """Published vectors: RFC 8439 for ChaCha20 and Poly1305, RFC 7693 for BLAKE2s."""
 
+import random
+import struct
+
 from primitives import blake2s, chacha20_block, keystream, poly1305, xor
 
 KEY = bytes(range(32))
@@ -34,7 +37,34 @@ TAGS = [
 ]
 
 
+def plain_block(key, counter, nonce):
+    """RFC 8439 2.3 word by word, to hold the program's many words at once against."""
+    words = b"expand 32-byte k" + key + struct.pack("<I", counter) + nonce
+    start = struct.unpack("<16I", words)
+    state = list(start)
+    columns = [(i, i + 4, i + 8, i + 12) for i in range(4)]
+    diagonals = [(i, 4 + (i + 1) % 4, 8 + (i + 2) % 4, 12 + (i + 3) % 4) for i in range(4)]
+    for a, b, c, d in (columns + diagonals) * 10:
+        for x, y, z, turn in ((a, b, d, 16), (c, d, b, 12), (a, b, d, 8), (c, d, b, 7)):
+            state[x] = (state[x] + state[y]) % 2**32
+            mixed = state[z] ^ state[x]
+            state[z] = (mixed << turn | mixed >> 32 - turn) % 2**32
+    return struct.pack("<16I", *((one + other) % 2**32 for one, other in zip(start, state)))
+
+
+def plain(tally):
+    chance = random.Random(f"vectors {tally.seed}")
+    for _ in range(200):
+        key, nonce = chance.randbytes(32), chance.randbytes(12)
+        counter = chance.choice((0, 2**31, 2**32 - 1, 2**32 - 2, chance.getrandbits(32)))
+        blocks = chance.randint(1, 6)
+        want = [plain_block(key, (counter + i) % 2**32, nonce) for i in range(blocks)]
+        tally.same(f"{blocks} blocks from {counter}", keystream(key, nonce, counter, blocks),
+                   b"".join(want))
+
+
 def run(tally):
+    plain(tally)
     for name, key, counter, nonce, want in BLOCKS:
         got = chacha20_block(key, counter, bytes.fromhex(nonce))
         tally.same(f"RFC 8439 {name}", got.hex(), want)
@@ -46,8 +76,5 @@ def run(tally):
         tally.same(f"RFC 8439 {name}", got.hex(), want)
     tally.same("RFC 7693 abc", blake2s(b"", b"abc").hex(),
                "508c5e8c327c14e2e1a72ba34eeb452f37458b209ed63a294d999b4c86675982")
-    over = keystream(KEY, nonce, 2**32 - 2, 4)
-    alone = [chacha20_block(KEY, c, nonce) for c in (2**32 - 2, 2**32 - 1, 0, 1)]
-    tally.same("the block counter rolls over", over, b"".join(alone))
-    many = b"".join(chacha20_block(KEY, 7 + i, nonce) for i in range(64))
+    many = b"".join(plain_block(KEY, 7 + i, nonce) for i in range(64))
     tally.same("64 blocks at once", keystream(KEY, nonce, 7, 64), many)
