@@ -16,7 +16,7 @@ VOLUMES = [
 ]
 
 
-def head_answer(spec, volume, at):
+def head_answer(volume, at):
     """What mount must say to a flipped bit at a byte of the head."""
     if at < 5:
         return Answer(3)
@@ -47,7 +47,7 @@ def mount_answer(spec, volume, at):
     tree = tags + 16 * spec.n * spec.p
     flakes = tree + 32 * (2 * power(spec.n) - 1)
     if at < 104:
-        return head_answer(spec, volume, at), None
+        return head_answer(volume, at), None
     if at < tags:
         return Answer(7, Place(RECORD, (at - 104) // 18)), None
     if at < tree:
