@@ -1,0 +1,72 @@
+-- Laws of parts and of runs of stores.
+use mathlib.Core.Path.{_≡_, refl, ap, sym, _∙_}
+use mathlib.Core.List.{List, [], _∷_, _++_, append-assoc}
+use Prim.Native.Nat.{ℕ, zero, suc, _+_, _-_, _<_, _≤_, min}
+use native.Mathlib.Nat.{suc-add, zero-add}
+use native.Mathlib.Omega.{arith}
+use lib.ListN.{length, getD, take, drop, set, length-append, length-take, length-drop, length-set}
+use lib.Seq.{sets, sets-eq, length-sets, take-at, drop-at, drop-drop, length-take-le, take-take, take-set-le, drop-set-lt, getD-take, getD-drop, take-nil, drop-nil}
+use Rattle.base.specs.Lists.{part}
+
+pub length-part : {A : Type 0} (at n : ℕ) (l : List A) → at + n ≤ length l → length (part at n l) ≡ n
+length-part at n l h = simp (length-take, length-drop) (omega arith)
+
+pub getD-part : {A : Type 0} (at n : ℕ) (l : List A) (i : ℕ) (z : A) → i < n → getD (part at n l) i z ≡ getD l (at + i) z
+getD-part at n l i z h = getD-take n (drop at l) i z h ∙ getD-drop at l i z
+
+-- a part is also the end of what stands before its end
+pub part-front : {A : Type 0} (at n : ℕ) (l : List A) → part at n l ≡ drop at (take (at + n) l)
+part-front zero n l = rw (zero-add n)
+part-front (suc at) n [] = rw (suc-add at n) (take-nil n)
+part-front (suc at) n (a ∷ l) = rw (suc-add at n) (part-front at n l)
+
+-- a part of a part
+pub part-part : {A : Type 0} (a n b m : ℕ) (l : List A) → a + n ≤ m → part a n (part b m l) ≡ part (b + a) n l
+part-part a n b m l h =
+    rw (part-front a n (part b m l), take-take (a + n) m (drop b l) h, ← part-front a n (drop b l), drop-drop a b l)
+
+-- what stands first, and next, in a row of lists
+pub part-next : {A : Type 0} (at n : ℕ) (p vs q : List A) → length p ≡ at → length vs ≡ n → part at n (p ++ (vs ++ q)) ≡ vs
+part-next at n p vs q e f = rw (drop-at p (vs ++ q) at e) (take-at vs q n f)
+
+-- stores leave what stands before and behind them
+pub take-sets : {A : Type 0} (n : ℕ) (l : List A) (at : ℕ) (vs : List A) → n ≤ at → take n (sets l at vs) ≡ take n l
+take-sets n l at [] h = refl
+take-sets n l at (v ∷ vs) h = take-sets n (set l at v) (suc at) vs (omega arith) ∙ take-set-le n l at v h
+
+pub drop-sets : {A : Type 0} (n : ℕ) (l : List A) (at : ℕ) (vs : List A) → at + length vs ≤ n → drop n (sets l at vs) ≡ drop n l
+drop-sets n l at [] h = refl
+drop-sets n l at (v ∷ vs) h = drop-sets n (set l at v) (suc at) vs (omega arith) ∙ drop-set-lt n l at v (omega arith)
+
+pub part-sets-above : {A : Type 0} (from n : ℕ) (l : List A) (at : ℕ) (vs : List A) → at + length vs ≤ from → part from n (sets l at vs) ≡ part from n l
+part-sets-above from n l at vs h = ap (λ (z : List _). take n z) (drop-sets from l at vs h)
+
+pub part-sets-below : {A : Type 0} (from n : ℕ) (l : List A) (at : ℕ) (vs : List A) → from + n ≤ at → part from n (sets l at vs) ≡ part from n l
+part-sets-below from n l at vs h = rw (part-front from n (sets l at vs), take-sets (from + n) l at vs h) (sym (part-front from n l))
+
+-- what was stored stands there
+pub part-sets : {A : Type 0} (l : List A) (at n : ℕ) (vs : List A) → length vs ≡ n → at + n ≤ length l → part at n (sets l at vs) ≡ vs
+part-sets l at n vs e h =
+    let fits : at + length vs ≤ length l = rw e h in
+    rw (sets-eq vs l at fits, append-assoc (take at l) vs (drop (at + length vs) l))
+    (part-next at n (take at l) vs (drop (at + length vs) l) (length-take-le at l (omega arith)) e)
+
+-- a part that was lent and came back as vs: the run of stores
+pub back : {A : Type 0} (at n : ℕ) (l vs : List A) → at + n ≤ length l → length vs ≡ n → take at l ++ (vs ++ drop n (drop at l)) ≡ sets l at vs
+back at n l vs h e =
+    rw (drop-drop n at l, ← e, sets-eq vs l at (rw e h)) (sym (append-assoc (take at l) vs (drop (at + length vs) l)))
+
+-- the next field of a packed row: p stands, then out from k on; vs is stored at k
+pub grows : {A : Type 0} {x : List A} (p out vs : List A) (k m : ℕ) → x ≡ p ++ drop k out → length p ≡ k → k + length vs ≡ m → m ≤ length out
+    → sets x k vs ≡ (p ++ vs) ++ drop m out
+grows p out vs k m e f g h =
+    let room : k + length vs ≤ length (p ++ drop k out) = simp (length-append, length-drop) (omega arith) in
+    rw (
+      e,
+      sets-eq vs (p ++ drop k out) k room,
+      take-at p (drop k out) k f,
+      ← drop-drop (length vs) k (p ++ drop k out),
+      drop-at p (drop k out) k f,
+      drop-drop (length vs) k out,
+      g,
+    )

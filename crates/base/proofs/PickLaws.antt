@@ -1,0 +1,25 @@
+-- Steps past a test, and a test taken apart.
+use mathlib.Core.Path.{_≡_, refl}
+use mathlib.Core.Bool.{Bool, true, false}
+use mathlib.Core.Logic.{_⊎_, inl, inr}
+use Rattle.base.specs.Pick.{pick, both}
+
+-- past a test that held
+pub yes : {A : Type 0} {b : Bool} {x r : A} (y : A) → b ≡ true → x ≡ r → pick b x y ≡ r
+yes y h e = rw h e
+
+-- past a test that did not
+pub no : {A : Type 0} {b : Bool} {y r : A} (x : A) → b ≡ false → y ≡ r → pick b x y ≡ r
+no x h e = rw h e
+
+pub told : (x : Bool) → (x ≡ true) ⊎ (x ≡ false)
+told true = inl refl
+told false = inr refl
+
+pub both-left : (a b : Bool) → both a b ≡ true → a ≡ true
+both-left true b e = refl
+both-left false b e = e
+
+pub both-right : (a b : Bool) → both a b ≡ true → b ≡ true
+both-right true b e = e
+both-right false b e = cc
