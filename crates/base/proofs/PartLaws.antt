@@ -2,10 +2,11 @@
 use mathlib.Core.Path.{_≡_, refl, ap, sym, _∙_}
 use mathlib.Core.List.{List, [], _∷_, _++_, append-assoc}
 use Prim.Native.Nat.{ℕ, zero, suc, _+_, _-_, _<_, _≤_, min}
-use native.Mathlib.Nat.{suc-add, zero-add}
+use native.Mathlib.Nat.{suc-add, zero-add, add-suc}
+use native.Mathlib.Numerals.{add-one}
 use native.Mathlib.Omega.{arith}
-use lib.ListN.{length, getD, take, drop, set, length-append, length-take, length-drop, length-set}
-use lib.Seq.{sets, sets-eq, length-sets, take-at, drop-at, drop-drop, length-take-le, take-take, take-set-le, drop-set-lt, getD-take, getD-drop, take-nil, drop-nil}
+use lib.ListN.{length, getD, take, drop, set, length-append, length-take, length-drop, drop-of-length-le}
+use lib.Seq.{sets, sets-eq, length-sets, take-at, drop-at, drop-drop, length-take-le, take-take, take-set-le, drop-set-lt, getD-take, getD-drop, take-nil, drop-cons}
 use Rattle.base.specs.Lists.{part}
 
 pub length-part : {A : Type 0} (at n : ℕ) (l : List A) → at + n ≤ length l → length (part at n l) ≡ n
@@ -50,6 +51,14 @@ part-sets l at n vs e h =
     let fits : at + length vs ≤ length l = rw e h in
     rw (sets-eq vs l at fits, append-assoc (take at l) vs (drop (at + length vs) l))
     (part-next at n (take at l) vs (drop (at + length vs) l) (length-take-le at l (omega arith)) e)
+
+-- a loop that stores a list: before a turn the rest is to be stored, after it the rest less one
+pub sets-next : {A : Type 0} (s from : List A) (z : A) (at i : ℕ) → i < length from
+    → sets s (at + i) (drop i from) ≡ sets (set s (at + i) (getD from i z)) (at + (i + 1)) (drop (i + 1) from)
+sets-next s from z at i h = rw (drop-cons from i z h, add-one i, add-suc at i)
+
+pub sets-done : {A : Type 0} (s from : List A) (at i : ℕ) → length from ≤ i → sets s (at + i) (drop i from) ≡ s
+sets-done s from at i h = rw (drop-of-length-le from h)
 
 -- a part that was lent and came back as vs: the run of stores
 pub back : {A : Type 0} (at n : ℕ) (l vs : List A) → at + n ≤ length l → length vs ≡ n → take at l ++ (vs ++ drop n (drop at l)) ≡ sets l at vs

@@ -1,0 +1,96 @@
+-- Laws of little-endian numbers: a number read back, bytes read back, and one more byte.
+use mathlib.Core.Path.{_≡_, refl, ap, sym, _∙_}
+use mathlib.Core.List.{List, [], _∷_, _++_}
+use Prim.Native.Nat.{ℕ, zero, suc, _+_, _-_, _*_, _/_, _%_, _^_, _<_, _≤_}
+use native.Mathlib.Nat.{pow-suc, pow-le-pow-right, add-suc, lt-of-lt-of-le}
+use native.Mathlib.Numerals.{add-one}
+use lib.Dec.{lit≤}
+use native.Mathlib.Omega.{arith}
+use lib.ListN.{length, getD, set}
+use lib.Seq.{drop-cons, sets}
+use Rattle.base.specs.Lists.{part}
+use Rattle.base.proofs.PartLaws.{part-sets}
+use Rattle.words.specs.Le.{num, le, Bytes}
+
+pub length-le : (k x : ℕ) → length (le k x) ≡ k
+unfolding le
+length-le zero x = refl
+length-le (suc k) x = ap suc (length-le k (x / 256))
+
+-- a number that fits is read back
+pub num-le : (k x : ℕ) → x < 256 ^ k → num (le k x) ≡ x
+unfolding le num
+num-le zero x h = omega arith
+num-le (suc k) x h =
+    let q : x < 256 ^ k * 256 = rw (pow-suc 256 k) at h in
+    rw (num-le k (x / 256) (omega arith)) (omega arith)
+
+-- the bytes of a number are bytes
+pub le-bytes : (k x : ℕ) → Bytes (le k x)
+unfolding le
+le-bytes zero x i = omega arith
+le-bytes (suc k) x zero = omega arith
+le-bytes (suc k) x (suc i) = le-bytes k (x / 256) i
+
+pub num-lt : (l : List ℕ) → Bytes l → num l < 256 ^ length l
+unfolding num
+num-lt [] h = omega arith
+num-lt (b ∷ l) h = rw (pow-suc 256 (length l)) (omega (arith, h 0, num-lt l (λ i. h (suc i))))
+
+-- bytes are read back
+pub le-num : (l : List ℕ) → Bytes l → le (length l) (num l) ≡ l
+unfolding num le
+le-num [] h = refl
+le-num (b ∷ l) h =
+    let small : b < 256 = h 0 in
+    let low : (b + 256 * num l) % 256 ≡ b = omega arith in
+    let high : (b + 256 * num l) / 256 ≡ num l = omega arith in
+    rw (low, high, le-num l (λ i. h (suc i)))
+
+-- a part of bytes, from its first byte
+pub num-part : (k : ℕ) (l : List ℕ) (at : ℕ) → at < length l → num (part at (suc k) l) ≡ getD l at 0 + 256 * num (part (suc at) k l)
+unfolding num
+num-part k l at h = rw (drop-cons l at 0 h)
+
+-- a loop that loads from the highest byte down: the next byte's place in the sum, and the bound
+pub num-down : (k : ℕ) (l : List ℕ) (at i : ℕ) → 0 < i → i ≤ k → at + k ≤ length l
+    → num (part (at + i) (k - i) l) * 256 + getD l (at + (i - 1)) 0 ≡ num (part (at + (i - 1)) (k - (i - 1)) l)
+num-down k l at zero z h room = absurd (omega arith)
+num-down k l at (suc j) z h room =
+    let e : suc j - 1 ≡ j = omega arith in
+    let f : k - j ≡ suc (k - suc j) = omega arith in
+    rw (e, f, num-part (k - suc j) l (at + j) (omega arith), add-suc at j) (omega arith)
+
+pub num-none : (k : ℕ) (l : List ℕ) (at : ℕ) → (0 ≡ num (part (at + k) (k - k) l)) × (0 < 256 ^ (k - k))
+unfolding num
+num-none k l at = let e : k - k ≡ 0 = omega arith in rw e (refl, omega arith)
+
+pub down-lt : (k i r b : ℕ) → r < 256 ^ (k - i) → b < 256 → 0 < i → i ≤ k → r * 256 + b < 256 ^ (k - (i - 1))
+down-lt k zero r b h s z l = absurd (omega arith)
+down-lt k (suc j) r b h s z l =
+    let e : suc j - 1 ≡ j = omega arith in
+    let f : k - j ≡ suc (k - suc j) = omega arith in
+    rw (e, f, pow-suc 256 (k - suc j)) (omega arith)
+
+pub down-fits : (k i r b : ℕ) → r < 256 ^ (k - i) → b < 256 → 0 < i → i ≤ k → k ≤ 8 → r * 256 + b < 2 ^ 64
+down-fits k i r b h s z l e = lt-of-lt-of-le (down-lt k i r b h s z l) (pow-le-pow-right {n = 256} (lit≤ tt) {i = k - (i - 1)} {j = 8} (omega arith))
+
+-- a loop that stores from the lowest byte up
+pub le-next : (k i y : ℕ) → i < k → le (k - i) y ≡ y % 256 ∷ le (k - (i + 1)) (y / 256)
+unfolding le
+le-next k i y h =
+    let f : k - i ≡ suc (k - (i + 1)) = omega arith in
+    rw f
+
+-- its turn, and its end
+pub sets-le-next : (s : List ℕ) (at k i y : ℕ) → i < k
+    → sets (set s (at + i) (y % 256)) (at + (i + 1)) (le (k - (i + 1)) (y / 256)) ≡ sets s (at + i) (le (k - i) y)
+sets-le-next s at k i y h = rw (le-next k i y h, add-one i, add-suc at i)
+
+pub sets-le-done : (s : List ℕ) (at k i y : ℕ) → k ≤ i → sets s (at + i) (le (k - i) y) ≡ s
+unfolding le
+sets-le-done s at k i y h = let e : k - i ≡ 0 = omega arith in rw e
+
+-- a number stored is loaded
+pub load-store : (l : List ℕ) (at k x : ℕ) → x < 256 ^ k → at + k ≤ length l → num (part at k (sets l at (le k x))) ≡ x
+load-store l at k x h room = rw (part-sets l at k (le k x) (length-le k x) room) (num-le k x h)

@@ -1,0 +1,3 @@
+pub mod LeLaws
+pub mod XorLaws
+pub mod Outcomes

@@ -1,0 +1,3 @@
+pub mod Word
+pub mod Le
+pub mod Xor
