@@ -1,0 +1,53 @@
+#!/usr/bin/env bash
+# The whole gate. Each step adds what it passed; the first that fails ends the run.
+set -uo pipefail
+cd "$(dirname "$0")/.."
+passed=0
+started=$SECONDS
+
+fails() {
+    echo "gate: $1"
+    echo "$passed passed, 1 failed"
+    exit 1
+}
+
+# A step that is one check.
+holds() {
+    local what=$1
+    shift
+    "$@" || fails "$what"
+    passed=$((passed + 1))
+    echo "gate: $what ($((SECONDS - started)) s)"
+}
+
+# A step that counts its own: its last line is 'N passed, 0 failed'.
+counts() {
+    local what=$1 said
+    shift
+    said=$(mktemp)
+    "$@" 2>&1 | tee "$said"
+    local status=${PIPESTATUS[0]}
+    local last
+    last=$(tail -n 1 "$said")
+    rm -f "$said"
+    [ "$status" -eq 0 ] || fails "$what"
+    [[ $last =~ ^([0-9]+)\ passed,\ 0\ failed$ ]] || fails "$what: its last line is '$last'"
+    [ "${BASH_REMATCH[1]}" -gt 0 ] || fails "$what: it ran nothing"
+    passed=$((passed + BASH_REMATCH[1]))
+    echo "gate: $what ($((SECONDS - started)) s)"
+}
+
+every_crate_is_listed() {
+    local folder
+    for folder in crates/*/; do
+        grep -Eq "^$(basename "$folder"):" crates.txt || { echo "$folder is not in crates.txt"; return 1; }
+    done
+}
+
+holds "what it needs is here" tests/needs.sh
+holds "every crate is listed" every_crate_is_listed
+holds "every file has its layout" rt fmt --check
+counts "every crate is proved, every program writes its stdout, every edit is refused" rt ci
+counts "every edit is refused by a fact" python3 tests/first_errors.py
+echo "gate: $((SECONDS - started)) s in all"
+echo "$passed passed, 0 failed"
