@@ -12,6 +12,8 @@ SHOWS_NOTHING = ("can be named from here", "is not in scope", "error[", "Parse",
 
 def first_error(log):
     for line in log.read_text(errors="replace").split("\n"):
+        if "was not admitted" in line:
+            continue  # it only follows from another refusal
         if ": error" in line or line.startswith("error") or "it is not proved that" in line:
             return line
     return ""

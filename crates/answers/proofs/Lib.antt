@@ -1,0 +1,2 @@
+pub mod ClassLaws
+pub mod Outcomes
