@@ -23,3 +23,10 @@ both-left false b e = e
 pub both-right : (a b : Bool) → both a b ≡ true → b ≡ true
 both-right true b e = e
 both-right false b e = cc
+
+-- past the first of two tests that held, and at one that did not
+pub both-on : {a b r : Bool} → a ≡ true → b ≡ r → both a b ≡ r
+both-on h e = rw h e
+
+pub both-off : {a : Bool} (b : Bool) → a ≡ false → both a b ≡ false
+both-off b h = rw h refl

@@ -1,0 +1,57 @@
+-- What the limits say, as facts about the numbers.
+use mathlib.Core.Path.{_≡_, refl}
+use mathlib.Core.Bool.{true, false}
+use Prim.Native.Nat.{ℕ, _*_, _%_, _≤_}
+use native.Mathlib.Nat.{mul-le-mul}
+use lib.Dec.{leb, eqb, lit≤}
+use borrow.Author.Tests.{leb-true, eqb-true}
+use Rattle.base.specs.Pick.{both, pick}
+use Rattle.base.proofs.PickLaws.{both-left, both-right}
+use Rattle.layout.specs.Shape.{inLimits, within, leaves}
+use Rattle.layout.proofs.Height.{leaves-least}
+use Rattle.layout.specs.declared.Shape.{Shape}
+
+pub record Limits (s : Shape) : Type 0 where
+  pub some : 1 ≤ s .n
+  pub few : s .n ≤ 16384
+  pub flakes : 1 ≤ s .p
+  pub narrow : s .p ≤ 64
+  pub wide : 64 ≤ s .f
+  pub short : s .f ≤ 4096
+  pub whole : s .f % 64 ≡ 0
+
+pub limits : (s : Shape) → inLimits s ≡ true → Limits s
+unfolding inLimits
+limits s e =
+    let e₁ = both-right (leb 1 (s .n)) _ e in
+    let e₂ = both-right (leb (s .n) 16384) _ e₁ in
+    let e₃ = both-right (leb 1 (s .p)) _ e₂ in
+    let e₄ = both-right (leb (s .p) 64) _ e₃ in
+    let e₅ = both-right (leb 64 (s .f)) _ e₄ in
+    record {
+      some = leb-true 1 (s .n) (both-left _ _ e);
+      few = leb-true (s .n) 16384 (both-left _ _ e₁);
+      flakes = leb-true 1 (s .p) (both-left _ _ e₂);
+      narrow = leb-true (s .p) 64 (both-left _ _ e₃);
+      wide = leb-true 64 (s .f) (both-left _ _ e₄);
+      short = leb-true (s .f) 4096 (both-left _ _ e₅);
+      whole = eqb-true (s .f % 64) 0 (both-right (leb (s .f) 4096) _ e₅);
+    }
+
+-- a number of a shape in limits is itself, and one of a shape out of limits is 0
+pub inside : (s : Shape) {x : ℕ} → inLimits s ≡ true → within s x ≡ x
+inside s e = rw e refl
+
+pub outside : (s : Shape) (x : ℕ) → inLimits s ≡ false → within s x ≡ 0
+outside s x e = rw e refl
+
+-- products of bounded numbers are bounded
+module _ (s : Shape) (l : Limits s) where
+  pub count-le : s .n * s .p ≤ 1048576
+  count-le = mul-le-mul (l .few) (l .narrow)
+
+  pub capacity-le : s .n * s .p * s .f ≤ 4294967296
+  capacity-le = mul-le-mul count-le (l .short)
+
+  pub leaves-le : leaves (s .n) ≤ 16384
+  leaves-le = leaves-least 14 (s .n) (lit≤ tt) (l .few)

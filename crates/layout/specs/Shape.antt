@@ -1,0 +1,32 @@
+-- Document 01, "Numbers".
+use Prim.Native.Nat.{ℕ, zero, suc, _%_, _^_}
+use mathlib.Core.Bool.{Bool}
+use lib.Dec.{leb, eqb}
+use Rattle.base.specs.Pick.{pick, both}
+use Rattle.layout.specs.declared.Shape.{Shape}
+
+abbrev pub shape : ℕ → ℕ → ℕ → Shape
+shape n p f = record { n = n; p = p; f = f }
+
+-- "Nuggets N: 1 to 16,384. Flakes per nugget P: 1 to 64. Flake size F: 64 to 4,096, a multiple of 64."
+unfoldable pub inLimits : Shape → Bool
+inLimits s =
+    both (leb 1 (s .n))
+    (both (leb (s .n) 16384)
+    (both (leb 1 (s .p)) (both (leb (s .p) 64) (both (leb 64 (s .f)) (both (leb (s .f) 4096) (eqb (s .f % 64) 0))))))
+
+-- the smallest m from the given one on whose power of two is not below n, in k tries
+unfoldable pub heightFrom : ℕ → ℕ → ℕ → ℕ
+heightFrom zero m n = m
+heightFrom (suc k) m n = pick (leb n (2 ^ m)) m (heightFrom k (suc m) n)
+
+unfoldable pub heightOf : ℕ → ℕ
+heightOf n = heightFrom 32 0 n
+
+-- "L is the smallest power of two not below N."
+abbrev pub leaves : ℕ → ℕ
+leaves n = 2 ^ heightOf n
+
+-- a number of a shape; a shape out of limits has none, and answers 0
+abbrev pub within : Shape → ℕ → ℕ
+within s x = pick (inLimits s) x 0
