@@ -7,7 +7,7 @@ use native.Mathlib.Nat.{add-zero, add-suc, lt-of-lt-of-le, le-refl, le-of-lt}
 use native.Mathlib.Omega.{arith}
 use lib.ListN.{length, getD, take, drop, set, length-append, drop-of-length-le}
 use lib.Seq.{drop-cons, set-at, getD-at, take-at, drop-at, drop-drop, ext-getD}
-use lib.ListN.{List·getD-append}
+use lib.ListN.{List·getD-append, replicate, replicate-append-replicate}
 use lib.Dec.{ltb}
 use mathlib.Core.Bool.{true, false}
 use mathlib.Core.Logic.{_⊎_, inl, inr}
@@ -45,6 +45,12 @@ pub tab-add : {A : Type 0} (m n : ℕ) (f : ℕ → A) → tab (m + n) f ≡ tab
 unfolding tab
 tab-add m zero f = rw (add-zero m) (sym (append-nil (tab m f)))
 tab-add m (suc n) f = rw (add-suc m n, tab-add m n f) (append-assoc (tab m f) (tab n (λ j. f (m + j))) (f (m + n) ∷ []))
+
+-- the same entry everywhere
+pub tab-const : {A : Type 0} (n : ℕ) (a : A) → tab n (λ i. a) ≡ replicate n a
+unfolding tab
+tab-const zero a = refl
+tab-const (suc n) a = rw (tab-const n a) (replicate-append-replicate n 1 a ∙ ap (λ (k : ℕ). replicate k a) (add-one n))
 
 -- before the first turn
 pub tab-none : {A : Type 0} (f : ℕ → A) (d : List A) → d ≡ tab 0 f ++ drop 0 d

@@ -1,7 +1,8 @@
 -- Lists made by an index, parts of a list, and folds from the front.
 use Prim.Native.Nat.{ℕ, zero, suc}
-use mathlib.Core.Bool.{Bool, true}
+use mathlib.Core.Bool.{Bool, true, false}
 use mathlib.Core.List.{List, [], _∷_, _++_}
+use lib.Dec.{eqb}
 use lib.ListN.{take, drop}
 use Rattle.base.specs.Pick.{both}
 
@@ -23,3 +24,10 @@ fold f s (a ∷ l) = fold f (f s a) l
 unfoldable pub every : {A : Type 0} → (A → Bool) → List A → Bool
 every f [] = true
 every f (a ∷ l) = both (f a) (every f l)
+
+-- the two lists of numbers are equal, as a test
+unfoldable pub same : List ℕ → List ℕ → Bool
+same [] [] = true
+same [] (b ∷ m) = false
+same (a ∷ l) [] = false
+same (a ∷ l) (b ∷ m) = both (eqb a b) (same l m)

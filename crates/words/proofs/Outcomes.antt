@@ -2,8 +2,9 @@
 use mathlib.Core.Path.{_≡_}
 use mathlib.Core.List.{List}
 use Prim.Native.Nat.{ℕ, _^_, _<_}
+use lib.ListN.{length, replicate}
 use lib.Seq.{sets}
-use Rattle.base.specs.Lists.{part}
+use Rattle.base.specs.Lists.{part, same}
 use Rattle.base.specs.Outcome.{Unique}
 use Rattle.base.proofs.OutcomeLaws.{only}
 use Rattle.words.specs.Word.{rotl, rotr}
@@ -36,3 +37,9 @@ copy s at from = only (sets s at from)
 
 pub xor : (d k : List ℕ) → Unique (λ last. last ≡ xorl d k)
 xor d k = only (xorl d k)
+
+pub equal : (a b : List ℕ) → Unique (λ r. r ≡ same a b)
+equal a b = only (same a b)
+
+pub clear : (s : List ℕ) → Unique (λ last. last ≡ replicate (length s) 0)
+clear s = only (replicate (length s) 0)

@@ -3,9 +3,9 @@
 ghost use mathlib.Core.Path.{_≡_};
 ghost use mathlib.Core.List.{List};
 ghost use Prim.Native.Nat.{_+_, _<_, _≤_, _^_};
-ghost use lib.ListN.{length};
+ghost use lib.ListN.{length, replicate};
 ghost use lib.Seq.{sets};
-ghost use Rattle.base.specs.Lists.{part};
+ghost use Rattle.base.specs.Lists.{part, same};
 ghost use Rattle.words.specs.Word.{rotl, rotr};
 ghost use Rattle.words.specs.Le.{num, le};
 ghost use Rattle.words.specs.Xor.{xorl};
@@ -97,6 +97,34 @@ pub fn xor(d: &mut [u8], k: &[u8])
     let mut i = 0;
     while i < d.len() {
         d[i] = d[i] ^ k[i];
+        i += 1;
+    }
+}
+
+// Whether the two slices hold the same bytes.
+pub fn equal(a: &[u8], b: &[u8]) -> bool
+    ensures { λ r. ⌜ r ≡ same (now (a .entry)) (now (b .entry)) ⌝ }
+{
+    if a.len() != b.len() {
+        return false;
+    }
+    let mut i = 0;
+    while i < a.len() {
+        if a[i] != b[i] {
+            return false;
+        }
+        i += 1;
+    }
+    true
+}
+
+// Every byte becomes zero.
+pub fn clear(s: &mut [u8])
+    ensures { λ _. ⌜ now (s .exit) ≡ replicate (length (now (s .entry))) 0 ⌝ }
+{
+    let mut i = 0;
+    while i < s.len() {
+        s[i] = 0;
         i += 1;
     }
 }
