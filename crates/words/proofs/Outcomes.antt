@@ -41,5 +41,5 @@ xor d k = only (xorl d k)
 pub equal : (a b : List ℕ) → Unique (λ r. r ≡ same a b)
 equal a b = only (same a b)
 
-pub clear : (s : List ℕ) → Unique (λ last. last ≡ replicate (length s) 0)
-clear s = only (replicate (length s) 0)
+pub clear : (s : List ℕ) → Unique {A = List ℕ} (λ last. last ≡ replicate (length s) 0)
+clear s = only {A = List ℕ} (replicate (length s) 0)
