@@ -49,5 +49,6 @@ holds "every crate is listed" every_crate_is_listed
 holds "every file has its layout" rt fmt --check
 counts "every crate is proved, every program writes its stdout, every edit is refused" rt ci
 counts "every edit is refused by a fact" python3 tests/first_errors.py
+counts "the second program holds against the documents" python3 second/check.py
 echo "gate: $((SECONDS - started)) s in all"
 echo "$passed passed, 0 failed"
