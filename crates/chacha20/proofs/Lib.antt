@@ -1,0 +1,5 @@
+pub mod Laws
+pub mod BlockLaws
+pub mod KeystreamLaws
+pub mod LayLaws
+pub mod Outcomes

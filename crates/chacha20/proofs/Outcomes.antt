@@ -1,0 +1,1 @@
+-- No second outcome meets the words of a public function.

@@ -1,0 +1,1 @@
+-- RFC 8439's published vectors, computed from the definitions.

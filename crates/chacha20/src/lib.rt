@@ -1,0 +1,166 @@
+// The stream cipher ChaCha20: RFC 8439, sections 2.1 to 2.4.
+// It touches `words`, and of `base` the definitions alone.
+ghost use mathlib.Core.Path.{_≡_};
+ghost use mathlib.Core.List.{List};
+ghost use Prim.Native.Nat.{_+_, _-_, _*_, _<_, _≤_, min};
+ghost use lib.ListN.{length};
+ghost use lib.Seq.{sets};
+ghost use Rattle.chacha20.specs.ChaCha20.{quarter, quarterAt, doubleRound, twentyRounds, added, serialised, start, blockFrom, blockOf, encrypted};
+ghost use Rattle.words.specs.Le.{wordsOf};
+
+pub struct Quad {
+    pub a: u32,
+    pub b: u32,
+    pub c: u32,
+    pub d: u32,
+}
+
+// 2.1: the quarter round on four numbers.
+pub fn quarter_round(q: Quad) -> Quad
+    ensures { λ r. ⌜ r ≡ quarter q ⌝ }
+{
+    let a = q.a;
+    let b = q.b;
+    let c = q.c;
+    let d = q.d;
+    let a1 = std::num::wrapping_add_u32(a, b);
+    let d1 = words::rotate_left(d ^ a1, 16);
+    let c1 = std::num::wrapping_add_u32(c, d1);
+    let b1 = words::rotate_left(b ^ c1, 12);
+    let a2 = std::num::wrapping_add_u32(a1, b1);
+    let d2 = words::rotate_left(d1 ^ a2, 8);
+    let c2 = std::num::wrapping_add_u32(c1, d2);
+    let b2 = words::rotate_left(b1 ^ c2, 7);
+    Quad {
+        a: a2,
+        b: b2,
+        c: c2,
+        d: d2,
+    }
+}
+
+// 2.2: QUARTERROUND(i, j, k, l) on the state.
+fn quarter_at(s: [u32; 16], i: usize, j: usize, k: usize, l: usize) -> [u32; 16]
+    requires { ⌜ (i < 16) × (j < 16) × (k < 16) × (l < 16) ⌝ }
+    ensures { λ r. ⌜ r ≡ quarterAt i j k l s ⌝ }
+{
+    let q = quarter_round(Quad {
+        a: s[i],
+        b: s[j],
+        c: s[k],
+        d: s[l],
+    });
+    let mut r = s;
+    r[i] = q.a;
+    r[j] = q.b;
+    r[k] = q.c;
+    r[l] = q.d;
+    r
+}
+
+// 2.3: a column round and a diagonal round.
+fn double_round(s: [u32; 16]) -> [u32; 16]
+    ensures { λ r. ⌜ r ≡ doubleRound s ⌝ }
+{
+    let s1 = quarter_at(s, 0, 4, 8, 12);
+    let s2 = quarter_at(s1, 1, 5, 9, 13);
+    let s3 = quarter_at(s2, 2, 6, 10, 14);
+    let s4 = quarter_at(s3, 3, 7, 11, 15);
+    let s5 = quarter_at(s4, 0, 5, 10, 15);
+    let s6 = quarter_at(s5, 1, 6, 11, 12);
+    let s7 = quarter_at(s6, 2, 7, 8, 13);
+    quarter_at(s7, 3, 4, 9, 14)
+}
+
+fn twenty_rounds(s: [u32; 16]) -> [u32; 16]
+    ensures { λ r. ⌜ r ≡ twentyRounds s ⌝ }
+{
+    let mut w = s;
+    let mut i: usize = 0;
+    while i < 10 {
+        let n = double_round(w);
+        w = n;
+        i += 1;
+    }
+    w
+}
+
+// The sum of the two states, each word stored lowest byte first.
+fn summed(w: [u32; 16], s: [u32; 16]) -> [u8; 64]
+    ensures { λ r. ⌜ r ≡ serialised (added w s) ⌝ }
+{
+    let mut r = [0u8; 64];
+    let mut i = 0;
+    while i < 16 {
+        let x = std::num::wrapping_add_u32(w[i], s[i]);
+        words::store32(&mut r, 4 * i, x);
+        i += 1;
+    }
+    r
+}
+
+// The first n words of b stored at `at`.
+fn with_words(s: [u32; 16], at: usize, n: usize, b: &[u8]) -> [u32; 16]
+    requires { ⌜ (at + n ≤ 16) × (4 * n ≤ length (now b)) ⌝ }
+    ensures { λ r. ⌜ r ≡ sets s at (wordsOf n (now (b .entry))) ⌝ }
+{
+    let mut r = s;
+    let mut i = 0;
+    while i < n {
+        let x = words::load32(b, 4 * i);
+        r[at + i] = x;
+        i += 1;
+    }
+    r
+}
+
+fn start_state(key: [u8; 32], nonce: [u8; 12], counter: u32) -> [u32; 16]
+    ensures { λ r. ⌜ r ≡ start key nonce counter ⌝ }
+{
+    let s = [
+        0x61707865, 0x3320646e, 0x79622d32, 0x6b206574, 0, 0, 0, 0, 0, 0, 0, 0, counter, 0, 0, 0,
+    ];
+    let k = with_words(s, 4, 8, &key);
+    with_words(k, 13, 3, &nonce)
+}
+
+fn block_from(s: [u32; 16]) -> [u8; 64]
+    ensures { λ r. ⌜ r ≡ blockFrom s ⌝ }
+{
+    let w = twenty_rounds(s);
+    summed(w, s)
+}
+
+// 2.3: the block function.
+pub fn block(key: [u8; 32], nonce: [u8; 12], counter: u32) -> [u8; 64]
+    ensures { λ r. ⌜ r ≡ blockOf key nonce counter ⌝ }
+{
+    let s = start_state(key, nonce, counter);
+    block_from(s)
+}
+
+// How many bytes the block at `at` is laid over: 64, or what is left.
+fn room(at: usize, len: usize) -> usize
+    requires { ⌜ at < len ⌝ }
+    ensures { λ r. ⌜ r ≡ min 64 (len - at) ⌝ }
+{
+    let left = len - at;
+    if left < 64 { left } else { 64 }
+}
+
+// 2.4: the keystream from block `counter` on laid over `d`.
+pub fn lay(d: &mut [u8], key: [u8; 32], nonce: [u8; 12], counter: u32)
+    ensures { λ _. ⌜ now (d .exit) ≡ encrypted key nonce counter (now (d .entry)) ⌝ }
+{
+    let mut s = start_state(key, nonce, counter);
+    let mut c = counter;
+    let mut at = 0;
+    while at < d.len() {
+        let k = block_from(s);
+        let e = at + room(at, d.len());
+        words::xor(&mut d[at..e], &k);
+        c = std::num::wrapping_add_u32(c, 1);
+        s[12] = c;
+        at = e;
+    }
+}
