@@ -1,15 +1,14 @@
 -- Laws of the keystream, and of laying it over bytes.
-use mathlib.Core.Path.{_≡_, refl, ap, sym, _∙_}
-use mathlib.Core.Bool.{true, false}
-use mathlib.Core.Logic.{_⊎_, inl, inr, ⊎-elim}
-use mathlib.Core.List.{List, [], _∷_, _++_, append-assoc, append-nil}
-use Prim.Native.Nat.{ℕ, zero, suc, _+_, _-_, _*_, _/_, _%_, _^_, _<_, _≤_, min}
-use native.Mathlib.Nat.{add-zero, add-suc, mod-eq-of-lt}
+use mathlib.Core.Path.{_≡_, refl, sym, _∙_}
+use mathlib.Core.Logic.{_⊎_, ⊎-elim}
+use mathlib.Core.List.{List, [], _++_, append-assoc, append-nil}
+use Prim.Native.Nat.{ℕ, zero, suc, _+_, _-_, _*_, _^_, _<_, _≤_}
+use native.Mathlib.Nat.{add-zero, add-suc}
 use native.Mathlib.Omega.{arith}
 use borrow.Author.Tests.{leb-true, leb-false}
 use lib.Dec.{leb, lit<}
-use lib.ListN.{length, take, drop, length-append, length-take, length-drop, take-append-drop, drop-of-length-le}
-use lib.Seq.{take-all, take-at, drop-at, take-append-le, length-take-le}
+use lib.ListN.{length, take, length-append}
+use lib.Seq.{take-append-le}
 use Rattle.base.proofs.PickLaws.{told}
 use Rattle.words.specs.Word.{add32}
 use Rattle.words.specs.Le.{Bytes}
@@ -84,3 +83,8 @@ module _ (key nonce : List ℕ) (counter : ℕ) where
   pub encrypted-none : encrypted key nonce counter [] ≡ []
   unfolding encrypted xorl
   encrypted-none = refl
+
+-- after block 2^32 - 1 comes block 0
+pub keystream-rolls : (key nonce : List ℕ) → keystream key nonce (2 ^ 32 - 1) 2 ≡ blockOf key nonce (2 ^ 32 - 1) ++ blockOf key nonce 0
+unfolding keystream
+keystream-rolls key nonce = refl

@@ -1,6 +1,5 @@
 -- Laying one block a turn: what is left to lay gives what is asked.
 use mathlib.Core.Path.{_≡_, refl, ap, sym, _∙_}
-use mathlib.Core.Bool.{true, false}
 use mathlib.Core.Logic.{⊎-elim}
 use mathlib.Core.List.{List, _++_, append-assoc, append-nil}
 use Prim.Native.Nat.{ℕ, _+_, _-_, _^_, _<_, _≤_, min}
@@ -45,7 +44,7 @@ module _ (key nonce : List ℕ) (c : ℕ) (small : c < 2 ^ 32) where
   -- z takes the place of the n bytes from `at` on
   turn : (d z : List ℕ) (at n : ℕ) → n ≡ min 64 (length d - at) → at ≤ length d → z ≡ xorl (take n (drop at d)) (blockOf key nonce c)
       → take (at + n) (take at d ++ (z ++ drop n (drop at d))) ++ encrypted key nonce (add32 c 1) (drop (at + n) (take at d ++ (z ++ drop n (drop at d))))
-        ≡ take at d ++ encrypted key nonce c (drop at d)
+      ≡ take at d ++ encrypted key nonce c (drop at d)
   turn d z at n e h w =
       let p = take at d in
       let t = drop at d in
@@ -74,9 +73,9 @@ left-more d c at n m {k} {z} {b} left small e h q f w g =
     record {
       goes =
           λ key nonce x.
-            let now = left .goes key nonce x in
-            let v : z ≡ xorl (take n (drop at d)) (blockOf key nonce c) = rw (q, block-at key nonce c f (now .0)) at w in
-            (ap (λ (l : List ℕ). set l 12 b) (now .0) ∙ start-at key nonce c b, rw (q, g) (turn key nonce c small d z at n e h v ∙ now .1))
+          let now = left .goes key nonce x in
+          let v : z ≡ xorl (take n (drop at d)) (blockOf key nonce c) = rw (q, block-at key nonce c f (now .0)) at w in
+          (ap (λ (l : List ℕ). set l 12 b) (now .0) ∙ start-at key nonce c b, rw (q, g) (turn key nonce c small d z at n e h v ∙ now .1));
     }
 
 pub left-all : {s₀ d₀ s : List ℕ} {c₀ : ℕ} (d : List ℕ) (c at : ℕ) (key nonce : List ℕ) → Left s₀ c₀ d₀ s c at d → length d ≤ at → s₀ ≡ start key nonce c₀

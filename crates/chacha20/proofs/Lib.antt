@@ -1,4 +1,5 @@
 pub mod Laws
+pub mod RoundLaws
 pub mod BlockLaws
 pub mod KeystreamLaws
 pub mod LayLaws

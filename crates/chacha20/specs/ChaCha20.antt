@@ -10,12 +10,12 @@ use Rattle.words.specs.Xor.{xorl}
 use Rattle.chacha20.specs.declared.Quad.{Quad}
 
 -- 2.1: "a += b; d ^= a; d <<<= 16; c += d; b ^= c; b <<<= 12; a += b; d ^= a; d <<<= 8; c += d; b ^= c; b <<<= 7;"
-unfoldable pub quarter : Quad → Quad
-quarter q =
-    let a₁ = add32 (q .a) (q .b) in
-    let d₁ = rotl 16 (bitXor (q .d) a₁) in
-    let c₁ = add32 (q .c) d₁ in
-    let b₁ = rotl 12 (bitXor (q .b) c₁) in
+unfoldable pub quarter : ℕ → ℕ → ℕ → ℕ → Quad
+quarter a b c d =
+    let a₁ = add32 a b in
+    let d₁ = rotl 16 (bitXor d a₁) in
+    let c₁ = add32 c d₁ in
+    let b₁ = rotl 12 (bitXor b c₁) in
     let a₂ = add32 a₁ b₁ in
     let d₂ = rotl 8 (bitXor d₁ a₂) in
     let c₂ = add32 c₁ d₂ in
@@ -25,7 +25,7 @@ quarter q =
 -- 2.2: QUARTERROUND(i, j, k, l), the quarter round on the words at four places; the others stand
 unfoldable pub quarterAt : ℕ → ℕ → ℕ → ℕ → List ℕ → List ℕ
 quarterAt i j k l s =
-    let q = quarter (record { a = getD s i 0; b = getD s j 0; c = getD s k 0; d = getD s l 0 }) in
+    let q = quarter (getD s i 0) (getD s j 0) (getD s k 0) (getD s l 0) in
     set (set (set (set s i (q .a)) j (q .b)) k (q .c)) l (q .d)
 
 -- 2.3.1: "inner_block (state)": four column rounds, then four diagonal rounds

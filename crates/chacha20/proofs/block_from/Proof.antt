@@ -2,20 +2,13 @@ use Rattle.chacha20.specs.ChaCha20.{blockFrom}
 use borrow.Author.Needs.{needs}
 use Rattle.chacha20.proofs.block_from.Statement.{statement}
 use Rattle.chacha20.proofs.block_from.Tie as tie
-use Rattle.chacha20.proofs.block_from.Reads as reads
-use Rattle.chacha20.proofs.block_from.Lts as lts
-use Rattle.chacha20.proofs.summed.Reads as summed-reads
-use Rattle.chacha20.proofs.twenty_rounds.Reads as twenty-rounds-reads
 
--- src/lib.rt:130:9
 twenty-rounds-requires : tie.Need-twenty-rounds-requires
 twenty-rounds-requires c κs = search needs
 
--- src/lib.rt:131:5
 summed-requires : tie.Need-summed-requires
 summed-requires c κs = search needs
 
--- src/lib.rt:127:1
 returns : tie.Need-returns
 unfolding blockFrom
 returns c = rw (c .summed .ensures, c .before .twenty-rounds .ensures)

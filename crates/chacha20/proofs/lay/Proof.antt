@@ -1,20 +1,12 @@
 use borrow.Author.Needs.{needs}
-use mathlib.Core.Path.{_≡_, refl, ap, sym, _∙_}
-use mathlib.Core.List.{List, _++_}
+use mathlib.Core.Path.{_≡_, refl, _∙_}
 use Prim.Native.Nat.{_≤_, _<_, _+_, _-_, _^_}
 use native.Mathlib.Omega.{arith}
-use lib.ListN.{length, take, drop}
+use lib.ListN.{length}
 use borrow.Rule.Slice.PartMut.{same-len-mid}
 use Rattle.chacha20.proofs.LayLaws.{Left, left-none, left-more, left-all}
 use Rattle.chacha20.proofs.lay.Statement.{statement}
 use Rattle.chacha20.proofs.lay.Tie as tie
-use Rattle.chacha20.proofs.lay.Reads as reads
-use Rattle.chacha20.proofs.lay.Lts as lts
-use Rattle.chacha20.proofs.block_from.Reads as block-from-reads
-use Rattle.chacha20.proofs.room.Reads as room-reads
-use Rattle.chacha20.proofs.start_state.Reads as start-state-reads
-use Rattle.std.proofs.num.wrapping_add_u32.Reads as wrapping-add-u32-reads
-use Rattle.words.proofs.xor.Reads as xor-reads
 
 abbrev Inv-loop : tie.InvT-loop
 Inv-loop d₀ counter s₀ c₀ at₀ d s c at = (at ≤ length d₀) × (length d ≡ length d₀) × (c < 2 ^ 32) × Left s₀ counter d₀ s c at d
@@ -22,73 +14,58 @@ Inv-loop d₀ counter s₀ c₀ at₀ d s c at = (at ≤ length d₀) × (length
 abbrev μ-loop : tie.MeasureT-loop
 μ-loop d₀ counter s₀ c₀ at₀ d s c at = length d₀ - at
 
--- src/lib.rt:155:17
 start-state-requires : tie.Need-start-state-requires Inv-loop μ-loop
 start-state-requires c κs = search needs
 
--- src/lib.rt:158:5
 loop-holds : tie.Need-loop-holds Inv-loop μ-loop
 loop-holds c = (omega arith, refl, search needs, left-none _ _ _)
 
--- src/lib.rt:159:17
 block-from-requires : tie.Need-block-from-requires Inv-loop μ-loop
 block-from-requires c κs = search needs
 
--- src/lib.rt:160:22
 room-requires : tie.Need-room-requires Inv-loop μ-loop
 room-requires c κs = search needs
 
--- src/lib.rt:160:17
 add-e : tie.Need-add-e Inv-loop μ-loop
 add-e c = search needs
 
--- src/lib.rt:161:20
 sub-xor : tie.Need-sub-xor Inv-loop μ-loop
 sub-xor c = search needs
 
--- src/lib.rt:161:20
 part-xor-start : tie.Need-part-xor-start Inv-loop μ-loop
 part-xor-start c = search needs
 
--- src/lib.rt:161:20
 part-xor-end : tie.Need-part-xor-end Inv-loop μ-loop
 part-xor-end c = search needs
 
--- src/lib.rt:161:35
 slice-aggregate-xor : tie.Need-slice-aggregate-xor Inv-loop μ-loop
 slice-aggregate-xor c = search needs
 
--- src/lib.rt:161:9
 xor-requires : tie.Need-xor-requires Inv-loop μ-loop
 xor-requires c κs = search needs
 
--- src/lib.rt:162:9
 wrapping-add-u32-requires : tie.Need-wrapping-add-u32-requires Inv-loop μ-loop
 wrapping-add-u32-requires c κs = search needs
 
--- src/lib.rt:163:9
 array-write-s : tie.Need-array-write-s Inv-loop μ-loop
 array-write-s c = search needs
 
--- src/lib.rt:158:5
 loop-less : tie.Need-loop-less Inv-loop μ-loop
 loop-less c = search needs
 
--- src/lib.rt:158:5
 loop-again : tie.Need-loop-again Inv-loop μ-loop
-loop-again c = 
+loop-again c =
     let s = c .before .before .before .before .before .before .before .before .before .loop in
-    let n = c .before .before .before .before .before .before .room .result in
-    (omega arith,
-     same-len-mid (s .at) (s .at + n - s .at) (s .d) (c .before .before .before .xor .last .0) (c .before .before .before .xor .kept .0) ∙ s .inv .1,
-     omega arith,
-     left-more (s .d) (s .c) (s .at) n (s .at + n - s .at) (s .inv .3) (s .inv .2) (c .before .before .before .before .before .before .room .ensures) (omega arith) (omega arith) (c .before .before .before .before .before .before .before .block-from .ensures) (c .before .before .before .xor .ensures) (c .wrapping-add-u32 .ensures))
+    let n = c .before .before .before .before .before .before .room .result in (
+      omega arith,
+      same-len-mid (s .at) (s .at + n - s .at) (s .d) (c .before .before .before .xor .last .0) (c .before .before .before .xor .kept .0) ∙ s .inv .1,
+      omega arith,
+      left-more (s .d) (s .c) (s .at) n (s .at + n - s .at) (s .inv .3) (s .inv .2) (c .before .before .before .before .before .before .room .ensures) (omega arith) (omega arith) (c .before .before .before .before .before .before .before .block-from .ensures) (c .before .before .before .xor .ensures) (c .wrapping-add-u32 .ensures),
+    )
 
--- src/lib.rt:152:1
 same-length : tie.Need-same-length Inv-loop μ-loop
 same-length c = search needs
 
--- src/lib.rt:152:1
 returns : tie.Need-returns Inv-loop μ-loop
 returns c = left-all _ _ _ _ _ (c .before .loop .inv .3) (omega arith) (c .before .before .start-state .ensures)
 

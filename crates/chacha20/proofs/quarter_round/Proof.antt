@@ -2,44 +2,31 @@ use Rattle.chacha20.specs.ChaCha20.{quarter}
 use borrow.Author.Needs.{needs}
 use Rattle.chacha20.proofs.quarter_round.Statement.{statement}
 use Rattle.chacha20.proofs.quarter_round.Tie as tie
-use Rattle.chacha20.proofs.quarter_round.Reads as reads
-use Rattle.chacha20.proofs.quarter_round.Lts as lts
-use Rattle.std.proofs.num.wrapping_add_u32.Reads as wrapping-add-u32-reads
-use Rattle.words.proofs.rotate_left.Reads as rotate-left-reads
 
--- src/lib.rt:24:9
 wrapping-add-u32-requires : tie.Need-wrapping-add-u32-requires
 wrapping-add-u32-requires c κs = search needs
 
--- src/lib.rt:25:9
 rotate-left-requires : tie.Need-rotate-left-requires
 rotate-left-requires c κs = search needs
 
--- src/lib.rt:26:9
 wrapping-add-u32-requires-2 : tie.Need-wrapping-add-u32-requires-2
 wrapping-add-u32-requires-2 c κs = search needs
 
--- src/lib.rt:27:9
 rotate-left-requires-2 : tie.Need-rotate-left-requires-2
 rotate-left-requires-2 c κs = search needs
 
--- src/lib.rt:28:9
 wrapping-add-u32-requires-3 : tie.Need-wrapping-add-u32-requires-3
 wrapping-add-u32-requires-3 c κs = search needs
 
--- src/lib.rt:29:9
 rotate-left-requires-3 : tie.Need-rotate-left-requires-3
 rotate-left-requires-3 c κs = search needs
 
--- src/lib.rt:30:9
 wrapping-add-u32-requires-4 : tie.Need-wrapping-add-u32-requires-4
 wrapping-add-u32-requires-4 c κs = search needs
 
--- src/lib.rt:31:9
 rotate-left-requires-4 : tie.Need-rotate-left-requires-4
 rotate-left-requires-4 c κs = search needs
 
--- src/lib.rt:17:1
 returns : tie.Need-returns
 unfolding quarter
 returns c = simp (c .rotate-left4 .ensures, c .before .wrapping-add-u324 .ensures, c .before .before .rotate-left3 .ensures, c .before .before .before .wrapping-add-u323 .ensures, c .before .before .before .before .rotate-left2 .ensures, c .before .before .before .before .before .wrapping-add-u322 .ensures, c .before .before .before .before .before .before .rotate-left .ensures, c .before .before .before .before .before .before .before .wrapping-add-u32 .ensures)

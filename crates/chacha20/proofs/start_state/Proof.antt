@@ -4,27 +4,19 @@ use Rattle.chacha20.specs.ChaCha20.{start}
 use borrow.Author.Needs.{needs}
 use Rattle.chacha20.proofs.start_state.Statement.{statement}
 use Rattle.chacha20.proofs.start_state.Tie as tie
-use Rattle.chacha20.proofs.start_state.Reads as reads
-use Rattle.chacha20.proofs.start_state.Lts as lts
-use Rattle.chacha20.proofs.with_words.Reads as with-words-reads
 
--- src/lib.rt:123:33
 slice-aggregate-with-words : tie.Need-slice-aggregate-with-words
 slice-aggregate-with-words c = search needs
 
--- src/lib.rt:123:9
 with-words-requires : tie.Need-with-words-requires
 with-words-requires c κs = search needs
 
--- src/lib.rt:124:26
 slice-aggregate-with-words-2 : tie.Need-slice-aggregate-with-words-2
 slice-aggregate-with-words-2 c = search needs
 
--- src/lib.rt:124:5
 with-words-requires-2 : tie.Need-with-words-requires-2
 with-words-requires-2 c κs = search needs
 
--- src/lib.rt:117:1
 returns : tie.Need-returns
 unfolding start wordsOf tab
 returns c = simp (c .with-words2 .ensures, c .before .before .with-words .ensures)

@@ -1,5 +1,5 @@
 use borrow.Author.Needs.{needs}
-use mathlib.Core.Path.{_≡_, refl, ap, _∙_}
+use mathlib.Core.Path.{_≡_, refl, _∙_}
 use mathlib.Core.List.{List, _++_}
 use Prim.Native.Nat.{ℕ, _≤_, _-_, _*_}
 use native.Mathlib.Omega.{arith}
@@ -10,10 +10,6 @@ use Rattle.chacha20.specs.ChaCha20.{added, serialised}
 use Rattle.chacha20.proofs.BlockLaws.{serialised-more, serialised-all}
 use Rattle.chacha20.proofs.summed.Statement.{statement}
 use Rattle.chacha20.proofs.summed.Tie as tie
-use Rattle.chacha20.proofs.summed.Reads as reads
-use Rattle.chacha20.proofs.summed.Lts as lts
-use Rattle.std.proofs.num.wrapping_add_u32.Reads as wrapping-add-u32-reads
-use Rattle.words.proofs.store32.Reads as store32-reads
 
 abbrev sums : List ℕ → List ℕ → ℕ → ℕ
 sums w s i = add32 (getD w i 0) (getD s i 0)
@@ -24,59 +20,47 @@ Inv-loop w s r₀ i₀ r i = (i ≤ 16) × (length r ≡ 64) × (r ≡ serialise
 abbrev μ-loop : tie.MeasureT-loop
 μ-loop w s r₀ i₀ r i = 16 - i
 
--- src/lib.rt:92:5
 loop-holds : tie.Need-loop-holds Inv-loop μ-loop
 unfolding serialised tab
 loop-holds c = (omega arith, refl, refl)
 
--- src/lib.rt:93:44
 mul-wrapping-add-u32 : tie.Need-mul-wrapping-add-u32 Inv-loop μ-loop
 mul-wrapping-add-u32 c = search needs
 
--- src/lib.rt:93:44
 array-read-wrapping-add-u32 : tie.Need-array-read-wrapping-add-u32 Inv-loop μ-loop
 array-read-wrapping-add-u32 c = search needs
 
--- src/lib.rt:93:50
 mul-wrapping-add-u32-2 : tie.Need-mul-wrapping-add-u32-2 Inv-loop μ-loop
 mul-wrapping-add-u32-2 c = search needs
 
--- src/lib.rt:93:50
 array-read-wrapping-add-u32-2 : tie.Need-array-read-wrapping-add-u32-2 Inv-loop μ-loop
 array-read-wrapping-add-u32-2 c = search needs
 
--- src/lib.rt:93:13
 wrapping-add-u32-requires : tie.Need-wrapping-add-u32-requires Inv-loop μ-loop
 wrapping-add-u32-requires c κs = search needs
 
--- src/lib.rt:94:24
 slice-aggregate-store32 : tie.Need-slice-aggregate-store32 Inv-loop μ-loop
 slice-aggregate-store32 c = search needs
 
--- src/lib.rt:94:32
 mul-store32 : tie.Need-mul-store32 Inv-loop μ-loop
 mul-store32 c = search needs
 
--- src/lib.rt:94:9
 store32-requires : tie.Need-store32-requires Inv-loop μ-loop
 store32-requires c κs = search needs
 
--- src/lib.rt:95:9
 add-i : tie.Need-add-i Inv-loop μ-loop
 add-i c = search needs
 
--- src/lib.rt:92:5
 loop-less : tie.Need-loop-less Inv-loop μ-loop
 loop-less c = search needs
 
--- src/lib.rt:92:5
 loop-again : tie.Need-loop-again Inv-loop μ-loop
-loop-again c = 
-    (omega arith,
-     c .before .store32 .kept .0 ∙ c .before .before .before .before .before .loop .inv .1,
-     c .before .store32 .ensures ∙ serialised-more _ _ _ (c .before .before .before .before .before .loop .inv .2) (c .before .before .before .wrapping-add-u32 .ensures) (omega arith))
+loop-again c = (
+  omega arith,
+  c .before .store32 .kept .0 ∙ c .before .before .before .before .before .loop .inv .1,
+  c .before .store32 .ensures ∙ serialised-more _ _ _ (c .before .before .before .before .before .loop .inv .2) (c .before .before .before .wrapping-add-u32 .ensures) (omega arith),
+)
 
--- src/lib.rt:87:1
 returns : tie.Need-returns Inv-loop μ-loop
 unfolding added
 returns c = serialised-all _ _ _ 16 (c .before .loop .inv .2) (omega arith) (omega arith)

@@ -6,9 +6,6 @@ use native.Mathlib.Omega.{arith}
 use Rattle.chacha20.specs.ChaCha20.{doubleRound, doubleRounds}
 use Rattle.chacha20.proofs.twenty_rounds.Statement.{statement}
 use Rattle.chacha20.proofs.twenty_rounds.Tie as tie
-use Rattle.chacha20.proofs.twenty_rounds.Reads as reads
-use Rattle.chacha20.proofs.twenty_rounds.Lts as lts
-use Rattle.chacha20.proofs.double_round.Reads as double-round-reads
 
 abbrev Inv-loop : tie.InvT-loop
 Inv-loop w₀ i₀ w i = (i ≤ 10) × (w ≡ doubleRounds i w₀)
@@ -16,29 +13,23 @@ Inv-loop w₀ i₀ w i = (i ≤ 10) × (w ≡ doubleRounds i w₀)
 abbrev μ-loop : tie.MeasureT-loop
 μ-loop w₀ i₀ w i = 10 - i
 
--- src/lib.rt:78:5
 loop-holds : tie.Need-loop-holds Inv-loop μ-loop
 unfolding doubleRounds
 loop-holds c = (omega arith, refl)
 
--- src/lib.rt:79:13
 double-round-requires : tie.Need-double-round-requires Inv-loop μ-loop
 double-round-requires c κs = search needs
 
--- src/lib.rt:81:9
 add-i : tie.Need-add-i Inv-loop μ-loop
 add-i c = search needs
 
--- src/lib.rt:78:5
 loop-less : tie.Need-loop-less Inv-loop μ-loop
 loop-less c = search needs
 
--- src/lib.rt:78:5
 loop-again : tie.Need-loop-again Inv-loop μ-loop
 unfolding doubleRounds
 loop-again c = (omega arith, rw add-one (c .double-round .ensures ∙ ap doubleRound (c .before .before .loop .inv .1)))
 
--- src/lib.rt:73:1
 returns : tie.Need-returns Inv-loop μ-loop
 returns c = let e : c .before .loop .i ≡ 10 = omega arith in rw e at (c .before .loop .inv .1)
 
