@@ -78,6 +78,23 @@ left-more d c at n m {k} {z} {b} left small e h q f w g =
           (ap (λ (l : List ℕ). set l 12 b) (now .0) ∙ start-at key nonce c b, rw (q, g) (turn key nonce c small d z at n e h v ∙ now .1));
     }
 
+-- a place past the end is as good as the end
+pub left-on : {s₀ s d₀ : List ℕ} {c₀ : ℕ} (c at n : ℕ) (d : List ℕ) → n ≤ 64 → (n < 64 → length d ≤ at + n) → Left s₀ c₀ d₀ s c (at + n) d
+    → Left s₀ c₀ d₀ s c (at + 64) d
+left-on c at n d h ends left =
+    ⊎-elim
+    (λ full. let e : n ≡ 64 = omega (arith, leb-true 64 n full) in
+    rw e at left)
+    (λ part. let over : length d ≤ at + n = ends (leb-false 64 n part) in
+    let far : length d ≤ at + 64 = omega arith in
+    record {
+      goes =
+          λ key nonce x.
+          let now = left .goes key nonce x in
+          (now .0, rw (take-all (at + 64) d far, drop-of-length-le d far) (rw (take-all (at + n) d over, drop-of-length-le d over) at (now .1)));
+    })
+    (told (leb 64 n))
+
 pub left-all : {s₀ d₀ s : List ℕ} {c₀ : ℕ} (d : List ℕ) (c at : ℕ) (key nonce : List ℕ) → Left s₀ c₀ d₀ s c at d → length d ≤ at → s₀ ≡ start key nonce c₀
     → d ≡ encrypted key nonce c₀ d₀
 left-all d c at key nonce left h x =

@@ -172,6 +172,6 @@ pub fn lay(d: &mut [u8], key: [u8; 32], nonce: [u8; 12], counter: u32)
         words::xor(&mut d[at..e], &k);
         c = std::num::wrapping_add_u32(c, 1);
         s[12] = c;
-        at = e;
+        at += 64;
     }
 }
