@@ -1,0 +1,8 @@
+pub mod Laws
+pub mod BitLaws
+pub mod MaskLaws
+pub mod CountLaws
+pub mod RecordLaws
+pub mod RuleLaws
+pub mod ListingLaws
+pub mod Outcomes

@@ -1,0 +1,54 @@
+use mathlib.Core.Path.{ap}
+use native.Mathlib.Omega.{arith}
+use borrow.Author.Needs.{needs}
+use Rattle.records.specs.Rule.{rekeys}
+use Rattle.records.proofs.RuleLaws.{turned-idle, turned-add, turned-rekey, room}
+use Rattle.records.proofs.turn.Statement.{statement}
+use Rattle.records.proofs.turn.Tie as tie
+
+enum-told : tie.Need-enum-told
+enum-told c = search needs
+
+enum-known-way : tie.Need-enum-known-way
+enum-known-way c = search needs
+
+join-requires : tie.Need-join-requires
+join-requires c κs = search needs
+
+enum-known-way-2 : tie.Need-enum-known-way-2
+enum-known-way-2 c = search needs
+
+add-t8 : tie.Need-add-t8
+add-t8 c =
+    let s = c .before .before .before .before in
+    record { fits = room (s .args .way) (s .args .r) (ap rekeys (c .before .before .way2 .given .1)) (s .pre) (omega arith) }
+
+join-requires-2 : tie.Need-join-requires-2
+join-requires-2 c κs = search needs
+
+returns : tie.Need-returns
+returns c = let a = c .before .before .args in turned-idle (a .way) (a .epoch) (a .r) (c .enum-told .given .1)
+
+returns-2 : tie.Need-returns-2
+returns-2 c =
+    let a = c .before .before .before .before .args in
+    turned-add (a .way) (a .epoch) (a .r) _ (c .before .before .way .given .1) (c .join .ensures)
+
+returns-3 : tie.Need-returns-3
+returns-3 c =
+    let a = c .before .before .before .before .before .args in
+    turned-rekey (a .way) (a .epoch) (a .r) _ (c .before .before .before .way2 .given .1) (c .join2 .ensures)
+
+pub turn-spec : {M : Type 1} → statement M
+turn-spec =
+    tie.close
+    (tie.spec
+    enum-told
+    enum-known-way
+    join-requires
+    enum-known-way-2
+    add-t8
+    join-requires-2
+    returns
+    returns-2
+    returns-3)

@@ -1,0 +1,4 @@
+pub mod Journal
+pub mod Record
+pub mod Rule
+pub mod Listing

@@ -1,0 +1,36 @@
+-- Document 01, Records: "keycount 8, journal 8, epoch 2".
+use Prim.Native.Nat.{ℕ, _+_, _^_, _<_}
+use mathlib.Core.Bool.{Bool}
+use mathlib.Core.List.{List, _++_}
+use lib.Dec.{eqb, ltb}
+use Rattle.base.specs.Pick.{both}
+use Rattle.base.specs.Lists.{part}
+use Rattle.words.specs.Le.{num, le}
+use Rattle.records.specs.declared.Record.{Record}
+use Rattle.records.specs.Journal.{either}
+
+-- the 18 bytes of a record
+unfoldable pub recordBytes : Record → List ℕ
+recordBytes r = le 8 (r .keycount) ++ (le 8 (r .journal) ++ le 2 (r .epoch))
+
+-- the record whose 18 bytes stand at a place
+unfoldable pub recordAt : ℕ → List ℕ → Record
+recordAt at v = record { keycount = num (part at 8 v); journal = num (part (at + 8) 8 v); epoch = num (part (at + 16) 2 v) }
+
+-- "no bit at or above P is set"
+abbrev pub noneFrom : ℕ → ℕ → Bool
+noneFrom p j = ltb j (2 ^ p)
+
+-- "its epoch is the head's, or, while changing, the head's or one less"
+abbrev pub epochFits : ℕ → Bool → ℕ → Bool
+epochFits head changing e = either (eqb e head) (both changing (eqb (e + 1) head))
+
+-- "A record is well formed if no bit at or above P is set and its epoch is the head's, or, while changing, the head's or one less."
+unfoldable pub wellFormed : ℕ → ℕ → Bool → Record → Bool
+wellFormed p head changing r = both (noneFrom p (r .journal)) (epochFits head changing (r .epoch))
+
+-- each field is within its width
+pub record Widths (r : Record) : Type 0 where
+  pub keycountWidth : r .keycount < 2 ^ 64
+  pub journalWidth : r .journal < 2 ^ 64
+  pub epochWidth : r .epoch < 2 ^ 16

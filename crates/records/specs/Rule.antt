@@ -1,0 +1,58 @@
+-- The rule of a change on one nugget: what becomes of its record, and which flakes are enciphered under which keycount.
+use Prim.Native.Nat.{ℕ, _+_, _-_, _^_}
+use mathlib.Core.Bool.{Bool, true, false}
+use lib.Dec.{eqb}
+use Rattle.base.specs.Pick.{pick, both}
+use Rattle.records.specs.declared.Record.{Record}
+use Rattle.records.specs.declared.Way.{Way}
+use Rattle.records.specs.declared.Way.the-variants.{Idle, Add, Rekey}
+use Rattle.records.specs.Journal.{union, shareNone}
+
+-- Write: "For each nugget let T be the flakes touched and J its journal. If J and T share none and its epoch is the
+-- head's, the flakes of T are enciphered under the present keycount. Otherwise the nugget is rekeyed".
+-- A nugget with no flake touched stays as it is.
+unfoldable pub wayOf : Record → ℕ → ℕ → Way
+wayOf r t head =
+    pick (eqb t 0) Idle
+    (pick (both (shareNone (r .journal) t) (eqb (r .epoch) head)) (Add t) (Rekey t))
+
+-- Sweep "takes a nugget and rekeys it with T empty."
+abbrev pub sweepWay : Way
+sweepWay = Rekey 0
+
+-- T
+abbrev pub touchedBy : Way → ℕ
+touchedBy Idle = 0
+touchedBy (Add t) = t
+touchedBy (Rekey t) = t
+
+abbrev pub rekeys : Way → Bool
+rekeys Idle = false
+rekeys (Add t) = false
+rekeys (Rekey t) = true
+
+-- "the flakes of T are enciphered"; rekeyed: "every flake of J and T enciphered afresh"
+unfoldable pub enciphered : Way → Record → ℕ
+enciphered Idle r = 0
+enciphered (Add t) r = t
+enciphered (Rekey t) r = union (r .journal) t
+
+-- "under the present keycount"; rekeyed: "keycount plus 1"
+unfoldable pub keycountAfter : Way → Record → ℕ
+keycountAfter way r = pick (rekeys way) (r .keycount + 1) (r .keycount)
+
+-- "The journal becomes J with T."
+unfoldable pub journalAfter : Way → Record → ℕ
+journalAfter way r = union (r .journal) (touchedBy way)
+
+-- rekeyed: "epoch set to the head's"
+unfoldable pub epochAfter : Way → ℕ → Record → ℕ
+epochAfter way head r = pick (rekeys way) head (r .epoch)
+
+-- the record afterwards
+abbrev pub turned : Way → ℕ → Record → Record
+turned way head r = record { keycount = keycountAfter way r; journal = journalAfter way r; epoch = epochAfter way head r }
+
+-- "14: a rekey needed and the keycount at its top"
+unfoldable pub atTop : Way → Record → Bool
+atTop way r = both (rekeys way) (eqb (r .keycount) (2 ^ 64 - 1))

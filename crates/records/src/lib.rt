@@ -1,0 +1,203 @@
+// A nugget's record, its journal as a set of flakes, and the rule of a write on one nugget.
+// It touches `base` and `words` alone.
+ghost use mathlib.Core.Path.{_≡_};
+ghost use mathlib.Core.Bool.{false};
+ghost use Prim.Native.Nat.{_+_, _≤_};
+ghost use lib.ListN.{length};
+ghost use lib.Seq.{sets};
+ghost use Rattle.records.specs.Journal.{bit, union, shareNone, flakesFrom, allFlakes, present};
+ghost use Rattle.records.specs.Record.{recordBytes, recordAt, noneFrom, epochFits, wellFormed};
+ghost use Rattle.records.specs.Rule.{wayOf, rekeys, enciphered, keycountAfter, turned, atTop};
+
+pub struct Record {
+    pub keycount: u64,
+    pub journal: u64,
+    pub epoch: u16,
+}
+
+// What a change does to one nugget: nothing, add the touched flakes, or rekey it with them.
+pub enum Way {
+    Idle,
+    Add(u64),
+    Rekey(u64),
+}
+
+// The record at `at`.
+pub fn read(vol: &[u8], at: usize) -> Record
+    requires { ⌜ at + 18 ≤ length (now vol) ⌝ }
+    ensures { λ r. ⌜ r ≡ recordAt at (now (vol .entry)) ⌝ }
+{
+    Record {
+        keycount: words::load(vol, at, 8),
+        journal: words::load(vol, at + 8, 8),
+        epoch: words::load(vol, at + 16, 2) as u16,
+    }
+}
+
+// The record's bytes laid at `at`.
+pub fn store(vol: &mut [u8], at: usize, r: Record)
+    requires { ⌜ at + 18 ≤ length (now vol) ⌝ }
+    ensures { λ _. ⌜ now (vol .exit) ≡ sets (now (vol .entry)) at (recordBytes r) ⌝ }
+{
+    let keycount = r.keycount;
+    let journal = r.journal;
+    let epoch = r.epoch;
+    words::store(&mut *vol, at, 8, keycount);
+    words::store(&mut *vol, at + 8, 8, journal);
+    words::store(&mut *vol, at + 16, 2, epoch as u64);
+}
+
+// Whether flake f is in the journal. No shift reaches 64, so a flake past 63 has its own answer.
+pub fn has(journal: u64, f: u32) -> bool
+    ensures { λ r. ⌜ r ≡ bit journal f ⌝ }
+{
+    if f < 64 {
+        (journal >> f) % 2 == 1
+    } else {
+        false
+    }
+}
+
+// The flakes of both.
+pub fn join(journal: u64, touched: u64) -> u64
+    ensures { λ r. ⌜ r ≡ union journal touched ⌝ }
+{
+    journal | touched
+}
+
+// "J and T share none".
+pub fn share_none(journal: u64, touched: u64) -> bool
+    ensures { λ r. ⌜ r ≡ shareNone journal touched ⌝ }
+{
+    journal & touched == 0
+}
+
+// All flakes below p; 64 of them fill the word, which no shift makes.
+pub fn all(p: u32) -> u64
+    ensures { λ r. ⌜ r ≡ allFlakes p ⌝ }
+{
+    if p < 64 {
+        (1u64 << p) - 1
+    } else {
+        0xffff_ffff_ffff_ffff
+    }
+}
+
+// The flakes from the first to the last: those up to the last without those before the first.
+pub fn range(first: u32, last: u32) -> u64
+    ensures { λ r. ⌜ r ≡ flakesFrom first last ⌝ }
+{
+    if last < first {
+        return 0;
+    }
+    if last < 64 {
+        all(last + 1) - all(first)
+    } else {
+        all(64) - all(first)
+    }
+}
+
+// "counts of ones of each journal give flakes present and retired"
+pub fn count(journal: u64) -> u32
+    ensures { λ r. ⌜ r ≡ present 64 journal ⌝ }
+{
+    u64::count_ones(journal)
+}
+
+// "no bit at or above P is set": 64 flakes and more leave no bit to test.
+fn none_from(journal: u64, p: u32) -> bool
+    ensures { λ r. ⌜ r ≡ noneFrom p journal ⌝ }
+{
+    if p < 64 { journal >> p == 0 } else { true }
+}
+
+// "its epoch is the head's, or, while changing, the head's or one less"
+fn epoch_fits(own: u16, epoch: u16, changing: bool) -> bool
+    ensures { λ r. ⌜ r ≡ epochFits epoch changing own ⌝ }
+{
+    if own == epoch {
+        true
+    } else if changing {
+        own as u32 + 1 == epoch as u32
+    } else {
+        false
+    }
+}
+
+// "A record is well formed if .."
+pub fn well_formed(r: Record, p: u32, epoch: u16, changing: bool) -> bool
+    ensures { λ ok. ⌜ ok ≡ wellFormed p epoch changing r ⌝ }
+{
+    if none_from(r.journal, p) {
+        epoch_fits(r.epoch, epoch, changing)
+    } else {
+        false
+    }
+}
+
+// The way of a write that touches these flakes.
+pub fn way_of(r: Record, touched: u64, epoch: u16) -> Way
+    ensures { λ way. ⌜ way ≡ wayOf r touched epoch ⌝ }
+{
+    if touched == 0 {
+        return Way::Idle;
+    }
+    if share_none(r.journal, touched) {
+        if r.epoch == epoch {
+            return Way::Add(touched);
+        }
+    }
+    Way::Rekey(touched)
+}
+
+pub fn is_rekey(way: Way) -> bool
+    ensures { λ r. ⌜ r ≡ rekeys way ⌝ }
+{
+    match way {
+        Way::Idle => false,
+        Way::Add(_) => false,
+        Way::Rekey(_) => true,
+    }
+}
+
+// The flakes that are enciphered.
+pub fn enciphers(way: Way, r: Record) -> u64
+    ensures { λ mask. ⌜ mask ≡ enciphered way r ⌝ }
+{
+    match way {
+        Way::Idle => 0,
+        Way::Add(touched) => touched,
+        Way::Rekey(touched) => join(r.journal, touched),
+    }
+}
+
+// "14: a rekey needed and the keycount at its top"
+pub fn at_top(way: Way, r: Record) -> bool
+    ensures { λ top. ⌜ top ≡ atTop way r ⌝ }
+{
+    if is_rekey(way) {
+        r.keycount == 0xffff_ffff_ffff_ffff
+    } else {
+        false
+    }
+}
+
+// The record afterwards.
+pub fn turn(way: Way, epoch: u16, r: Record) -> Record
+    requires { ⌜ atTop way r ≡ false ⌝ }
+    ensures { λ after. ⌜ after ≡ turned way epoch r ⌝ }
+{
+    match way {
+        Way::Idle => r,
+        Way::Add(touched) => Record {
+            keycount: r.keycount,
+            journal: join(r.journal, touched),
+            epoch: r.epoch,
+        },
+        Way::Rekey(touched) => Record {
+            keycount: r.keycount + 1,
+            journal: join(r.journal, touched),
+            epoch: epoch,
+        },
+    }
+}
