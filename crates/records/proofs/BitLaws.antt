@@ -1,15 +1,15 @@
 -- Laws of membership: of a union, of sets that share none, of a set bounded by P, and of equal sets.
-use mathlib.Core.Path.{_≡_, refl, ap, sym, _∙_}
-use mathlib.Core.Bool.{Bool, true, false}
+use mathlib.Core.Path.{_≡_, refl, sym, _∙_}
+use mathlib.Core.Bool.{true, false}
 use Prim.Native.Nat.{ℕ, zero, suc, _+_, _*_, _/_, _%_, _^_, _<_, _≤_}
-use native.Mathlib.Nat.{pow-succ', div-div-eq-div-mul, div-eq-of-lt, div-one, zero-div, lt-of-lt-of-le, le-add-right, mod-lt, div-lt-iff-lt-mul}
+use native.Mathlib.Nat.{pow-succ', div-div-eq-div-mul, div-eq-of-lt, div-one, zero-div, lt-of-lt-of-le, le-add-right, div-lt-iff-lt-mul}
 use native.Mathlib.Omega.{arith}
 use lib.Arith.{bin-ind}
 use lib.Pow.{pow-pos, pow-mono, pow-add}
 use lib.Bits.{bitAnd, bitOr, or-shr, or-mod, and-shr, and-mod}
-use lib.Dec.{eqb, ltb, leb}
+use lib.Dec.{eqb, leb}
 use mathlib.Core.Logic.{_⊎_, inl, inr}
-use borrow.Author.Tests.{eqb-true, eqb-false, eq-eqb, ne-eqb, leb-true, leb-false, lt-ltb, ltb-true}
+use borrow.Author.Tests.{eqb-true, eq-eqb, leb-true, leb-false, lt-ltb, ltb-true}
 use Rattle.base.specs.Pick.{both}
 use Rattle.base.proofs.PickLaws.{told}
 use Rattle.records.specs.Journal.{bit, union, shareNone, either}
@@ -107,17 +107,17 @@ below-none p j h =
     omega arith
 
 -- "no bit at or above P is set", in both directions
-pub none-from : (p j : ℕ) → noneFrom p j ≡ true → (f : ℕ) → p ≤ f → bit j f ≡ false
-none-from p j e f l = none-above p j f (ltb-true j (2 ^ p) e) l
+pub none-from-bits : (p j : ℕ) → noneFrom p j ≡ true → (f : ℕ) → p ≤ f → bit j f ≡ false
+none-from-bits p j e f l = none-above p j f (ltb-true j (2 ^ p) e) l
 
-pub from-none : (p j : ℕ) → ((f : ℕ) → p ≤ f → bit j f ≡ false) → noneFrom p j ≡ true
-from-none p j h = lt-ltb j (2 ^ p) (below-none p j h)
+pub bits-none-from : (p j : ℕ) → ((f : ℕ) → p ≤ f → bit j f ≡ false) → noneFrom p j ≡ true
+bits-none-from p j h = lt-ltb j (2 ^ p) (below-none p j h)
 
 -- "J and T share none", in both directions
-pub share-none : (j t : ℕ) → shareNone j t ≡ true → (f : ℕ) → both (bit j f) (bit t f) ≡ false
+pub share-none-bits : (j t : ℕ) → shareNone j t ≡ true → (f : ℕ) → both (bit j f) (bit t f) ≡ false
 unfolding shareNone
-share-none j t e f = sym (bit-and j t f) ∙ rw (eqb-true (bitAnd j t) 0 e) (bit-empty f)
+share-none-bits j t e f = sym (bit-and j t f) ∙ rw (eqb-true (bitAnd j t) 0 e) (bit-empty f)
 
-pub none-shared : (j t : ℕ) → ((f : ℕ) → both (bit j f) (bit t f) ≡ false) → shareNone j t ≡ true
+pub bits-share-none : (j t : ℕ) → ((f : ℕ) → both (bit j f) (bit t f) ≡ false) → shareNone j t ≡ true
 unfolding shareNone
-none-shared j t h = eq-eqb (bitAnd j t) 0 (no-bits (bitAnd j t) (λ f. bit-and j t f ∙ h f))
+bits-share-none j t h = eq-eqb (bitAnd j t) 0 (no-bits (bitAnd j t) (λ f. bit-and j t f ∙ h f))

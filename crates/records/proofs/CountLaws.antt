@@ -4,13 +4,12 @@ use mathlib.Core.Bool.{Bool, true, false}
 use Prim.Native.Nat.{ℕ, zero, suc, _+_, _*_, _/_, _%_, _^_, _<_, _≤_}
 use native.Mathlib.Nat.{mod-eq-of-lt, mod-lt, mod-one, add-comm}
 use native.Mathlib.Omega.{arith}
-use native.Mathlib.Numerals.{add-one}
 use lib.Pow.{pow-pos, mod-pow-add}
 use lib.Count.{ones, onesIn, ones-cat}
 use lib.Dec.{eqb}
 use Rattle.base.specs.Pick.{pick, both}
 use Rattle.records.specs.Journal.{bit, either, union, shareNone, many, present}
-use Rattle.records.proofs.BitLaws.{bit-union, share-none}
+use Rattle.records.proofs.BitLaws.{bit-union, share-none-bits}
 
 pub many-le : (n : ℕ) (g : ℕ → Bool) → many n g ≤ n
 unfolding many
@@ -40,7 +39,7 @@ present-le p j = many-le p (bit j)
 
 -- sets that share none: their counts add
 pub present-union : (p j t : ℕ) → shareNone j t ≡ true → present p (union j t) ≡ present p j + present p t
-present-union p j t e = many-either p (bit j) (bit t) (bit (union j t)) (bit-union j t) (share-none j t e)
+present-union p j t e = many-either p (bit j) (bit t) (bit (union j t)) (bit-union j t) (share-none-bits j t e)
 
 ones-digit : (x : ℕ) → x < 2 → ones x ≡ pick (eqb x 1) 1 0
 unfolding ones onesIn

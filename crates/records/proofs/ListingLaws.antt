@@ -1,7 +1,7 @@
 -- Laws of the listing of one nugget.
-use mathlib.Core.Path.{_≡_, refl, sym, _∙_}
+use mathlib.Core.Path.{_≡_, refl, _∙_}
 use mathlib.Core.Bool.{Bool, true, false}
-use mathlib.Core.List.{List, [], _∷_, _++_, append-nil}
+use mathlib.Core.List.{List, [], _∷_}
 use Prim.Native.Nat.{ℕ, zero, suc, _+_}
 use lib.ListN.{length, length-append}
 use Rattle.base.specs.Pick.{pick}
@@ -10,7 +10,7 @@ use Rattle.records.specs.declared.Way.{Way}
 use Rattle.records.specs.declared.Way.the-variants.{Idle}
 use Rattle.records.specs.Journal.{bit, many, present}
 use Rattle.records.specs.Rule.{enciphered, keycountAfter}
-use Rattle.records.specs.Listing.{Entry, entry, padsOf, padsBy}
+use Rattle.records.specs.Listing.{entry, padsOf, padsBy}
 use Rattle.records.proofs.BitLaws.{bit-empty}
 
 -- as many entries as there are flakes in the set

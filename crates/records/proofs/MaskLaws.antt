@@ -2,16 +2,16 @@
 use mathlib.Core.Path.{_≡_, refl, ap, sym, _∙_}
 use mathlib.Core.Bool.{Bool, true, false}
 use mathlib.Core.Logic.{_⊎_, inl, inr}
-use Prim.Native.Nat.{ℕ, zero, suc, _+_, _-_, _*_, _/_, _%_, _^_, _<_, _≤_, min}
-use native.Mathlib.Nat.{pow-suc, add-comm, div-one, one-mul, zero-mul}
+use Prim.Native.Nat.{ℕ, zero, suc, _+_, _-_, _*_, _%_, _^_, _<_, _≤_, min}
+use native.Mathlib.Nat.{pow-suc, add-comm, div-one, one-mul}
 use native.Mathlib.Omega.{arith}
-use lib.Pow.{high, pow-pos, pow-mono, shl-exact}
-use lib.Bits.{bitOr, or-shifted, shifted-half, shifted-even}
+use lib.Pow.{high, pow-pos, shl-exact}
+use lib.Bits.{or-shifted, shifted-half, shifted-even}
 use lib.Dec.{eqb, ltb, leb, lit≤}
-use borrow.Author.Tests.{ltb-true, ltb-false, leb-true, leb-false, lt-ltb, le-ltb, le-leb, lt-leb}
+use borrow.Author.Tests.{ltb-true, ltb-false, leb-true, leb-false, lt-ltb, le-ltb, lt-leb}
 use Rattle.base.specs.Pick.{pick, both}
 use Rattle.base.proofs.PickLaws.{told}
-use Rattle.records.specs.Journal.{bit, either, flakesWith, flakesFrom, allFlakes}
+use Rattle.records.specs.Journal.{bit, flakesWith, flakesFrom, allFlakes}
 use Rattle.records.proofs.BitLaws.{bit-union, bit-empty, bit-half, none-above, below-none}
 
 abbrev one : Bool → ℕ
@@ -140,9 +140,9 @@ all-shift p h = rw (shl-exact {a = 1} 1 p 64 (lit≤ tt) (omega arith), one-mul 
 pub shift-pos : (p : ℕ) → p < 64 → 1 ≤ 1 * 2 ^ p % 2 ^ 64
 shift-pos p h = rw (shl-exact {a = 1} 1 p 64 (lit≤ tt) (omega arith), one-mul (2 ^ p)) (pow-pos p)
 
--- a run from the last down to before the first is empty
-pub from-none : (first last : ℕ) → last < first → flakesFrom first last ≡ 0
-from-none first last h = with-none 64 (λ f. both (leb first f) (leb f last)) (λ f. go f (told (leb first f)))
+-- a run whose last comes before its first is empty
+pub from-empty : (first last : ℕ) → last < first → flakesFrom first last ≡ 0
+from-empty first last h = with-none 64 (λ f. both (leb first f) (leb f last)) (λ f. go f (told (leb first f)))
   where
     go : (f : ℕ) → (leb first f ≡ true) ⊎ (leb first f ≡ false) → both (leb first f) (leb f last) ≡ false
     go f (inl e) = rw (e, lt-leb f last (omega (arith, leb-true first f e)))

@@ -9,11 +9,11 @@ use Rattle.base.proofs.OutcomeLaws.{only}
 use Rattle.records.specs.declared.Record.{Record}
 use Rattle.records.specs.declared.Way.{Way}
 use Rattle.records.specs.Journal.{bit, union, shareNone, flakesFrom, allFlakes, present}
-use Rattle.records.specs.Record.{recordBytes, recordAt, wellFormed}
+use Rattle.records.specs.Record.{recordBytes, recordIn, wellFormed}
 use Rattle.records.specs.Rule.{wayOf, rekeys, enciphered, turned, atTop}
 
-pub read : (vol : List ℕ) (at : ℕ) → Unique (λ r. r ≡ recordAt at vol)
-read vol at = only (recordAt at vol)
+pub read : (vol : List ℕ) (at : ℕ) → Unique (λ r. r ≡ recordIn at vol)
+read vol at = only (recordIn at vol)
 
 pub store : (vol : List ℕ) (at : ℕ) (r : Record) → Unique (λ last. last ≡ sets vol at (recordBytes r))
 store vol at r = only (sets vol at (recordBytes r))

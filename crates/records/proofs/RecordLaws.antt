@@ -1,5 +1,5 @@
 -- Laws of the record: its bytes, its reading, and the code's test of its journal.
-use mathlib.Core.Path.{_≡_, refl, ap, sym, _∙_}
+use mathlib.Core.Path.{_≡_, refl, sym}
 use mathlib.Core.Bool.{true, false}
 use mathlib.Core.Logic.{_⊎_, inl, inr}
 use mathlib.Core.List.{List, [], _++_, append-assoc}
@@ -17,7 +17,7 @@ use Rattle.base.proofs.PartLaws.{length-part, part-part, part-next, part-sets}
 use Rattle.words.specs.Le.{num, le, Bytes}
 use Rattle.words.proofs.LeLaws.{length-le, num-le, le-bytes, num-lt, le-num}
 use Rattle.records.specs.declared.Record.{Record}
-use Rattle.records.specs.Record.{recordBytes, recordAt, noneFrom, Widths}
+use Rattle.records.specs.Record.{recordBytes, recordIn, noneFrom, Widths}
 use Rattle.records.proofs.Laws.{sets-append, part-append, bytes-part, bytes-append}
 
 pub length-record : (r : Record) → length (recordBytes r) ≡ 18
@@ -45,8 +45,8 @@ record-stores v at r e f g =
 
 -- the three loads of the code
 pub record-loads : (v : List ℕ) (at : ℕ) {k j e : ℕ} → k ≡ num (part at 8 v) → j ≡ num (part (at + 8) 8 v) → e ≡ num (part (at + 16) 2 v)
-    → _≡_ {A = Record} (record { keycount = k; journal = j; epoch = e }) (recordAt at v)
-unfolding recordAt
+    → _≡_ {A = Record} (record { keycount = k; journal = j; epoch = e }) (recordIn at v)
+unfolding recordIn
 record-loads v at a b d = rw (a, b, d)
 
 -- the fields' places among the 18 bytes
@@ -71,8 +71,8 @@ field v at r h a n x l e d =
     rw (← part-part a n at 18 (sets v at (recordBytes r)) l, part-sets v at 18 (recordBytes r) (length-record r) h, e) (num-le n x d)
 
 -- a record that was stored is read back
-pub read-stored : (v : List ℕ) (at : ℕ) (r : Record) → Widths r → at + 18 ≤ length v → recordAt at (sets v at (recordBytes r)) ≡ r
-unfolding recordAt
+pub read-stored : (v : List ℕ) (at : ℕ) (r : Record) → Widths r → at + 18 ≤ length v → recordIn at (sets v at (recordBytes r)) ≡ r
+unfolding recordIn
 read-stored v at r w h =
     let first = rw (add-zero at) at (field v at r h 0 8 (r .keycount) (omega arith) (keycount-part r) (w .keycountWidth)) in
     let second = field v at r h 8 8 (r .journal) (omega arith) (journal-part r) (w .journalWidth) in
@@ -86,8 +86,8 @@ cell-lt : (v : List ℕ) (at n : ℕ) → Bytes v → at + n ≤ length v → nu
 cell-lt v at n h room = rw (length-part at n v room) at (num-lt (part at n v) (bytes-part at n v h))
 
 -- what was read is stored as it stood
-pub stored-read : (v : List ℕ) (at : ℕ) → Bytes v → at + 18 ≤ length v → recordBytes (recordAt at v) ≡ part at 18 v
-unfolding recordAt recordBytes
+pub stored-read : (v : List ℕ) (at : ℕ) → Bytes v → at + 18 ≤ length v → recordBytes (recordIn at v) ≡ part at 18 v
+unfolding recordIn recordBytes
 stored-read v at h room =
     rw (
       cell v at 8 h (omega arith),
@@ -98,8 +98,8 @@ stored-read v at h room =
     )
 
 -- what is read is within its widths
-pub read-widths : (v : List ℕ) (at : ℕ) → Bytes v → at + 18 ≤ length v → Widths (recordAt at v)
-unfolding recordAt
+pub read-widths : (v : List ℕ) (at : ℕ) → Bytes v → at + 18 ≤ length v → Widths (recordIn at v)
+unfolding recordIn
 read-widths v at h room = record {
   keycountWidth = cell-lt v at 8 h (omega arith);
   journalWidth = cell-lt v (at + 8) 8 h (omega arith);

@@ -1,61 +1,21 @@
 -- Laws of the rule of a change on one nugget.
-use mathlib.Core.Path.{_≡_, refl, ap, sym, _∙_}
+use mathlib.Core.Path.{_≡_, refl, sym, _∙_}
 use mathlib.Core.Bool.{Bool, true, false}
 use Prim.Native.Nat.{ℕ, _+_, _-_, _^_, _<_, _≤_}
 use native.Mathlib.Nat.{le-refl}
 use native.Mathlib.Omega.{arith}
 use lib.Bits.{bitOr, or-zero-r, or-lt}
-use lib.Dec.{eqb, ltb}
+use lib.Dec.{eqb}
 use borrow.Author.Tests.{eq-eqb, ne-eqb, eqb-true, eqb-false, lt-ltb, ltb-true}
 use Rattle.base.specs.Pick.{pick, both}
-use Rattle.base.proofs.PickLaws.{yes, no, both-left, both-right}
+use Rattle.base.proofs.PickLaws.{both-left, both-right}
 use Rattle.records.specs.declared.Record.{Record}
 use Rattle.records.specs.declared.Way.{Way}
 use Rattle.records.specs.declared.Way.the-variants.{Idle, Add, Rekey}
 use Rattle.records.specs.Journal.{bit, either, union, shareNone}
 use Rattle.records.specs.Record.{noneFrom, epochFits, wellFormed, Widths}
-use Rattle.records.specs.Rule.{wayOf, touchedBy, rekeys, enciphered, keycountAfter, journalAfter, epochAfter, turned, atTop}
+use Rattle.records.specs.Rule.{wayOf, sweepWay, touchedBy, rekeys, enciphered, keycountAfter, journalAfter, epochAfter, turned, atTop}
 use Rattle.records.proofs.BitLaws.{bit-union, bit-empty}
-
--- the way, by its tests
-module _ (r : Record) (t head : ℕ) where
-  pub way-idle : t ≡ 0 → wayOf r t head ≡ Idle
-  unfolding wayOf
-  way-idle e = rw (eq-eqb t 0 e)
-
-  pub way-add : {none : Bool} → (t ≡ 0 → ⊥) → none ≡ shareNone (r .journal) t → none ≡ true → r .epoch ≡ head → wayOf r t head ≡ Add t
-  unfolding wayOf
-  way-add z e n h = rw (ne-eqb t 0 z, ← e, n, eq-eqb (r .epoch) head h)
-
-  pub way-left : {none : Bool} → (t ≡ 0 → ⊥) → none ≡ shareNone (r .journal) t → none ≡ true → (r .epoch ≡ head → ⊥) → wayOf r t head ≡ Rekey t
-  unfolding wayOf
-  way-left z e n h = rw (ne-eqb t 0 z, ← e, n, ne-eqb (r .epoch) head h)
-
-  pub way-shared : {none : Bool} → (t ≡ 0 → ⊥) → none ≡ shareNone (r .journal) t → none ≡ false → wayOf r t head ≡ Rekey t
-  unfolding wayOf
-  way-shared z e n = rw (ne-eqb t 0 z, ← e, n)
-
--- the record afterwards, by the way
-pub turned-idle : (way : Way) (head : ℕ) (r : Record) → way ≡ Idle → r ≡ turned way head r
-unfolding keycountAfter journalAfter epochAfter
-turned-idle way head r e = rw e (λ i. record { keycount = r .keycount; journal = sym (or-zero-r (r .journal)) i; epoch = r .epoch })
-
-pub turned-add : (way : Way) (head : ℕ) (r : Record) (t : ℕ) {j : ℕ} → way ≡ Add t → j ≡ union (r .journal) t
-    → _≡_ {A = Record} (record { keycount = r .keycount; journal = j; epoch = r .epoch }) (turned way head r)
-unfolding keycountAfter journalAfter epochAfter
-turned-add way head r t e d = rw (e, d)
-
-pub turned-rekey : (way : Way) (head : ℕ) (r : Record) (t : ℕ) {j : ℕ} → way ≡ Rekey t → j ≡ union (r .journal) t
-    → _≡_ {A = Record} (record { keycount = r .keycount + 1; journal = j; epoch = head }) (turned way head r)
-unfolding keycountAfter journalAfter epochAfter
-turned-rekey way head r t e d = rw (e, d)
-
--- below its top the keycount has room for one more
-pub room : (way : Way) (r : Record) → rekeys way ≡ true → atTop way r ≡ false → r .keycount < 2 ^ 64 → r .keycount + 1 < 2 ^ 64
-unfolding atTop
-room way r e top h =
-    let d : eqb (r .keycount) (2 ^ 64 - 1) ≡ false = rw e at top in
-    omega (arith, eqb-false (r .keycount) (2 ^ 64 - 1) d)
 
 either-right : (a b : Bool) → b ≡ true → either a b ≡ true
 either-right true b e = refl
@@ -87,7 +47,7 @@ add-fresh r t head u = go (eqb t 0) (shareNone (r .journal) t) (eqb (r .epoch) h
     go false true false p q e = let z : _≡_ {A = ℕ} 0 1 = cc in absurd (omega arith)
     go false false d p q e = let z : _≡_ {A = ℕ} 0 1 = cc in absurd (omega arith)
 
--- a touched flake of the journal, or an epoch left behind, is a rekey; a way of a write has no other touched flakes than T
+-- a write's way touches T
 pub way-touched : (r : Record) (t head : ℕ) → touchedBy (wayOf r t head) ≡ t
 unfolding wayOf
 way-touched r t head = go (eqb t 0) (both (shareNone (r .journal) t) (eqb (r .epoch) head)) refl
@@ -124,6 +84,18 @@ well-formed-after p way head changing r h e =
     rw (lt-ltb (bitOr (r .journal) (touchedBy way)) (2 ^ p) (or-lt p (r .journal) (touchedBy way) j h))
     (epoch-after way head changing r (both-right (noneFrom p (r .journal)) (epochFits head changing (r .epoch)) e))
 
+-- a sweep enciphers the journal afresh and keeps it
+pub sweep-all : (r : Record) → (enciphered sweepWay r ≡ r .journal) × (journalAfter sweepWay r ≡ r .journal)
+unfolding enciphered journalAfter
+sweep-all r = (or-zero-r (r .journal), or-zero-r (r .journal))
+
+-- below its top the keycount has room for one more
+pub room : (way : Way) (r : Record) → rekeys way ≡ true → atTop way r ≡ false → r .keycount < 2 ^ 64 → r .keycount + 1 < 2 ^ 64
+unfolding atTop
+room way r e top h =
+    let d : eqb (r .keycount) (2 ^ 64 - 1) ≡ false = rw e at top in
+    omega (arith, eqb-false (r .keycount) (2 ^ 64 - 1) d)
+
 -- and it is within its widths, below the keycount's top
 pub widths-after : (way : Way) (head : ℕ) (r : Record) → Widths r → touchedBy way < 2 ^ 64 → head < 2 ^ 16 → atTop way r ≡ false → Widths (turned way head r)
 unfolding keycountAfter journalAfter epochAfter
@@ -133,3 +105,36 @@ widths-after (Add u) head r w t h e =
     record { keycountWidth = w .keycountWidth; journalWidth = or-lt 64 (r .journal) u (w .journalWidth) t; epochWidth = w .epochWidth }
 widths-after (Rekey u) head r w t h e =
     record { keycountWidth = room (Rekey u) r refl e (w .keycountWidth); journalWidth = or-lt 64 (r .journal) u (w .journalWidth) t; epochWidth = h }
+
+-- the way, by its tests
+module _ (r : Record) (t head : ℕ) where
+  pub way-idle : t ≡ 0 → wayOf r t head ≡ Idle
+  unfolding wayOf
+  way-idle e = rw (eq-eqb t 0 e)
+
+  pub way-add : {none : Bool} → (t ≡ 0 → ⊥) → none ≡ shareNone (r .journal) t → none ≡ true → r .epoch ≡ head → wayOf r t head ≡ Add t
+  unfolding wayOf
+  way-add z e n h = rw (ne-eqb t 0 z, ← e, n, eq-eqb (r .epoch) head h)
+
+  pub way-left : {none : Bool} → (t ≡ 0 → ⊥) → none ≡ shareNone (r .journal) t → none ≡ true → (r .epoch ≡ head → ⊥) → wayOf r t head ≡ Rekey t
+  unfolding wayOf
+  way-left z e n h = rw (ne-eqb t 0 z, ← e, n, ne-eqb (r .epoch) head h)
+
+  pub way-shared : {none : Bool} → (t ≡ 0 → ⊥) → none ≡ shareNone (r .journal) t → none ≡ false → wayOf r t head ≡ Rekey t
+  unfolding wayOf
+  way-shared z e n = rw (ne-eqb t 0 z, ← e, n)
+
+-- the record afterwards, by the way
+pub turned-idle : (way : Way) (head : ℕ) (r : Record) → way ≡ Idle → r ≡ turned way head r
+unfolding keycountAfter journalAfter epochAfter
+turned-idle way head r e = rw e (λ i. record { keycount = r .keycount; journal = sym (or-zero-r (r .journal)) i; epoch = r .epoch })
+
+pub turned-add : (way : Way) (head : ℕ) (r : Record) (t : ℕ) {j : ℕ} → way ≡ Add t → j ≡ union (r .journal) t
+    → _≡_ {A = Record} (record { keycount = r .keycount; journal = j; epoch = r .epoch }) (turned way head r)
+unfolding keycountAfter journalAfter epochAfter
+turned-add way head r t e d = rw (e, d)
+
+pub turned-rekey : (way : Way) (head : ℕ) (r : Record) (t : ℕ) {j : ℕ} → way ≡ Rekey t → j ≡ union (r .journal) t
+    → _≡_ {A = Record} (record { keycount = r .keycount + 1; journal = j; epoch = head }) (turned way head r)
+unfolding keycountAfter journalAfter epochAfter
+turned-rekey way head r t e d = rw (e, d)

@@ -1,4 +1,4 @@
--- The pads that a change uses: demand 3's listing.
+-- Demand 3: "List every enciphering by nugget, keycount and flake."
 use Prim.Native.Nat.{ℕ, zero, suc}
 use mathlib.Core.Bool.{Bool}
 use mathlib.Core.List.{List, [], _∷_, _++_}
@@ -8,7 +8,7 @@ use Rattle.records.specs.declared.Way.{Way}
 use Rattle.records.specs.Journal.{bit}
 use Rattle.records.specs.Rule.{enciphered, keycountAfter}
 
--- one enciphering: nugget, keycount and flake, and the secret's 32 bytes that were used
+-- one enciphering, with the 32 bytes of the secret that was used
 pub record Entry : Type 0 where
   pub nugget : ℕ
   pub keycount : ℕ

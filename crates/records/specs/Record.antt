@@ -13,9 +13,9 @@ use Rattle.records.specs.Journal.{either}
 unfoldable pub recordBytes : Record → List ℕ
 recordBytes r = le 8 (r .keycount) ++ (le 8 (r .journal) ++ le 2 (r .epoch))
 
--- the record whose 18 bytes stand at a place
-unfoldable pub recordAt : ℕ → List ℕ → Record
-recordAt at v = record { keycount = num (part at 8 v); journal = num (part (at + 8) 8 v); epoch = num (part (at + 16) 2 v) }
+-- the record whose 18 bytes stand at a place of a list
+unfoldable pub recordIn : ℕ → List ℕ → Record
+recordIn at v = record { keycount = num (part at 8 v); journal = num (part (at + 8) 8 v); epoch = num (part (at + 16) 2 v) }
 
 -- "no bit at or above P is set"
 abbrev pub noneFrom : ℕ → ℕ → Bool

@@ -20,12 +20,13 @@ wayOf r t head =
 abbrev pub sweepWay : Way
 sweepWay = Rekey 0
 
--- T
+-- T, "the flakes touched"
 abbrev pub touchedBy : Way → ℕ
 touchedBy Idle = 0
 touchedBy (Add t) = t
 touchedBy (Rekey t) = t
 
+-- "the nugget is rekeyed"
 abbrev pub rekeys : Way → Bool
 rekeys Idle = false
 rekeys (Add t) = false

@@ -6,8 +6,8 @@ ghost use Prim.Native.Nat.{_+_, _≤_};
 ghost use lib.ListN.{length};
 ghost use lib.Seq.{sets};
 ghost use Rattle.records.specs.Journal.{bit, union, shareNone, flakesFrom, allFlakes, present};
-ghost use Rattle.records.specs.Record.{recordBytes, recordAt, noneFrom, epochFits, wellFormed};
-ghost use Rattle.records.specs.Rule.{wayOf, rekeys, enciphered, keycountAfter, turned, atTop};
+ghost use Rattle.records.specs.Record.{recordBytes, recordIn, noneFrom, epochFits, wellFormed};
+ghost use Rattle.records.specs.Rule.{wayOf, rekeys, enciphered, turned, atTop};
 
 pub struct Record {
     pub keycount: u64,
@@ -25,7 +25,7 @@ pub enum Way {
 // The record at `at`.
 pub fn read(vol: &[u8], at: usize) -> Record
     requires { ⌜ at + 18 ≤ length (now vol) ⌝ }
-    ensures { λ r. ⌜ r ≡ recordAt at (now (vol .entry)) ⌝ }
+    ensures { λ r. ⌜ r ≡ recordIn at (now (vol .entry)) ⌝ }
 {
     Record {
         keycount: words::load(vol, at, 8),
@@ -58,21 +58,21 @@ pub fn has(journal: u64, f: u32) -> bool
     }
 }
 
-// The flakes of both.
+// "J with T"
 pub fn join(journal: u64, touched: u64) -> u64
     ensures { λ r. ⌜ r ≡ union journal touched ⌝ }
 {
     journal | touched
 }
 
-// "J and T share none".
+// "J and T share none"
 pub fn share_none(journal: u64, touched: u64) -> bool
     ensures { λ r. ⌜ r ≡ shareNone journal touched ⌝ }
 {
     journal & touched == 0
 }
 
-// All flakes below p; 64 of them fill the word, which no shift makes.
+// All flakes below p. 64 of them fill the word, which no shift makes.
 pub fn all(p: u32) -> u64
     ensures { λ r. ⌜ r ≡ allFlakes p ⌝ }
 {
@@ -124,7 +124,7 @@ fn epoch_fits(own: u16, epoch: u16, changing: bool) -> bool
     }
 }
 
-// "A record is well formed if .."
+// "A record is well formed if no bit at or above P is set and its epoch is .."
 pub fn well_formed(r: Record, p: u32, epoch: u16, changing: bool) -> bool
     ensures { λ ok. ⌜ ok ≡ wellFormed p epoch changing r ⌝ }
 {
@@ -150,6 +150,7 @@ pub fn way_of(r: Record, touched: u64, epoch: u16) -> Way
     Way::Rekey(touched)
 }
 
+// "the nugget is rekeyed"
 pub fn is_rekey(way: Way) -> bool
     ensures { λ r. ⌜ r ≡ rekeys way ⌝ }
 {
@@ -182,7 +183,7 @@ pub fn at_top(way: Way, r: Record) -> bool
     }
 }
 
-// The record afterwards.
+// The record afterwards; the flakes are enciphered under its keycount.
 pub fn turn(way: Way, epoch: u16, r: Record) -> Record
     requires { ⌜ atTop way r ≡ false ⌝ }
     ensures { λ after. ⌜ after ≡ turned way epoch r ⌝ }

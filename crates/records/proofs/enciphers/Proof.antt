@@ -1,4 +1,3 @@
-use mathlib.Core.Path.{refl, _∙_}
 use borrow.Author.Needs.{needs}
 use Rattle.records.specs.Rule.{enciphered}
 use Rattle.records.proofs.enciphers.Statement.{statement}

@@ -2,8 +2,8 @@ use mathlib.Core.Path.{_≡_, sym}
 use Prim.Native.Nat.{_+_}
 use native.Mathlib.Omega.{arith}
 use borrow.Author.Needs.{needs}
-use Rattle.records.specs.Journal.{flakesFrom, allFlakes}
-use Rattle.records.proofs.MaskLaws.{from-none, from-all, from-rest}
+use Rattle.records.specs.Journal.{flakesFrom}
+use Rattle.records.proofs.MaskLaws.{from-empty, from-all, from-rest}
 use Rattle.records.proofs.range.Statement.{statement}
 use Rattle.records.proofs.range.Tie as tie
 
@@ -15,7 +15,7 @@ rest-2 : (c : tie.After-all4) → flakesFrom (c .before .before .before .before 
 rest-2 c = let a = c .before .before .before .before .args in from-rest (a .first) (a .last) (c .all4 .ensures) (c .before .all3 .ensures) (c .before .before .before .if1 .left) (c .before .before .if2 .left)
 
 returns : tie.Need-returns
-returns c = sym (from-none (c .before .args .first) (c .before .args .last) (c .if1 .taken))
+returns c = sym (from-empty (c .before .args .first) (c .before .args .last) (c .if1 .taken))
 
 add-all : tie.Need-add-all
 add-all c = search needs
