@@ -1,12 +1,12 @@
 -- Laws of parts and of runs of stores.
 use mathlib.Core.Path.{_≡_, refl, ap, sym, _∙_}
-use mathlib.Core.List.{List, [], _∷_, _++_, append-assoc}
+use mathlib.Core.List.{List, [], _∷_, _++_, append-assoc, append-nil}
 use Prim.Native.Nat.{ℕ, zero, suc, _+_, _-_, _<_, _≤_, min}
-use native.Mathlib.Nat.{suc-add, zero-add, add-suc}
+use native.Mathlib.Nat.{suc-add, zero-add, add-suc, add-zero}
 use native.Mathlib.Numerals.{add-one}
 use native.Mathlib.Omega.{arith}
 use lib.ListN.{length, getD, take, drop, set, length-append, length-take, length-drop, drop-of-length-le}
-use lib.Seq.{sets, sets-eq, length-sets, take-at, drop-at, drop-drop, length-take-le, take-take, take-set-le, drop-set-lt, getD-take, getD-drop, take-nil, drop-cons}
+use lib.Seq.{sets, sets-eq, length-sets, take-at, drop-at, drop-drop, length-take-le, take-take, take-set-le, drop-set-lt, getD-take, getD-drop, take-nil, take-add, drop-cons}
 use Rattle.base.specs.Lists.{part}
 
 pub length-part : {A : Type 0} (at n : ℕ) (l : List A) → at + n ≤ length l → length (part at n l) ≡ n
@@ -51,6 +51,22 @@ part-sets l at n vs e h =
     let fits : at + length vs ≤ length l = rw e h in
     rw (sets-eq vs l at fits, append-assoc (take at l) vs (drop (at + length vs) l))
     (part-next at n (take at l) vs (drop (at + length vs) l) (length-take-le at l (omega arith)) e)
+
+-- a row is stored piece by piece
+pub sets-append : {A : Type 0} (l : List A) (at : ℕ) (a b : List A) (next : ℕ) → at + length a ≡ next → sets l at (a ++ b) ≡ sets (sets l at a) next b
+sets-append l at [] b next e = rw (← e, add-zero at)
+sets-append l at (x ∷ a) b next e = sets-append (set l at x) (suc at) a b next (omega arith)
+
+-- stores from the first place on, and of the whole
+pub sets-front : {A : Type 0} (l v : List A) → length v ≤ length l → sets l 0 v ≡ v ++ drop (length v) l
+sets-front l v h = sets-eq v l 0 (omega arith) ∙ rw (zero-add (length v))
+
+pub sets-full : {A : Type 0} (l v : List A) → length v ≡ length l → sets l 0 v ≡ v
+sets-full l v e = sets-front l v (omega arith) ∙ rw (drop-of-length-le l {i = length v} (omega arith)) (append-nil v)
+
+-- two parts in a row are one part
+pub part-append : {A : Type 0} (at n m next : ℕ) (l : List A) → at + n ≡ next → part at n l ++ part next m l ≡ part at (n + m) l
+part-append at n m next l e = rw (← e, ← drop-drop n at l) (sym (take-add n m (drop at l)))
 
 -- a loop that stores a list: before a turn the rest is to be stored, after it the rest less one
 pub sets-next : {A : Type 0} (s from : List A) (z : A) (at i : ℕ) → i < length from

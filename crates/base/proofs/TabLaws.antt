@@ -6,7 +6,8 @@ use native.Mathlib.Numerals.{add-one}
 use native.Mathlib.Nat.{add-zero, add-suc, lt-of-lt-of-le, le-refl, le-of-lt}
 use native.Mathlib.Omega.{arith}
 use lib.ListN.{length, getD, take, drop, set, length-append, drop-of-length-le}
-use lib.Seq.{drop-cons, set-at, getD-at, take-at, drop-at, drop-drop, ext-getD}
+use lib.Seq.{drop-cons, set-at, getD-at, take-at, drop-at, drop-drop, sets}
+use Rattle.base.proofs.PartLaws.{sets-append}
 use lib.ListN.{List·getD-append, replicate, replicate-append-replicate}
 use lib.Dec.{ltb}
 use mathlib.Core.Bool.{true, false}
@@ -75,6 +76,12 @@ tab-all f d n m e q h = e ∙ rw (q, drop-of-length-le d h) (append-nil (tab m f
 -- what the turn at n finds there, for a loop in place
 pub tab-next : {A : Type 0} (f : ℕ → A) (d : List A) (n : ℕ) {r : List A} (z : A) → r ≡ tab n f ++ drop n d → n < length d → getD r n z ≡ getD d n z
 tab-next f d n z e h = rw (e, drop-cons d n z h) (getD-at (tab n f) (getD d n z) (drop (suc n) d) z n (length-tab n f))
+
+-- a turn of a loop that stores f 0, f 1, .. from a place on
+pub tab-sets-more : {A : Type 0} (f : ℕ → A) (d : List A) (at i : ℕ) {r : List A} {v : A} → r ≡ sets d at (tab i f) → v ≡ f i
+    → set r (at + i) v ≡ sets d at (tab (i + 1) f)
+unfolding tab
+tab-sets-more f d at i e q = rw (e, q, add-one i) (sym (sets-append d at (tab i f) (f i ∷ []) (at + i) (rw (length-tab i f))))
 
 -- a turn that stores a run of n entries at m
 pub tab-part : {A : Type 0} (f : ℕ → A) (d : List A) (m n : ℕ) {r z : List A} → r ≡ tab m f ++ drop m d → z ≡ tab n (λ j. f (m + j))

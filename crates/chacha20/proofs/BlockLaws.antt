@@ -10,20 +10,9 @@ use lib.Seq.{sets}
 use Rattle.base.specs.Lists.{tab}
 use Rattle.base.proofs.TabLaws.{length-tab}
 use Rattle.base.proofs.PartLaws.{grows}
-use Rattle.words.specs.Le.{le, Bytes, wordsOf}
-use Rattle.words.proofs.LeLaws.{length-le, le-bytes}
-use Rattle.chacha20.specs.ChaCha20.{added, serialised, start, blockFrom, blockOf, twentyRounds}
-use Rattle.chacha20.proofs.Laws.{bytes-append}
-
-pub length-serialised : (w : List ℕ) → length (serialised w) ≡ 4 * length w
-unfolding serialised
-length-serialised [] = refl
-length-serialised (x ∷ w) = length-append (le 4 x) (serialised w) ∙ rw (length-le 4 x, length-serialised w) (omega arith)
-
-pub serialised-bytes : (w : List ℕ) → Bytes (serialised w)
-unfolding serialised
-serialised-bytes [] = λ i. lit< tt
-serialised-bytes (x ∷ w) = bytes-append (le 4 x) (serialised w) (le-bytes 4 x) (serialised-bytes w)
+use Rattle.words.specs.Le.{le, Bytes, wordsOf, serialised}
+use Rattle.words.proofs.LeLaws.{length-le, le-bytes, bytes-append, length-serialised, serialised-bytes}
+use Rattle.chacha20.specs.ChaCha20.{added, start, blockFrom, blockOf, twentyRounds}
 
 -- a word more at the end
 pub serialised-snoc : (w : List ℕ) (x : ℕ) → serialised (w ++ (x ∷ [])) ≡ serialised w ++ le 4 x

@@ -1,4 +1,5 @@
 -- Laws of the keystream, and of laying it over bytes.
+use Rattle.words.proofs.LeLaws.{bytes-append}
 use mathlib.Core.Path.{_≡_, refl, sym, _∙_}
 use mathlib.Core.Logic.{_⊎_, ⊎-elim}
 use mathlib.Core.List.{List, [], _++_, append-assoc, append-nil}
@@ -15,7 +16,6 @@ use Rattle.words.specs.Le.{Bytes}
 use Rattle.words.specs.Xor.{xorl}
 use Rattle.words.proofs.XorLaws.{length-xorl, xorl-append, xorl-front, xorl-back}
 use Rattle.chacha20.specs.ChaCha20.{blockOf, keystream, blocks, encrypted}
-use Rattle.chacha20.proofs.Laws.{bytes-append}
 use Rattle.chacha20.proofs.BlockLaws.{length-block, block-bytes}
 
 module _ (key nonce : List ℕ) (counter : ℕ) where

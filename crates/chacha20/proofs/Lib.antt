@@ -1,4 +1,3 @@
-pub mod Laws
 pub mod RoundLaws
 pub mod BlockLaws
 pub mod KeystreamLaws

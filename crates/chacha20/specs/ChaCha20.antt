@@ -5,7 +5,7 @@ use lib.ListN.{length, getD, set}
 use lib.Bits.{bitXor}
 use Rattle.base.specs.Lists.{tab}
 use Rattle.words.specs.Word.{add32, rotl}
-use Rattle.words.specs.Le.{le, wordsOf}
+use Rattle.words.specs.Le.{le, wordsOf, serialised}
 use Rattle.words.specs.Xor.{xorl}
 use Rattle.chacha20.specs.declared.Quad.{Quad}
 
@@ -57,12 +57,7 @@ start key nonce counter =
 unfoldable pub added : List ℕ → List ℕ → List ℕ
 added w s = tab 16 (λ i. add32 (getD w i 0) (getD s i 0))
 
--- 2.3: "serialize the result by sequencing the words one-by-one in little-endian order"
-unfoldable pub serialised : List ℕ → List ℕ
-serialised [] = []
-serialised (x ∷ w) = le 4 x ++ serialised w
-
--- 2.3: twenty rounds over a start state, and the sum, as bytes
+-- 2.3: twenty rounds over a start state, and the sum; "serialize the result by sequencing the words one-by-one in little-endian order"
 unfoldable pub blockFrom : List ℕ → List ℕ
 blockFrom s = serialised (added (twentyRounds s) s)
 

@@ -3,8 +3,8 @@ use mathlib.Core.Path.{_≡_, refl}
 use mathlib.Core.List.{List, [], _∷_}
 use Prim.Native.Nat.{ℕ}
 use Rattle.base.specs.Lists.{tab}
-use Rattle.words.specs.Le.{num, le, wordsOf}
-use Rattle.chacha20.specs.ChaCha20.{quarter, quarterAt, doubleRound, doubleRounds, start, added, serialised, blockFrom, blockOf}
+use Rattle.words.specs.Le.{num, le, wordsOf, serialised}
+use Rattle.chacha20.specs.ChaCha20.{quarter, quarterAt, doubleRound, doubleRounds, start, added, blockFrom, blockOf}
 
 -- 2.1.1
 pub quarter-vector : quarter 0x11111111 0x01020304 0x9b8d6f43 0x01234567

@@ -5,8 +5,8 @@ ghost use mathlib.Core.List.{List};
 ghost use Prim.Native.Nat.{_+_, _-_, _*_, _<_, _≤_, min};
 ghost use lib.ListN.{length};
 ghost use lib.Seq.{sets};
-ghost use Rattle.chacha20.specs.ChaCha20.{quarter, doubleRound, twentyRounds, added, serialised, start, blockFrom, blockOf, encrypted};
-ghost use Rattle.words.specs.Le.{wordsOf};
+ghost use Rattle.chacha20.specs.ChaCha20.{quarter, doubleRound, twentyRounds, added, start, blockFrom, blockOf, encrypted};
+ghost use Rattle.words.specs.Le.{wordsOf, serialised};
 
 // Four words of a state.
 pub struct Quad {

@@ -10,9 +10,9 @@ use lib.Bits.{bitAnd, bitOr, or-shr, or-mod, and-shr, and-mod}
 use lib.Dec.{eqb, leb}
 use mathlib.Core.Logic.{_⊎_, inl, inr}
 use borrow.Author.Tests.{eqb-true, eq-eqb, leb-true, leb-false, lt-ltb, ltb-true}
-use Rattle.base.specs.Pick.{both}
+use Rattle.base.specs.Pick.{both, either}
 use Rattle.base.proofs.PickLaws.{told}
-use Rattle.records.specs.Journal.{bit, union, shareNone, either}
+use Rattle.records.specs.Journal.{bit, union, shareNone}
 use Rattle.records.specs.Record.{noneFrom}
 
 or-digit : (x y : ℕ) → x < 2 → y < 2 → eqb (bitOr x y) 1 ≡ either (eqb x 1) (eqb y 1)

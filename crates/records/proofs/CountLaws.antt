@@ -7,8 +7,8 @@ use native.Mathlib.Omega.{arith}
 use lib.Pow.{pow-pos, mod-pow-add}
 use lib.Count.{ones, onesIn, ones-cat}
 use lib.Dec.{eqb}
-use Rattle.base.specs.Pick.{pick, both}
-use Rattle.records.specs.Journal.{bit, either, union, shareNone, many, present}
+use Rattle.base.specs.Pick.{pick, both, either}
+use Rattle.records.specs.Journal.{bit, union, shareNone, many, present}
 use Rattle.records.proofs.BitLaws.{bit-union, share-none-bits}
 
 pub many-le : (n : ℕ) (g : ℕ → Bool) → many n g ≤ n

@@ -1,4 +1,3 @@
-pub mod Laws
 pub mod BitLaws
 pub mod MaskLaws
 pub mod CountLaws

@@ -13,12 +13,11 @@ use lib.Pow.{pow-pos, pow-mono}
 use borrow.Author.Tests.{eq-eqb, ne-eqb, lt-ltb, ltb-true, ltb-false}
 use Rattle.base.specs.Lists.{part}
 use Rattle.base.proofs.PickLaws.{told}
-use Rattle.base.proofs.PartLaws.{length-part, part-part, part-next, part-sets}
+use Rattle.base.proofs.PartLaws.{length-part, part-part, part-next, part-sets, sets-append, part-append}
 use Rattle.words.specs.Le.{num, le, Bytes}
-use Rattle.words.proofs.LeLaws.{length-le, num-le, le-bytes, num-lt, le-num}
+use Rattle.words.proofs.LeLaws.{length-le, num-le, le-bytes, num-lt, le-num, bytes-part, bytes-append}
 use Rattle.records.specs.declared.Record.{Record}
 use Rattle.records.specs.Record.{recordBytes, recordIn, noneFrom, Widths}
-use Rattle.records.proofs.Laws.{sets-append, part-append, bytes-part, bytes-append}
 
 pub length-record : (r : Record) → length (recordBytes r) ≡ 18
 unfolding recordBytes

@@ -7,12 +7,12 @@ use native.Mathlib.Omega.{arith}
 use lib.Bits.{bitOr, or-zero-r, or-lt}
 use lib.Dec.{eqb}
 use borrow.Author.Tests.{eq-eqb, ne-eqb, eqb-true, eqb-false, lt-ltb, ltb-true}
-use Rattle.base.specs.Pick.{pick, both}
+use Rattle.base.specs.Pick.{pick, both, either}
 use Rattle.base.proofs.PickLaws.{both-left, both-right}
 use Rattle.records.specs.declared.Record.{Record}
 use Rattle.records.specs.declared.Way.{Way}
 use Rattle.records.specs.declared.Way.the-variants.{Idle, Add, Rekey}
-use Rattle.records.specs.Journal.{bit, either, union, shareNone}
+use Rattle.records.specs.Journal.{bit, union, shareNone}
 use Rattle.records.specs.Record.{noneFrom, epochFits, wellFormed, Widths}
 use Rattle.records.specs.Rule.{wayOf, sweepWay, touchedBy, rekeys, enciphered, keycountAfter, journalAfter, epochAfter, turned, atTop}
 use Rattle.records.proofs.BitLaws.{bit-union, bit-empty}

@@ -1,14 +1,9 @@
 -- Journals as sets of flakes: a flake is in the set if its bit is set.
 use Prim.Native.Nat.{ℕ, zero, suc, _+_, _/_, _%_, _^_}
-use mathlib.Core.Bool.{Bool, true, false}
+use mathlib.Core.Bool.{Bool}
 use lib.Bits.{bitAnd, bitOr}
 use lib.Dec.{eqb, leb, ltb}
 use Rattle.base.specs.Pick.{pick, both}
-
--- at least one of the tests holds
-abbrev pub either : Bool → Bool → Bool
-either true b = true
-either false b = b
 
 -- "Bit f of a journal (lowest first) says that flake f is present."
 unfoldable pub bit : ℕ → ℕ → Bool

@@ -3,11 +3,10 @@ use Prim.Native.Nat.{ℕ, _+_, _^_, _<_}
 use mathlib.Core.Bool.{Bool}
 use mathlib.Core.List.{List, _++_}
 use lib.Dec.{eqb, ltb}
-use Rattle.base.specs.Pick.{both}
+use Rattle.base.specs.Pick.{both, either}
 use Rattle.base.specs.Lists.{part}
 use Rattle.words.specs.Le.{num, le}
 use Rattle.records.specs.declared.Record.{Record}
-use Rattle.records.specs.Journal.{either}
 
 -- the 18 bytes of a record
 unfoldable pub recordBytes : Record → List ℕ

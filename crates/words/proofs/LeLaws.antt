@@ -6,11 +6,11 @@ use native.Mathlib.Nat.{pow-suc, pow-le-pow-right, add-suc, lt-of-lt-of-le}
 use native.Mathlib.Numerals.{add-one}
 use lib.Dec.{lit≤}
 use native.Mathlib.Omega.{arith}
-use lib.ListN.{length, getD, set}
-use lib.Seq.{drop-cons, sets}
+use lib.ListN.{length, getD, set, take, drop, length-append}
+use lib.Seq.{drop-cons, getD-drop, sets}
 use Rattle.base.specs.Lists.{part}
 use Rattle.base.proofs.PartLaws.{part-sets}
-use Rattle.words.specs.Le.{num, le, Bytes}
+use Rattle.words.specs.Le.{num, le, serialised, Bytes}
 
 pub length-le : (k x : ℕ) → length (le k x) ≡ k
 unfolding le
@@ -46,6 +46,32 @@ le-num (b ∷ l) h =
     let low : (b + 256 * num l) % 256 ≡ b = omega arith in
     let high : (b + 256 * num l) / 256 ≡ num l = omega arith in
     rw (low, high, le-num l (λ i. h (suc i)))
+
+-- bytes after bytes, and a part of bytes
+pub bytes-append : (a b : List ℕ) → Bytes a → Bytes b → Bytes (a ++ b)
+bytes-append [] b p q i = q i
+bytes-append (x ∷ a) b p q zero = p zero
+bytes-append (x ∷ a) b p q (suc i) = bytes-append a b (λ j. p (suc j)) q i
+
+bytes-take : (n : ℕ) (l : List ℕ) → Bytes l → Bytes (take n l)
+bytes-take zero l h i = omega arith
+bytes-take (suc n) [] h i = omega arith
+bytes-take (suc n) (x ∷ l) h zero = h zero
+bytes-take (suc n) (x ∷ l) h (suc i) = bytes-take n l (λ j. h (suc j)) i
+
+pub bytes-part : (at n : ℕ) (l : List ℕ) → Bytes l → Bytes (part at n l)
+bytes-part at n l h = bytes-take n (drop at l) (λ i. rw (getD-drop at l i 0) (h (at + i)))
+
+-- words as bytes
+pub length-serialised : (w : List ℕ) → length (serialised w) ≡ 4 * length w
+unfolding serialised
+length-serialised [] = refl
+length-serialised (x ∷ w) = rw (length-append (le 4 x) (serialised w), length-le 4 x, length-serialised w) (omega arith)
+
+pub serialised-bytes : (w : List ℕ) → Bytes (serialised w)
+unfolding serialised
+serialised-bytes [] i = omega arith
+serialised-bytes (x ∷ w) i = bytes-append (le 4 x) (serialised w) (le-bytes 4 x) (serialised-bytes w) i
 
 -- a part of bytes, from its first byte
 pub num-part : (k : ℕ) (l : List ℕ) (at : ℕ) → at < length l → num (part at (suc k) l) ≡ getD l at 0 + 256 * num (part (suc at) k l)

@@ -1,3 +1,4 @@
+use Rattle.words.specs.Le.{serialised}
 use borrow.Author.Needs.{needs}
 use mathlib.Core.Path.{_≡_, refl, _∙_}
 use mathlib.Core.List.{List, _++_}
@@ -6,7 +7,7 @@ use native.Mathlib.Omega.{arith}
 use lib.ListN.{length, getD, drop}
 use Rattle.base.specs.Lists.{tab}
 use Rattle.words.specs.Word.{add32}
-use Rattle.chacha20.specs.ChaCha20.{added, serialised}
+use Rattle.chacha20.specs.ChaCha20.{added}
 use Rattle.chacha20.proofs.BlockLaws.{serialised-more, serialised-all}
 use Rattle.chacha20.proofs.summed.Statement.{statement}
 use Rattle.chacha20.proofs.summed.Tie as tie

@@ -1,3 +1,4 @@
+use Rattle.base.proofs.TabLaws.{tab-sets-more}
 use borrow.Author.Needs.{needs}
 use mathlib.Core.Path.{_≡_, refl}
 use Prim.Native.Nat.{_≤_, _-_, _*_}
@@ -6,7 +7,6 @@ use lib.ListN.{length, length-set}
 use lib.Seq.{sets}
 use Rattle.base.specs.Lists.{part, tab}
 use Rattle.words.specs.Le.{num, wordsOf}
-use Rattle.chacha20.proofs.Laws.{tab-sets-more}
 use Rattle.chacha20.proofs.with_words.Statement.{statement}
 use Rattle.chacha20.proofs.with_words.Tie as tie
 
