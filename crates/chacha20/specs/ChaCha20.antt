@@ -65,7 +65,7 @@ blockFrom s = serialised (added (twentyRounds s) s)
 unfoldable pub blockOf : List ℕ → List ℕ → ℕ → List ℕ
 blockOf key nonce counter = blockFrom (start key nonce counter)
 
--- 2.4: "key_stream = chacha20_block(key, counter+j, nonce)" for j below n; after block 2^32 - 1 comes block 0
+-- 2.4.1: "key_stream = chacha20_block(key, counter+j, nonce)" for j below n; after block 2^32 - 1 comes block 0
 unfoldable pub keystream : List ℕ → List ℕ → ℕ → ℕ → List ℕ
 keystream key nonce counter zero = []
 keystream key nonce counter (suc n) = keystream key nonce counter n ++ blockOf key nonce (add32 counter n)
@@ -74,6 +74,6 @@ keystream key nonce counter (suc n) = keystream key nonce counter n ++ blockOf k
 abbrev pub blocks : ℕ → ℕ
 blocks n = (n + 63) / 64
 
--- 2.4: "the key stream .. is XORed with the plaintext"; of the last block what is left over is dropped
+-- 2.4.1: "encrypted_message += block ^ key_stream"; what the last block has past the end of the text is dropped
 unfoldable pub encrypted : List ℕ → List ℕ → ℕ → List ℕ → List ℕ
 encrypted key nonce counter text = xorl text (keystream key nonce counter (blocks (length text)))
