@@ -1,0 +1,4 @@
+pub mod Compress
+pub mod Hash
+pub mod Stream
+pub mod Vectors
