@@ -6,7 +6,7 @@ use native.Mathlib.Nat.{suc-add, zero-add, add-suc, add-zero}
 use native.Mathlib.Numerals.{add-one}
 use native.Mathlib.Omega.{arith}
 use lib.ListN.{length, getD, take, drop, set, length-append, length-take, length-drop, drop-of-length-le}
-use lib.Seq.{sets, sets-eq, length-sets, take-at, drop-at, drop-drop, length-take-le, take-take, take-set-le, drop-set-lt, getD-take, getD-drop, take-nil, take-add, drop-cons}
+use lib.Seq.{sets, sets-eq, length-sets, take-at, drop-at, drop-drop, length-take-le, take-take, set-comm, take-set-le, drop-set-lt, getD-take, getD-drop, take-nil, take-add, drop-cons}
 use Rattle.base.specs.Lists.{part}
 
 pub length-part : {A : Type 0} (at n : ℕ) (l : List A) → at + n ≤ length l → length (part at n l) ≡ n
@@ -56,6 +56,12 @@ part-sets l at n vs e h =
 pub sets-append : {A : Type 0} (l : List A) (at : ℕ) (a b : List A) (next : ℕ) → at + length a ≡ next → sets l at (a ++ b) ≡ sets (sets l at a) next b
 sets-append l at [] b next e = rw (← e, add-zero at)
 sets-append l at (x ∷ a) b next e = sets-append (set l at x) (suc at) a b next (omega arith)
+
+-- a store behind a run of stores may come first
+pub set-sets : {A : Type 0} (l : List A) (at : ℕ) (vs : List A) (j : ℕ) (v : A) → at + length vs ≤ j → set (sets l at vs) j v ≡ sets (set l j v) at vs
+set-sets l at [] j v h = refl
+set-sets l at (w ∷ vs) j v h =
+    set-sets (set l at w) (suc at) vs j v (omega arith) ∙ ap (λ (z : List _). sets z (suc at) vs) (set-comm l at j w v (λ e. omega arith))
 
 -- stores from the first place on, and of the whole
 pub sets-front : {A : Type 0} (l v : List A) → length v ≤ length l → sets l 0 v ≡ v ++ drop (length v) l

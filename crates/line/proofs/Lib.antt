@@ -1,0 +1,4 @@
+pub mod DecimalLaws
+pub mod PutLaws
+pub mod Outcomes
+pub mod Examples

@@ -1,0 +1,41 @@
+use Rattle.line.proofs.PutLaws.{put-then, put-none, decimal-le}
+use borrow.Author.Needs.{needs}
+use Rattle.line.proofs.put_carried.Statement.{statement}
+use Rattle.line.proofs.put_carried.Tie as tie
+
+enum-told : tie.Need-enum-told
+enum-told c = search needs
+
+enum-known-carried : tie.Need-enum-known-carried
+enum-known-carried c = search needs
+
+put-place-requires : tie.Need-put-place-requires
+put-place-requires c κs = search needs
+
+enum-told-2 : tie.Need-enum-told-2
+enum-told-2 c = search needs
+
+returns : tie.Need-returns
+returns c = rw (c .enum-told .given .1) (put-none _ _)
+
+same-length : tie.Need-same-length
+same-length c = search needs
+
+returns-2 : tie.Need-returns-2
+returns-2 c = rw (c .before .before .before .before .before .carried .given .1) (c .before .before .put-place .ensures)
+
+returns-3 : tie.Need-returns-3
+returns-3 c = rw (c .enum-told2 .given .1) (put-none _ _)
+
+pub put-carried-spec : {M : Type 1} → statement M
+put-carried-spec =
+    tie.close
+    (tie.spec
+    enum-told
+    enum-known-carried
+    put-place-requires
+    enum-told-2
+    returns
+    same-length
+    returns-2
+    returns-3)
