@@ -1,5 +1,5 @@
 -- Laws of the compression's parts: the table's rule, and the chain value word by word.
-use mathlib.Core.Path.{_≡_, refl, ap, sym, _∙_}
+use mathlib.Core.Path.{_≡_, ap, sym, _∙_}
 use mathlib.Core.Bool.{Bool, true}
 use mathlib.Core.List.{List, [], _∷_, _++_}
 use Prim.Native.Nat.{ℕ, zero, suc, _+_, _/_, _%_, _^_, _<_}
@@ -12,9 +12,9 @@ use Rattle.base.specs.Pick.{pick}
 use Rattle.base.specs.Lists.{tab, every}
 use Rattle.base.proofs.PickLaws.{both-left, both-right}
 use Rattle.base.proofs.TabLaws.{length-tab, getD-tab}
-use Rattle.blake2s.specs.Compress.{iv, sigma, vector, xorAt, Order}
+use Rattle.blake2s.specs.Compress.{iv, vector, xorAt, Order}
 
-abbrev small : ℕ → Bool
+abbrev pub small : ℕ → Bool
 small x = ltb x 16
 
 row-order : (s : List ℕ) → every small s ≡ true → Order s
@@ -23,16 +23,12 @@ row-order [] e i = omega arith
 row-order (a ∷ s) e zero = ltb-true a 16 (both-left (small a) (every small s) e)
 row-order (a ∷ s) e (suc i) = row-order s (both-right (small a) (every small s) e) i
 
-table-order : (t : List (List ℕ)) → every (every small) t ≡ true → (r : ℕ) → Order (getD t r [])
+-- every row of a table whose entries are all below 16 names message words
+pub table-order : (t : List (List ℕ)) → every (every small) t ≡ true → (r : ℕ) → Order (getD t r [])
 unfolding every
 table-order [] e r = λ i. omega arith
 table-order (s ∷ t) e zero = row-order s (both-left (every small s) (every (every small) t) e)
 table-order (s ∷ t) e (suc r) = table-order t (both-right (every small s) (every (every small) t) e) r
-
--- every row of SIGMA names message words
-pub sigma-order : (r : ℕ) → Order (getD sigma r [])
-unfolding sigma every
-sigma-order r = table-order sigma refl r
 
 -- a list is its entries
 pub entries : (n : ℕ) (l : List ℕ) → length l ≡ n → tab n (λ i. getD l i 0) ≡ l
