@@ -1,11 +1,9 @@
 // RFC 7693 3.1 and 3.2: the mixing function G and the compression function F.
 ghost use mathlib.Core.Path.{_≡_};
-ghost use mathlib.Core.List.{List, []};
-ghost use Prim.Native.Nat.{ℕ, _+_, _<_};
-ghost use lib.ListN.{getD};
+ghost use Prim.Native.Nat.{_+_, _<_};
 ghost use Rattle.base.specs.Lists.{tab};
 ghost use Rattle.words.specs.Le.{wordsOf};
-ghost use Rattle.blake2s.specs.Compress.{mix, mixAt, at, round, rounds, vector, sigma, joinedAt, Order};
+ghost use Rattle.blake2s.specs.Compress.{mix, mixAt, at, round, rounds, vector, joinedAt, Order};
 ghost use Rattle.blake2s.specs.Compress as F;
 
 pub const IV: [u32; 8] = [
@@ -140,6 +138,7 @@ fn ten_rounds(v: [u32; 16], m: [u32; 16]) -> [u32; 16]
 fn start_vector(h: [u32; 8], t: u64, last: bool) -> [u32; 16]
     ensures { λ r. ⌜ r ≡ vector h t last ⌝ }
 {
+    let k = IV;
     let mut v = [
         h[0],
         h[1],
@@ -149,14 +148,14 @@ fn start_vector(h: [u32; 8], t: u64, last: bool) -> [u32; 16]
         h[5],
         h[6],
         h[7],
-        IV[0],
-        IV[1],
-        IV[2],
-        IV[3],
-        IV[4],
-        IV[5],
-        IV[6],
-        IV[7],
+        k[0],
+        k[1],
+        k[2],
+        k[3],
+        k[4],
+        k[5],
+        k[6],
+        k[7],
     ];
     v[12] = v[12] ^ ((t % 0x1_0000_0000) as u32);
     v[13] = v[13] ^ ((t / 0x1_0000_0000) as u32);
