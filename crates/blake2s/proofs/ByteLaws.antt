@@ -1,7 +1,7 @@
 -- Laws of padded blocks, of the count, and of a chain value's bytes.
-use mathlib.Core.Path.{_≡_, refl, sym, _∙_}
+use mathlib.Core.Path.{_≡_, sym, _∙_}
 use mathlib.Core.Bool.{Bool}
-use mathlib.Core.List.{List, [], _∷_, append-nil}
+use mathlib.Core.List.{List, append-nil}
 use Prim.Native.Nat.{ℕ, zero, suc, _+_, _-_, _*_, _%_, _^_, _<_, _≤_}
 use native.Mathlib.Nat.{zero-add}
 use native.Mathlib.Numerals.{add-one}
@@ -10,10 +10,10 @@ use lib.Pow.{field}
 use lib.ListN.{length, getD, drop, replicate, length-append, length-replicate, drop-of-length-le}
 use lib.Seq.{sets, sets-eq, drop-cons}
 use Rattle.base.proofs.TabLaws.{length-tab}
-use Rattle.words.specs.Le.{le, Bytes}
-use Rattle.words.proofs.LeLaws.{length-le}
+use Rattle.words.specs.Le.{le, serialised}
+use Rattle.words.proofs.LeLaws.{length-serialised}
 use Rattle.blake2s.specs.Compress.{rounds, vector, compress, joinedAt}
-use Rattle.blake2s.specs.Hash.{padded, bytesOf}
+use Rattle.blake2s.specs.Hash.{padded}
 
 drop-replicate : {A : Type 0} (n k : ℕ) (a : A) → drop n (replicate k a) ≡ replicate (k - n) a
 drop-replicate zero k a = let e : k - 0 ≡ k = omega arith in rw e
@@ -45,33 +45,19 @@ pub length-compress : (h m : List ℕ) (t : ℕ) (f : Bool) → length (compress
 unfolding compress
 length-compress h m t f = length-tab 8 (joinedAt h (rounds 10 m (vector h t f)))
 
-pub length-bytesOf : (h : List ℕ) → length (bytesOf h) ≡ 4 * length h
-unfolding bytesOf
-length-bytesOf [] = refl
-length-bytesOf (w ∷ h) = rw (length-append (le 4 w) (bytesOf h), length-le 4 w, length-bytesOf h) (omega arith)
-
-pub bytesOf-bytes : (h : List ℕ) → Bytes (bytesOf h)
-unfolding bytesOf le
-bytesOf-bytes [] i = omega arith
-bytesOf-bytes (w ∷ h) zero = omega arith
-bytesOf-bytes (w ∷ h) (suc zero) = omega arith
-bytesOf-bytes (w ∷ h) (suc (suc zero)) = omega arith
-bytesOf-bytes (w ∷ h) (suc (suc (suc zero))) = omega arith
-bytesOf-bytes (w ∷ h) (suc (suc (suc (suc i)))) = bytesOf-bytes h i
-
 -- a turn of the loop that stores the words: what is left to do
 pub store-more : (h r : List ℕ) (i : ℕ) → i < length h
-    → sets (sets r (4 * i) (le 4 (getD h i 0))) (4 * (i + 1)) (bytesOf (drop (i + 1) h)) ≡ sets r (4 * i) (bytesOf (drop i h))
-unfolding bytesOf le
+    → sets (sets r (4 * i) (le 4 (getD h i 0))) (4 * (i + 1)) (serialised (drop (i + 1) h)) ≡ sets r (4 * i) (serialised (drop i h))
+unfolding serialised le
 store-more h r i l =
     let next : 4 * (i + 1) ≡ suc (suc (suc (suc (4 * i)))) = omega arith in
     rw (drop-cons h i 0 l, next, add-one i)
 
-pub store-all : (h r out : List ℕ) (i : ℕ) → sets r (4 * i) (bytesOf (drop i h)) ≡ sets out 0 (bytesOf h) → length h ≤ i → length out ≡ 4 * length h
-    → r ≡ bytesOf h
-unfolding bytesOf
+pub store-all : (h r out : List ℕ) (i : ℕ) → sets r (4 * i) (serialised (drop i h)) ≡ sets out 0 (serialised h) → length h ≤ i → length out ≡ 4 * length h
+    → r ≡ serialised h
+unfolding serialised
 store-all h r out i e l n =
-    let long : length (bytesOf h) ≡ length out = length-bytesOf h ∙ sym n in
+    let long : length (serialised h) ≡ length out = length-serialised h ∙ sym n in
     rw (drop-of-length-le h l) at e
-    ∙ sets-eq (bytesOf h) out 0 (omega arith)
-    ∙ rw (drop-of-length-le out {i = 0 + length (bytesOf h)} (omega arith)) (append-nil (bytesOf h))
+    ∙ sets-eq (serialised h) out 0 (omega arith)
+    ∙ rw (drop-of-length-le out {i = 0 + length (serialised h)} (omega arith)) (append-nil (serialised h))

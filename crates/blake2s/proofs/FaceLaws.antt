@@ -13,11 +13,12 @@ use borrow.Author.Tests.{ltb-true, ltb-false, le-ltb}
 use Rattle.base.specs.Lists.{fold}
 use Rattle.base.proofs.PickLaws.{told}
 use Rattle.base.proofs.FoldLaws.{fold-append}
-use Rattle.words.specs.Le.{Bytes, wordsOf}
-use Rattle.blake2s.specs.Hash.{padded, keyBlock, block, initial, chained, final, bytesOf, hashed, blake2s}
+use Rattle.words.specs.Le.{Bytes, serialised, wordsOf}
+use Rattle.words.proofs.LeLaws.{length-serialised, serialised-bytes}
+use Rattle.blake2s.specs.Hash.{padded, keyBlock, block, initial, chained, final, hashed, blake2s}
 use Rattle.blake2s.specs.Stream.{emptied, laid, push, absorbed, finished, started, startedKeyed}
 use Rattle.blake2s.specs.declared.State.{State}
-use Rattle.blake2s.proofs.ByteLaws.{length-padded, padded-full, count-mod, length-compress, length-bytesOf, bytesOf-bytes}
+use Rattle.blake2s.proofs.ByteLaws.{length-padded, padded-full, count-mod, length-compress}
 use Rattle.blake2s.proofs.StreamLaws.{emptied-room}
 
 -- pieces join
@@ -120,7 +121,7 @@ finished-is h d s r =
     let short : length (drop (64 * final d) d) ≤ 64 = rw (length-drop (64 * final d) d) (omega (arith, r .long)) in
     let count : (s .count + s .fill) % 2 ^ 64 ≡ length d % 2 ^ 64 = omega (arith, r .long, r .count-is) in
     rw (all, r .rest-is, take-all 64 (drop (64 * final d) d) short, r .chain-is)
-    (ap bytesOf (count-mod (chained (final d) d h) (wordsOf 16 (padded (drop (64 * final d) d))) (s .count + s .fill) (length d) true count))
+    (ap serialised (count-mod (chained (final d) d h) (wordsOf 16 (padded (drop (64 * final d) d))) (s .count + s .fill) (length d) true count))
 
 start-read : Read (initial 0) [] started
 unfolding started chained
@@ -160,17 +161,17 @@ absorbed-keyed-hash key m e =
 -- the hash has 32 bytes
 pub length-hash : (key m : List ℕ) → length (blake2s key m) ≡ 32
 unfolding blake2s hashed
-length-hash key m = length-bytesOf _ ∙ rw (length-compress _ _ _ _)
+length-hash key m = length-serialised _ ∙ rw (length-compress _ _ _ _)
 
 pub hash-bytes : (key m : List ℕ) → Bytes (blake2s key m)
 unfolding blake2s hashed
-hash-bytes key m = bytesOf-bytes _
+hash-bytes key m = serialised-bytes _
 
 -- what `finish` gives has 32 bytes, from any state
 pub length-finished : (s : State) → length (finished s) ≡ 32
 unfolding finished
-length-finished s = length-bytesOf _ ∙ rw (length-compress _ _ _ _)
+length-finished s = length-serialised _ ∙ rw (length-compress _ _ _ _)
 
 pub finished-bytes : (s : State) → Bytes (finished s)
 unfolding finished
-finished-bytes s = bytesOf-bytes _
+finished-bytes s = serialised-bytes _

@@ -15,10 +15,10 @@ use Rattle.base.specs.Lists.{fold, part}
 use Rattle.base.proofs.PickLaws.{yes, told}
 use Rattle.base.proofs.PartLaws.{length-part}
 use Rattle.base.proofs.FoldLaws.{fold-append}
-use Rattle.words.specs.Le.{wordsOf}
+use Rattle.words.specs.Le.{serialised, wordsOf}
 use Rattle.blake2s.specs.Compress.{compress}
 use Rattle.blake2s.proofs.ByteLaws.{count-mod}
-use Rattle.blake2s.specs.Hash.{padded, bytesOf}
+use Rattle.blake2s.specs.Hash.{padded}
 use Rattle.blake2s.specs.Stream.{emptied, laid, push, filled, finished}
 use Rattle.blake2s.specs.declared.State.{State}
 
@@ -82,7 +82,7 @@ turn s u b m i n q some inside h e =
 
 -- the end, step by step
 pub finish-is : (s : State) (n t : ℕ) (p h r : List ℕ) → n ≡ filled s → t ≡ (s .count + n) % 2 ^ 64 → p ≡ padded (take n (s .buffer))
-    → h ≡ compress (s .chain) (wordsOf 16 p) t true → r ≡ bytesOf h → r ≡ finished s
+    → h ≡ compress (s .chain) (wordsOf 16 p) t true → r ≡ serialised h → r ≡ finished s
 unfolding finished
 finish-is s n t p h r en et ep eh er =
     let same : t % 2 ^ 64 ≡ (s .count + n) % 2 ^ 64 = omega arith in

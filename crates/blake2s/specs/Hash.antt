@@ -4,7 +4,7 @@ use mathlib.Core.Bool.{true, false}
 use mathlib.Core.List.{List, [], _∷_, _++_}
 use lib.ListN.{length, replicate}
 use Rattle.base.specs.Lists.{part}
-use Rattle.words.specs.Le.{le, wordsOf}
+use Rattle.words.specs.Le.{serialised, wordsOf}
 use Rattle.blake2s.specs.Compress.{iv, xorAt, compress}
 
 -- "padded with zero bytes" to the 64 bytes of a block
@@ -33,14 +33,9 @@ chained (suc i) d h = compress (chained i d h) (block d i) (64 * suc i) false
 abbrev pub final : List ℕ → ℕ
 final d = (length d + 63) / 64 - 1
 
--- "first "nn" bytes from little-endian word array h[]", which has 32 bytes
-unfoldable pub bytesOf : List ℕ → List ℕ
-bytesOf [] = []
-bytesOf (w ∷ h) = le 4 w ++ bytesOf h
-
--- the hash of the blocks d from h on: "h := F( h, d[dd - 1], ll, TRUE )", or ll + bb with the key block; either is d's length
+-- the "first "nn" bytes from little-endian word array h[]", which has 32, after the blocks d from h on: "h := F( h, d[dd - 1], ll, TRUE )", or ll + bb with the key block; either is d's length
 unfoldable pub hashed : List ℕ → List ℕ → List ℕ
-hashed h d = bytesOf (compress (chained (final d) d h) (block d (final d)) (length d) true)
+hashed h d = serialised (compress (chained (final d) d h) (block d (final d)) (length d) true)
 
 unfoldable pub blake2s : List ℕ → List ℕ → List ℕ
 blake2s key m = hashed (initial (length key)) (keyBlock key ++ m)

@@ -6,9 +6,9 @@ use lib.ListN.{set, take, replicate}
 use lib.Dec.{ltb}
 use Rattle.base.specs.Pick.{pick}
 use Rattle.base.specs.Lists.{fold}
-use Rattle.words.specs.Le.{wordsOf}
+use Rattle.words.specs.Le.{serialised, wordsOf}
 use Rattle.blake2s.specs.Compress.{compress}
-use Rattle.blake2s.specs.Hash.{padded, initial, bytesOf}
+use Rattle.blake2s.specs.Hash.{padded, initial}
 use Rattle.blake2s.specs.declared.State.{State}
 
 -- a full buffer is compressed, with f false; its bytes stay where they are, and none of them counts
@@ -40,7 +40,7 @@ filled s = min (s .fill) 64
 -- the last block: the bytes that count, zeros, f true, and the count of all bytes
 unfoldable pub finished : State → List ℕ
 finished s =
-    bytesOf
+    serialised
     (compress (s .chain) (wordsOf 16 (padded (take (filled s) (s .buffer)))) (s .count + filled s) true)
 
 -- no byte yet, and no key

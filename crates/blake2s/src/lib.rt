@@ -5,7 +5,8 @@ mod rounds;
 ghost use mathlib.Core.Path.{_≡_};
 ghost use Prim.Native.Nat.{_≤_, min};
 ghost use lib.ListN.{length};
-ghost use Rattle.blake2s.specs.Hash.{initial, padded, bytesOf};
+ghost use Rattle.words.specs.Le.{serialised};
+ghost use Rattle.blake2s.specs.Hash.{initial, padded};
 ghost use Rattle.blake2s.specs.Stream.{started, startedKeyed, absorbed, finished};
 
 // A hash under way: the chain value, the block that waits, how many of its bytes count (64 or more: all), and the
@@ -102,7 +103,7 @@ pub fn absorb(s: State, m: &[u8]) -> State
 
 // "first nn bytes from little-endian word array h[]"
 fn bytes_of(h: [u32; 8]) -> [u8; 32]
-    ensures { λ r. ⌜ r ≡ bytesOf h ⌝ }
+    ensures { λ r. ⌜ r ≡ serialised h ⌝ }
 {
     let mut r = [0u8; 32];
     let mut i = 0;

@@ -1,18 +1,17 @@
 use borrow.Author.Needs.{needs}
 use Prim.Native.Nat.{ℕ, _≤_, _-_, _*_, _+_}
 use mathlib.Core.List.{List}
-use Rattle.words.specs.Le.{le}
+use Rattle.words.specs.Le.{le, serialised}
 use mathlib.Core.Path.{_≡_, sym, _∙_, ap}
 use native.Mathlib.Omega.{arith}
 use lib.ListN.{length, getD, drop}
 use lib.Seq.{sets, length-sets}
-use Rattle.blake2s.specs.Hash.{bytesOf}
 use Rattle.blake2s.proofs.ByteLaws.{store-more, store-all}
 use Rattle.blake2s.proofs.bytes_of.Statement.{statement}
 use Rattle.blake2s.proofs.bytes_of.Tie as tie
 
 abbrev Inv-loop : tie.InvT-loop
-Inv-loop h r₀ i₀ r i = (i ≤ 8) × (length r ≡ 32) × (sets r (4 * i) (bytesOf (drop i h)) ≡ sets r₀ 0 (bytesOf h))
+Inv-loop h r₀ i₀ r i = (i ≤ 8) × (length r ≡ 32) × (sets r (4 * i) (serialised (drop i h)) ≡ sets r₀ 0 (serialised h))
 
 abbrev μ-loop : tie.MeasureT-loop
 μ-loop h r₀ i₀ r i = 8 - i
@@ -47,7 +46,7 @@ loop-again c =
     let h = c .before .before .before .before .before .args .t1 in
     let e : c .before .store32 .last .0 ≡ sets (s .r) (4 * s .i) (le 4 (getD h (s .i) 0)) = c .before .store32 .ensures in
     let long : length h ≡ 8 = search needs in
-    (omega arith, ap length e ∙ length-sets (s .r) (4 * s .i) (le 4 (getD h (s .i) 0)) ∙ s .inv .1, ap (λ (z : List ℕ). sets z (4 * (s .i + 1)) (bytesOf (drop (s .i + 1) h))) e ∙ store-more h (s .r) (s .i) (omega arith) ∙ s .inv .2)
+    (omega arith, ap length e ∙ length-sets (s .r) (4 * s .i) (le 4 (getD h (s .i) 0)) ∙ s .inv .1, ap (λ (z : List ℕ). sets z (4 * (s .i + 1)) (serialised (drop (s .i + 1) h))) e ∙ store-more h (s .r) (s .i) (omega arith) ∙ s .inv .2)
 
 returns : tie.Need-returns Inv-loop μ-loop
 returns c =
