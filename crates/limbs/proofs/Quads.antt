@@ -1,0 +1,118 @@
+-- A number of four 32-bit words: from bytes, to limbs, and back to bytes.
+use mathlib.Core.Path.{_≡_, refl, ap, sym, _∙_}
+use mathlib.Core.List.{List, [], _∷_, _++_}
+use Prim.Native.Nat.{ℕ, zero, suc, _+_, _*_, _/_, _%_, _^_, _<_, _≤_}
+use native.Mathlib.Nat.{pow-suc, suc-add, zero-add, add-assoc}
+use native.Mathlib.Omega.{arith}
+use lib.ListN.{length, take, drop, replicate}
+use lib.Seq.{take-add, drop-drop, sets}
+use Rattle.base.specs.Lists.{part}
+use Rattle.base.proofs.PartLaws.{length-part}
+use Rattle.words.specs.Le.{num, le}
+use Rattle.limbs.specs.Limbs.{at, quad, p}
+
+-- the number of joined bytes
+pub num-append : (a b : List ℕ) → num (a ++ b) ≡ num a + 256 ^ length a * num b
+unfolding num
+num-append [] b = omega arith
+num-append (x ∷ a) b = rw (num-append a b, pow-suc 256 (length a)) (omega arith)
+
+-- a part in two pieces
+pub num-split : (l : List ℕ) (from k n : ℕ) → from + k ≤ length l → num (part from (k + n) l) ≡ num (part from k l) + 256 ^ k * num (part (from + k) n l)
+num-split l from k n h =
+    rw (take-add k n (drop from l), num-append (part from k l) (part k n (drop from l)), length-part from k l h, drop-drop k from l)
+
+-- the four words of 16 bytes
+pub quad-num : (l : List ℕ) (from : ℕ) → from + 16 ≤ length l
+    → quad (num (part from 4 l)) (num (part (from + 4) 4 l)) (num (part (from + 8) 4 l)) (num (part (from + 12) 4 l)) ≡ num (part from 16 l)
+unfolding quad
+quad-num l from h =
+    let s1 : num (part from 16 l) ≡ num (part from 4 l) + 2 ^ 32 * num (part (from + 4) 12 l) = num-split l from 4 12 (omega arith) in
+    let s2 : num (part (from + 4) 12 l) ≡ num (part (from + 4) 4 l) + 2 ^ 32 * num (part (from + 8) 8 l) =
+    rw add-assoc at (num-split l (from + 4) 4 8 (omega arith)) in
+    let s3 : num (part (from + 8) 8 l) ≡ num (part (from + 8) 4 l) + 2 ^ 32 * num (part (from + 12) 4 l) =
+    rw add-assoc at (num-split l (from + 8) 4 4 (omega arith)) in
+    sym (s1 ∙ ap (λ (z : ℕ). num (part from 4 l) + 2 ^ 32 * z) (s2 ∙ ap (λ (z : ℕ). num (part (from + 4) 4 l) + 2 ^ 32 * z) s3))
+
+-- words cut into limbs
+pub joined : (a b c d top : ℕ)
+    → at (2 ^ 26) (a % 2 ^ 26) (a / 2 ^ 26 + b % 2 ^ 20 * 2 ^ 6) (b / 2 ^ 20 + c % 2 ^ 14 * 2 ^ 12) (c / 2 ^ 14 + d % 2 ^ 8 * 2 ^ 18) (d / 2 ^ 8 + top)
+    ≡ quad a b c d + 2 ^ 104 * top
+unfolding at quad
+joined a b c d top =
+    let e4 : c / 2 ^ 14 + d % 2 ^ 8 * 2 ^ 18 + 2 ^ 26 * (d / 2 ^ 8 + top) ≡ c / 2 ^ 14 + 2 ^ 18 * d + 2 ^ 26 * top = omega arith in
+    let y3 : ℕ = c + 2 ^ 32 * d in
+    let e3 : b / 2 ^ 20 + c % 2 ^ 14 * 2 ^ 12 + 2 ^ 26 * (c / 2 ^ 14 + 2 ^ 18 * d + 2 ^ 26 * top) ≡ b / 2 ^ 20 + 2 ^ 12 * y3 + 2 ^ 52 * top = omega arith in
+    rw (e4, e3) (above a b y3 top)
+  where
+    above : (a b y top : ℕ)
+        → a % 2 ^ 26 + 2 ^ 26 * (a / 2 ^ 26 + b % 2 ^ 20 * 2 ^ 6 + 2 ^ 26 * (b / 2 ^ 20 + 2 ^ 12 * y + 2 ^ 52 * top)) ≡ a + 2 ^ 32 * (b + 2 ^ 32 * y) + 2 ^ 104 * top
+    above a b y top =
+        let e2 : a / 2 ^ 26 + b % 2 ^ 20 * 2 ^ 6 + 2 ^ 26 * (b / 2 ^ 20 + 2 ^ 12 * y + 2 ^ 52 * top) ≡ a / 2 ^ 26 + 2 ^ 6 * (b + 2 ^ 32 * y) + 2 ^ 78 * top = omega arith in
+        rw e2 (omega arith)
+
+-- limbs joined to words
+pub unpacked : (a b c d e : ℕ)
+    → at (2 ^ 26) a b c d e
+    ≡ quad (a + b % 2 ^ 6 * 2 ^ 26) (b / 2 ^ 6 + c % 2 ^ 12 * 2 ^ 20) (c / 2 ^ 12 + d % 2 ^ 18 * 2 ^ 14) (d / 2 ^ 18 + e % 2 ^ 24 * 2 ^ 8 + 2 ^ 32 * (e / 2 ^ 24))
+unfolding at quad
+unpacked a b c d e =
+    let e4 : d / 2 ^ 18 + e % 2 ^ 24 * 2 ^ 8 + 2 ^ 32 * (e / 2 ^ 24) ≡ d / 2 ^ 18 + 2 ^ 8 * e = omega arith in
+    let y3 : ℕ = d + 2 ^ 26 * e in
+    let e3 : c / 2 ^ 12 + d % 2 ^ 18 * 2 ^ 14 + 2 ^ 32 * (d / 2 ^ 18 + 2 ^ 8 * e) ≡ c / 2 ^ 12 + 2 ^ 14 * y3 = omega arith in
+    rw (e4, e3) (above a b c y3)
+  where
+    above : (a b c y : ℕ)
+        → a + 2 ^ 26 * (b + 2 ^ 26 * (c + 2 ^ 26 * y))
+        ≡ a + b % 2 ^ 6 * 2 ^ 26 + 2 ^ 32 * (b / 2 ^ 6 + c % 2 ^ 12 * 2 ^ 20 + 2 ^ 32 * (c / 2 ^ 12 + 2 ^ 14 * y))
+    above a b c y =
+        let e2 : b / 2 ^ 6 + c % 2 ^ 12 * 2 ^ 20 + 2 ^ 32 * (c / 2 ^ 12 + 2 ^ 14 * y) ≡ b / 2 ^ 6 + 2 ^ 20 * (c + 2 ^ 26 * y) = omega arith in
+        rw e2 (omega arith)
+
+-- the lowest bytes of a number, then the others
+pub le-join : (k n a y : ℕ) → a < 256 ^ k → le (k + n) (a + 256 ^ k * y) ≡ le k a ++ le n y
+unfolding le
+le-join zero n a y h = let z : a + 1 * y ≡ y = omega arith in rw (zero-add n, z)
+le-join (suc k) n a y h =
+    let q : a < 256 ^ k * 256 = rw (pow-suc 256 k) at h in
+    let low : (a + 256 ^ k * 256 * y) % 256 ≡ a % 256 = omega (arith, again (256 ^ k) y) in
+    let high : (a + 256 ^ k * 256 * y) / 256 ≡ a / 256 + 256 ^ k * y = omega (arith, again (256 ^ k) y) in
+    rw (suc-add k n, pow-suc 256 k, low, high, le-join k n (a / 256) y (omega arith))
+  where
+    again : (x y : ℕ) → x * 256 * y ≡ 256 * (x * y)
+    again x y = omega arith
+
+le-none : (d k : ℕ) → le 4 d ++ le 0 k ≡ le 4 d
+unfolding le
+le-none d k = refl
+
+-- the four words' bytes
+pub le-quad : (a b c d k : ℕ) → a < 2 ^ 32 → b < 2 ^ 32 → c < 2 ^ 32 → d < 2 ^ 32
+    → le 16 (quad a b c (d + 2 ^ 32 * k)) ≡ le 4 a ++ (le 4 b ++ (le 4 c ++ le 4 d))
+unfolding quad
+le-quad a b c d k ha hb hc hd =
+    le-join 4 12 a (b + 2 ^ 32 * (c + 2 ^ 32 * (d + 2 ^ 32 * k))) ha
+    ∙ ap (λ (z : List ℕ). le 4 a ++ z)
+    (le-join 4 8 b (c + 2 ^ 32 * (d + 2 ^ 32 * k)) hb
+    ∙ ap (λ (z : List ℕ). le 4 b ++ z) (le-join 4 4 c (d + 2 ^ 32 * k) hc ∙ ap (λ (z : List ℕ). le 4 c ++ z) (le-join 4 0 d k hd ∙ le-none d k)))
+
+four : 2 ^ 32 * 2 ^ 32 * 2 ^ 32 * 2 ^ 32 * 4 ≡ p + 5
+unfolding p
+four = refl
+
+-- a multiple of 2^130 stands above the four words
+quad-more : (C P a b c d k q : ℕ) → C * C * C * C * 4 ≡ P + 5
+    → a + C * (b + C * (c + C * (d + C * k))) + (P + 5) * q ≡ a + C * (b + C * (c + C * (d + C * (k + 4 * q))))
+quad-more C P a b c d k q e = omega (arith, ap (λ (z : ℕ). z * q) e)
+
+pub quad-over : (a b c d k q : ℕ) → quad a b c (d + 2 ^ 32 * k) + (p + 5) * q ≡ quad a b c (d + 2 ^ 32 * (k + 4 * q))
+unfolding quad
+quad-over a b c d k q = quad-more (2 ^ 32) p a b c d k q four
+
+abbrev zeros : List ℕ
+zeros = replicate 16 0
+
+-- four words stored one behind the other
+pub laid : (a b c d : ℕ) → sets (sets (sets (sets zeros 0 (le 4 a)) 4 (le 4 b)) 8 (le 4 c)) 12 (le 4 d) ≡ le 4 a ++ (le 4 b ++ (le 4 c ++ le 4 d))
+unfolding le
+laid a b c d = refl

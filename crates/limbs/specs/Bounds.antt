@@ -1,0 +1,52 @@
+-- What is known of limbs on the way: how large each may be, and what a carry or a product leaves.
+use mathlib.Core.Path.{_≡_}
+use Prim.Native.Nat.{ℕ, _+_, _*_, _^_, _/_, _%_, _<_, _≤_}
+use Rattle.limbs.specs.declared.Limbs.{Limbs}
+use Rattle.limbs.specs.declared.Cut.{Cut}
+use Rattle.limbs.specs.declared.Rippled.{Rippled}
+use Rattle.limbs.specs.declared.Words.{Words}
+use Rattle.limbs.specs.Limbs.{at, value, quad, p}
+
+-- each limb is below m
+pub record Below (m : ℕ) (x : Limbs) : Type 0 where
+  pub b0 : x .l0 < m
+  pub b1 : x .l1 < m
+  pub b2 : x .l2 < m
+  pub b3 : x .l3 < m
+  pub b4 : x .l4 < m
+
+-- the digits of a number below p
+pub record Reduced (x : Limbs) : Type 0 where
+  pub small : Below (2 ^ 26) x
+  pub under : value x < p
+
+-- a limb cut at 26 bits
+pub record Cuts (x : ℕ) (r : Cut) : Type 0 where
+  pub whole : x ≡ r .high * 2 ^ 26 + r .low
+  pub small : r .low < 2 ^ 26
+  pub rest : r .high < 2 ^ 38
+
+-- x added and carried through; p + 5 is 2^130
+pub record Ripples (a : Limbs) (x : ℕ) (r : Rippled) : Type 0 where
+  pub whole : value a + x ≡ value (r .low) + (p + 5) * r .top
+  pub small : Below (2 ^ 26) (r .low)
+  pub rest : r .top < 2 ^ 38
+  pub light : Below (2 ^ 26 + 2 ^ 20) a → x ≤ 5 → r .top ≤ 1
+
+-- a representative of x modulo p whose limbs may be a little too large
+pub record Stands (x : ℕ) (r : Limbs) : Type 0 where
+  pub same : value r % p ≡ x % p
+  pub loose : Below (2 ^ 26 + 2 ^ 20) r
+
+-- exactly x, in digits
+pub record Holds (x : ℕ) (r : Limbs) : Type 0 where
+  pub whole : value r ≡ x
+  pub small : Below (2 ^ 26) r
+
+-- the 32-bit words of the digits, and what is left above
+pub record Worded (x : Limbs) (r : Words) : Type 0 where
+  pub ba : r .a < 2 ^ 32
+  pub bb : r .b < 2 ^ 32
+  pub bc : r .c < 2 ^ 32
+  pub bd : r .d < 2 ^ 32
+  pub whole : value x ≡ quad (r .a) (r .b) (r .c) (r .d + 2 ^ 32 * (x .l4 / 2 ^ 24))

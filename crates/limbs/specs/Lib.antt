@@ -1,0 +1,3 @@
+pub mod Limbs
+pub mod Bounds
+pub mod Turns
