@@ -4,11 +4,12 @@ use mathlib.Core.List.{List, [], _∷_, _++_}
 use Prim.Native.Nat.{ℕ, zero, suc, _+_, _*_, _/_, _%_, _^_, _<_, _≤_}
 use native.Mathlib.Nat.{pow-suc, suc-add, zero-add, add-assoc}
 use native.Mathlib.Omega.{arith}
-use lib.ListN.{length, take, drop, replicate}
+use lib.ListN.{length, getD, take, drop, replicate}
 use lib.Seq.{take-add, drop-drop, sets}
 use Rattle.base.specs.Lists.{part}
 use Rattle.base.proofs.PartLaws.{length-part}
 use Rattle.words.specs.Le.{num, le}
+use Rattle.words.proofs.LeLaws.{num-part}
 use Rattle.limbs.specs.Limbs.{at, quad, p}
 
 -- the number of joined bytes
@@ -21,6 +22,25 @@ num-append (x ∷ a) b = rw (num-append a b, pow-suc 256 (length a)) (omega arit
 pub num-split : (l : List ℕ) (from k n : ℕ) → from + k ≤ length l → num (part from (k + n) l) ≡ num (part from k l) + 256 ^ k * num (part (from + k) n l)
 num-split l from k n h =
     rw (take-add k n (drop from l), num-append (part from k l) (part k n (drop from l)), length-part from k l h, drop-drop k from l)
+
+-- the four bytes of a word
+pub four-num : (l : List ℕ) (k : ℕ) → k + 4 ≤ length l
+    → getD l k 0 + 256 * (getD l (k + 1) 0 + 256 * (getD l (k + 2) 0 + 256 * getD l (k + 3) 0)) ≡ num (part k 4 l)
+unfolding num
+four-num l k h =
+    let e1 : k + 1 ≡ suc k = omega arith in
+    let e2 : k + 2 ≡ suc (suc k) = omega arith in
+    let e3 : k + 3 ≡ suc (suc (suc k)) = omega arith in
+    rw (
+      e1,
+      e2,
+      e3,
+      num-part 3 l k (omega arith),
+      num-part 2 l (suc k) (omega arith),
+      num-part 1 l (suc (suc k)) (omega arith),
+      num-part 0 l (suc (suc (suc k))) (omega arith),
+    )
+    (omega arith)
 
 -- the four words of 16 bytes
 pub quad-num : (l : List ℕ) (from : ℕ) → from + 16 ≤ length l

@@ -2,17 +2,16 @@
 use mathlib.Core.Path.{_≡_, refl, ap, sym, _∙_}
 use mathlib.Core.List.{List, [], _∷_, _++_}
 use Prim.Native.Nat.{ℕ, zero, suc, _+_, _-_, _*_, _%_, _^_, _<_, _≤_}
-use native.Mathlib.Nat.{mul-comm, mul-zero, add-zero, sub-zero, mod-eq-of-lt, mod-lt, sub-eq-zero-of-le}
+use native.Mathlib.Nat.{mul-comm, add-zero, sub-zero, mod-eq-of-lt, mod-lt, sub-eq-zero-of-le}
 use native.Mathlib.Omega.{arith}
 use lib.Dec.{lit<}
-use lib.ListN.{length, take, drop, length-take, length-drop}
-use lib.Seq.{drop-drop, take-all}
+use lib.ListN.{length, take, drop, length-drop}
+use lib.Seq.{drop-drop, take-all, length-take-le}
 use Rattle.base.specs.Lists.{part}
-use Rattle.base.proofs.PartLaws.{length-part}
 use Rattle.words.specs.Le.{num}
 use Rattle.limbs.specs.declared.Limbs.{Limbs}
-use Rattle.limbs.specs.Limbs.{value, limbsOf, p}
-use Rattle.limbs.specs.Bounds.{Below}
+use Rattle.limbs.specs.Limbs.{p}
+use Rattle.limbs.specs.Bounds.{Below, stepBy, stepsBy}
 use Rattle.limbs.specs.Turns.{turn, turns}
 use Rattle.limbs.proofs.Field.{mod-in}
 use Rattle.limbs.proofs.Digits.{wraps}
@@ -32,32 +31,40 @@ unfolding num
 num-one b e = num-append b (1 ∷ []) ∙ rw e
 
 -- one turn, from a number that may not be reduced
-turn-is : (r h t : ℕ) (b : List ℕ) → length b ≡ 16 → t % p ≡ (h + (num b + 2 ^ 104 * 2 ^ 24)) * r % p → t % p ≡ turn r (h % p) b
-unfolding turn
-turn-is r h t b e f = f ∙ mod-in (2 ^ 26) p wraps h (num b + 2 ^ 104 * 2 ^ 24) r ∙ rw (num-one b e, mul-comm r (h % p + (num b + 2 ^ 104 * 2 ^ 24)))
+step-is : (top r h t : ℕ) (b : List ℕ) → t % p ≡ (h + (num b + 2 ^ 104 * top)) * r % p → t % p ≡ stepBy top r (h % p) b
+unfolding stepBy
+step-is top r h t b f = f ∙ mod-in (2 ^ 26) p wraps h (num b + 2 ^ 104 * top) r ∙ rw (mul-comm r (h % p + (num b + 2 ^ 104 * top)))
 
 -- before the first turn
-pub turns-none : (n r a k : ℕ) (m : List ℕ) → a < p → turns (n - 0) r (a % p) (drop (k + 16 * 0) m) ≡ turns n r a (drop k m)
-turns-none n r a k m h = rw (mod-eq-of-lt h, sub-zero n, mul-zero 16, add-zero k)
+pub steps-none : (top n r a : ℕ) (m : List ℕ) → stepsBy top (n - 0) r a (drop (16 * 0) m) ≡ stepsBy top n r a m
+steps-none top n r a m = rw (sub-zero n)
 
 -- the next turn
-pub turns-more : (n i r h t k : ℕ) (m : List ℕ) {T : ℕ} → i < n → k + 16 * n ≤ length m → t % p ≡ (h + (num (part (k + 16 * i) 16 m) + 2 ^ 104 * 2 ^ 24)) * r % p
-    → turns (n - i) r (h % p) (drop (k + 16 * i) m) ≡ T → turns (n - (i + 1)) r (t % p) (drop (k + 16 * (i + 1)) m) ≡ T
-unfolding turns
-turns-more n i r h t k m l room e f =
+pub steps-more : (top n i r h t : ℕ) (m : List ℕ) {T : ℕ} → i < n → t % p ≡ (h + (num (part (16 * i) 16 m) + 2 ^ 104 * top)) * r % p
+    → stepsBy top (n - i) r (h % p) (drop (16 * i) m) ≡ T → stepsBy top (n - (i + 1)) r (t % p) (drop (16 * (i + 1)) m) ≡ T
+unfolding stepsBy
+steps-more top n i r h t m l e f =
     let left : n - i ≡ suc (n - (i + 1)) = omega arith in
-    let from = k + 16 * i in
-    let next : k + 16 * i + 16 ≡ k + 16 * (i + 1) = omega arith in
-    let whole : length (part from 16 m) ≡ 16 = length-part from 16 m (omega arith) in
-    rw (turn-is r h t (part from 16 m) whole e, ← next, ← drop-drop 16 from m) (rw left at f)
+    let next : 16 * i + 16 ≡ 16 * (i + 1) = omega arith in
+    rw (step-is top r h t (part (16 * i) 16 m) e, ← next, ← drop-drop 16 (16 * i) m) (rw left at f)
 
 -- after the last turn
-pub turns-done : (n i r a : ℕ) (m : List ℕ) {T : ℕ} → n ≤ i → turns (n - i) r a m ≡ T → a ≡ T
-unfolding turns
-turns-done n i r a m h e = rw (sub-eq-zero-of-le h) at e
+pub steps-done : (top n i r a : ℕ) (m : List ℕ) {T : ℕ} → n ≤ i → stepsBy top (n - i) r a m ≡ T → a ≡ T
+unfolding stepsBy
+steps-done top n i r a m h e = rw (sub-eq-zero-of-le h) at e
+
+-- with the 1 of whole blocks these are the turns
+steps-turns : (n r a : ℕ) (m : List ℕ) → 16 * n ≤ length m → stepsBy (2 ^ 24) n r a m ≡ turns n r a m
+unfolding stepsBy stepBy turns turn
+steps-turns zero r a m h = refl
+steps-turns (suc n) r a m h =
+    rw (num-one (take 16 m) (length-take-le 16 m (omega arith)))
+    (steps-turns n r (r * (a + (num (take 16 m) + 2 ^ 104 * 2 ^ 24)) % p) (drop 16 m) (rw (length-drop 16 m) (omega arith)))
+
+pub blocks-are : (n r a : ℕ) (m : List ℕ) → a < p → 16 * n ≤ length m → stepsBy (2 ^ 24) n r (a % p) m ≡ turns n r a m
+blocks-are n r a m h l = rw (mod-eq-of-lt h) (steps-turns n r a m l)
 
 -- the turn of a last block that has its 1 already
-pub last-is : (r a t : ℕ) (b : List ℕ) → length b ≡ 16 → t % p ≡ (a + (num (part 0 16 b) + 2 ^ 104 * 0)) * r % p → t % p ≡ r * (a + num b) % p
-last-is r a t b e f =
-    let bare : num (part 0 16 b) + 2 ^ 104 * 0 ≡ num (part 0 16 b) = omega arith in
-    f ∙ rw (bare, take-all 16 b (omega arith), mul-comm r (a + num b))
+pub last-is : (r a : ℕ) (b : List ℕ) → a < p → length b ≡ 16 → stepsBy 0 1 r (a % p) b ≡ r * (a + num b) % p
+unfolding stepsBy stepBy
+last-is r a b h e = rw (mod-eq-of-lt h, take-all 16 b (omega arith), add-zero (num b))

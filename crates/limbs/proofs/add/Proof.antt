@@ -1,8 +1,8 @@
+use borrow.Author.Needs.{needs}
 use native.Mathlib.Omega.{arith}
 use mathlib.Core.Path.{_≡_, refl, ap, sym, _∙_}
 use Prim.Native.Nat.{_^_}
 use Rattle.limbs.proofs.Field.{plus}
-use borrow.Author.Needs.{needs}
 use Rattle.limbs.proofs.add.Statement.{statement}
 use Rattle.limbs.proofs.add.Tie as tie
 use Rattle.limbs.proofs.add.Reads as reads

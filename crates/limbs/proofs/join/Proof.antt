@@ -1,10 +1,16 @@
+use borrow.Author.Needs.{needs}
 use native.Mathlib.Omega.{arith}
 use Rattle.limbs.proofs.Quads.{joined}
-use borrow.Author.Needs.{needs}
 use Rattle.limbs.proofs.join.Statement.{statement}
 use Rattle.limbs.proofs.join.Tie as tie
 use Rattle.limbs.proofs.join.Reads as reads
 use Rattle.limbs.proofs.join.Lts as lts
+
+mul-t9 : tie.Need-mul-t9
+mul-t9 c = search needs
+
+add-t10 : tie.Need-add-t10
+add-t10 c = search needs
 
 mul-t13 : tie.Need-mul-t13
 mul-t13 c = search needs
@@ -18,14 +24,8 @@ mul-t17 c = search needs
 add-t18 : tie.Need-add-t18
 add-t18 c = search needs
 
-mul-t21 : tie.Need-mul-t21
-mul-t21 c = search needs
-
-add-t22 : tie.Need-add-t22
-add-t22 c = search needs
-
-add-t24 : tie.Need-add-t24
-add-t24 c = search needs
+add-t20 : tie.Need-add-t20
+add-t20 c = search needs
 
 returns : tie.Need-returns
 returns c = let a = c .args in
@@ -35,4 +35,4 @@ returns c = let a = c .args in
     }
 
 pub join-spec : {M : Type 1} → statement M
-join-spec = tie.close (tie.spec mul-t13 add-t14 mul-t17 add-t18 mul-t21 add-t22 add-t24 returns)
+join-spec = tie.close (tie.spec mul-t9 add-t10 mul-t13 add-t14 mul-t17 add-t18 add-t20 returns)

@@ -1,23 +1,28 @@
 use borrow.Author.Needs.{needs}
 use mathlib.Core.Path.{_≡_, refl, ap, sym, _∙_}
 use Rattle.limbs.specs.Limbs.{value, limbsOf}
-use Rattle.limbs.proofs.TurnLaws.{wider, last-is}
+use Rattle.limbs.proofs.TurnLaws.{last-is}
 use Rattle.limbs.proofs.last.Statement.{statement}
 use Rattle.limbs.proofs.last.Tie as tie
 use Rattle.limbs.proofs.last.Reads as reads
 use Rattle.limbs.proofs.last.Lts as lts
+use Rattle.limbs.proofs.fives.Reads as fives-reads
 use Rattle.limbs.proofs.freeze.Reads as freeze-reads
-use Rattle.limbs.proofs.turn_at.Reads as turn-at-reads
+use Rattle.limbs.proofs.run.Reads as run-reads
 
-turn-at-requires : tie.Need-turn-at-requires
-turn-at-requires c κs = (wider (c .before .pre .0 .small), search needs, search needs, search needs)
+fives-requires : tie.Need-fives-requires
+fives-requires c κs = search needs
+
+run-requires : tie.Need-run-requires
+run-requires c κs = search needs
 
 freeze-requires : tie.Need-freeze-requires
 freeze-requires c κs = search needs
 
 returns : tie.Need-returns
-returns c = let a = c .before .before .before .args in
-    c .freeze .ensures ∙ ap limbsOf (last-is (value (a .r)) (value (a .a)) (value (c .before .turn-at .result)) (a .b .now) (c .before .before .before .pre .2) (c .before .turn-at .ensures .same))
+returns c = let a = c .before .before .before .before .args in
+    let h = c .before .before .before .before .pre in
+    c .freeze .ensures ∙ ap limbsOf (c .before .run .ensures .same ∙ last-is (value (a .r)) (value (a .a)) (a .b .now) (h .0 .under) (h .2))
 
 pub last-spec : {M : Type 1} → statement M
-last-spec = tie.close (tie.spec turn-at-requires freeze-requires returns)
+last-spec = tie.close (tie.spec fives-requires run-requires freeze-requires returns)

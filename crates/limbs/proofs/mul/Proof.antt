@@ -1,27 +1,15 @@
+use borrow.Author.Needs.{needs}
 use mathlib.Core.Path.{_≡_, refl, ap, sym, _∙_}
 use Prim.Native.Nat.{_^_}
 use Rattle.limbs.specs.Limbs.{p}
 use Rattle.limbs.proofs.Field.{product}
 use Rattle.limbs.proofs.Digits.{wraps}
-use borrow.Author.Needs.{needs}
 use Rattle.limbs.proofs.mul.Statement.{statement}
 use Rattle.limbs.proofs.mul.Tie as tie
 use Rattle.limbs.proofs.mul.Reads as reads
 use Rattle.limbs.proofs.mul.Lts as lts
 use Rattle.limbs.proofs.carry.Reads as carry-reads
 use Rattle.limbs.proofs.dot.Reads as dot-reads
-
-mul-s1 : tie.Need-mul-s1
-mul-s1 c = search needs
-
-mul-s2 : tie.Need-mul-s2
-mul-s2 c = search needs
-
-mul-s3 : tie.Need-mul-s3
-mul-s3 c = search needs
-
-mul-s4 : tie.Need-mul-s4
-mul-s4 c = search needs
 
 dot-requires : tie.Need-dot-requires
 dot-requires c κs = search needs
@@ -44,6 +32,7 @@ carry-requires c κs = search needs
 returns : tie.Need-returns
 returns c = let h = c .before .before .before .before .before .before .args .h in
     let r = c .before .before .before .before .before .before .args .r in
+    let f = c .before .before .before .before .before .before .pre .2 in
     let d0 = c .before .before .before .before .before .dot in
     let d1 = c .before .before .before .before .dot2 in
     let d2 = c .before .before .before .dot3 in
@@ -54,7 +43,8 @@ returns c = let h = c .before .before .before .before .before .before .args .h i
           c .carry .ensures .same
           ∙ product (2 ^ 26) p wraps (h .l0) (h .l1) (h .l2) (h .l3) (h .l4) (r .l0) (r .l1) (r .l2) (r .l3) (r .l4)
           (d0 .result) (d1 .result) (d2 .result) (d3 .result) (d4 .result)
-          (d0 .ensures .0) (d1 .ensures .0) (d2 .ensures .0) (d3 .ensures .0) (d4 .ensures .0);
+          (rw (f .f1, f .f2, f .f3, f .f4) at (d0 .ensures .0)) (rw (f .f2, f .f3, f .f4) at (d1 .ensures .0)) (rw (f .f3, f .f4) at (d2 .ensures .0))
+          (rw (f .f4) at (d3 .ensures .0)) (d4 .ensures .0);
       loose = c .carry .ensures .loose;
     }
 
@@ -62,10 +52,6 @@ pub mul-spec : {M : Type 1} → statement M
 mul-spec =
     tie.close
     (tie.spec
-    mul-s1
-    mul-s2
-    mul-s3
-    mul-s4
     dot-requires
     dot-requires-2
     dot-requires-3

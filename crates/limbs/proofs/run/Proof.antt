@@ -19,7 +19,7 @@ abbrev μ-loop : tie.MeasureT-loop
 μ-loop r v m n top h₀ i₀ h i = n - i
 
 loop-holds : tie.Need-loop-holds Inv-loop μ-loop
-loop-holds c =     let a = c .before .args in
+loop-holds c = let a = c .before .args in
     (omega arith, wider (c .before .pre .0), steps-none (a .top) (a .n) (value (a .r)) (value (a .a) % p) (a .m .now))
 
 mul-turn-at : tie.Need-mul-turn-at Inv-loop μ-loop
@@ -35,16 +35,15 @@ loop-less : tie.Need-loop-less Inv-loop μ-loop
 loop-less c = search needs
 
 loop-again : tie.Need-loop-again Inv-loop μ-loop
-loop-again c =     let a = c .before .before .before .before .args in
-    let t = c .before .before .loop in
-    (
+loop-again c = let a = c .before .before .before .before .args in
+    let t = c .before .before .loop in (
       omega arith,
       c .turn-at .ensures .loose,
       steps-more (a .top) (a .n) (t .i) (value (a .r)) (value (t .h)) (value (c .turn-at .result)) (a .m .now) (c .before .loop-test .taken) (c .turn-at .ensures .same) (t .inv .2),
     )
 
 returns : tie.Need-returns Inv-loop μ-loop
-returns c =     let a = c .before .before .before .args in
+returns c = let a = c .before .before .before .args in
     let t = c .before .loop in
     record {
       same = steps-done (a .top) (a .n) (t .i) (value (a .r)) (value (t .h) % p) (drop (16 * t .i) (a .m .now)) (c .loop-test .left) (t .inv .2);

@@ -12,15 +12,15 @@ use Rattle.limbs.proofs.total.Tie as tie
 use Rattle.limbs.proofs.total.Reads as reads
 use Rattle.limbs.proofs.total.Lts as lts
 use Rattle.limbs.proofs.add.Reads as add-reads
-use Rattle.limbs.proofs.ripple.Reads as ripple-reads
+use Rattle.limbs.proofs.ripple_limbs.Reads as ripple-limbs-reads
 use Rattle.limbs.proofs.unpack.Reads as unpack-reads
 use Rattle.words.proofs.store32.Reads as store32-reads
 
 add-requires : tie.Need-add-requires
-add-requires c κs = (wider (c .pre .0), c .pre .1)
+add-requires c κs = (wider (c .pre .0), search needs)
 
-ripple-requires : tie.Need-ripple-requires
-ripple-requires c κs = search needs
+ripple-limbs-requires : tie.Need-ripple-limbs-requires
+ripple-limbs-requires c κs = search needs
 
 unpack-requires : tie.Need-unpack-requires
 unpack-requires c κs = search needs
@@ -52,18 +52,23 @@ store32-requires-4 c κs = search needs
 returns : tie.Need-returns
 returns c = let w = c .before .before .before .before .before .before .before .before .before .before .before .before .unpack .result in
     let wd = c .before .before .before .before .before .before .before .before .before .before .before .before .unpack .ensures in
-    let t = c .before .before .before .before .before .before .before .before .before .before .before .before .before .ripple in
-    let left = t .result .low .l4 / 2 ^ 24 in
-    let sum = sym (c .before .before .before .before .before .before .before .before .before .before .before .before .before .before .add .ensures .0) ∙ (rw add-zero at (t .ensures .whole)) ∙ ap (λ (z : ℕ). z + (p + 5) * t .result .top) (wd .whole) ∙ quad-over (w .a) (w .b) (w .c) (w .d) left (t .result .top) in
+    let x = c .before .before .before .before .before .before .before .before .before .before .before .before .before .ripple-limbs in
+    let top = x .result .top in
+    let left = x .result .low .l4 / 2 ^ 24 in
+    let sum =
+    sym (c .before .before .before .before .before .before .before .before .before .before .before .before .before .before .add .ensures .0)
+    ∙ (rw add-zero at (x .ensures .whole))
+    ∙ ap (λ (z : ℕ). z + (p + 5) * top) (wd .whole)
+    ∙ quad-over (w .a) (w .b) (w .c) (w .d) left top in
     rw (c .before .store324 .ensures, c .before .before .before .before .store323 .ensures, c .before .before .before .before .before .before .before .store322 .ensures, c .before .before .before .before .before .before .before .before .before .before .store32 .ensures, laid (w .a) (w .b) (w .c) (w .d))
-    (sym (ap (le 16) sum ∙ le-quad (w .a) (w .b) (w .c) (w .d) (left + 4 * t .result .top) (wd .ba) (wd .bb) (wd .bc) (wd .bd)))
+    (sym (ap (le 16) sum ∙ le-quad (w .a) (w .b) (w .c) (w .d) (left + 4 * top) (wd .ba) (wd .bb) (wd .bc) (wd .bd)))
 
 pub total-spec : {M : Type 1} → statement M
 total-spec =
     tie.close
     (tie.spec
     add-requires
-    ripple-requires
+    ripple-limbs-requires
     unpack-requires
     slice-aggregate-store32
     store32-requires

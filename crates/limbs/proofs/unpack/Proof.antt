@@ -1,46 +1,34 @@
+use borrow.Author.Needs.{needs}
 use native.Mathlib.Omega.{arith}
 use Rattle.limbs.proofs.Quads.{unpacked}
-use borrow.Author.Needs.{needs}
 use Rattle.limbs.proofs.unpack.Statement.{statement}
 use Rattle.limbs.proofs.unpack.Tie as tie
 use Rattle.limbs.proofs.unpack.Reads as reads
 use Rattle.limbs.proofs.unpack.Lts as lts
 
-mul-a : tie.Need-mul-a
-mul-a c = search needs
+mul-t3 : tie.Need-mul-t3
+mul-t3 c = search needs
 
-add-a : tie.Need-add-a
-add-a c = search needs
+add-t4 : tie.Need-add-t4
+add-t4 c = search needs
 
-mul-b : tie.Need-mul-b
-mul-b c = search needs
+mul-t7 : tie.Need-mul-t7
+mul-t7 c = search needs
 
-add-b : tie.Need-add-b
-add-b c = search needs
+add-t8 : tie.Need-add-t8
+add-t8 c = search needs
 
-mul-c : tie.Need-mul-c
-mul-c c = search needs
+mul-t11 : tie.Need-mul-t11
+mul-t11 c = search needs
 
-add-c : tie.Need-add-c
-add-c c = search needs
+add-t12 : tie.Need-add-t12
+add-t12 c = search needs
 
-mul-d : tie.Need-mul-d
-mul-d c = search needs
+mul-t15 : tie.Need-mul-t15
+mul-t15 c = search needs
 
-add-d : tie.Need-add-d
-add-d c = search needs
-
-cast-t9 : tie.Need-cast-t9
-cast-t9 c = search needs
-
-cast-t10 : tie.Need-cast-t10
-cast-t10 c = search needs
-
-cast-t11 : tie.Need-cast-t11
-cast-t11 c = search needs
-
-cast-t12 : tie.Need-cast-t12
-cast-t12 c = search needs
+add-t16 : tie.Need-add-t16
+add-t16 c = search needs
 
 returns : tie.Need-returns
 returns c = let x = c .before .before .before .before .before .before .before .before .args .x in
@@ -49,18 +37,4 @@ returns c = let x = c .before .before .before .before .before .before .before .b
 
 pub unpack-spec : {M : Type 1} → statement M
 unpack-spec =
-    tie.close
-    (tie.spec
-    mul-a
-    add-a
-    mul-b
-    add-b
-    mul-c
-    add-c
-    mul-d
-    add-d
-    cast-t9
-    cast-t10
-    cast-t11
-    cast-t12
-    returns)
+    tie.close (tie.spec mul-t3 add-t4 mul-t7 add-t8 mul-t11 add-t12 mul-t15 add-t16 returns)

@@ -1,0 +1,49 @@
+use borrow.Author.Needs.{needs}
+use mathlib.Core.Path.{_≡_, refl, ap, sym, _∙_}
+use Rattle.limbs.proofs.Quads.{four-num}
+use Rattle.limbs.proofs.word.Statement.{statement}
+use Rattle.limbs.proofs.word.Tie as tie
+use Rattle.limbs.proofs.word.Reads as reads
+use Rattle.limbs.proofs.word.Lts as lts
+use Rattle.limbs.proofs.four.Reads as four-reads
+
+shared-slice-read-four : tie.Need-shared-slice-read-four
+shared-slice-read-four c = search needs
+
+add-four : tie.Need-add-four
+add-four c = search needs
+
+shared-slice-read-four-2 : tie.Need-shared-slice-read-four-2
+shared-slice-read-four-2 c = search needs
+
+add-four-2 : tie.Need-add-four-2
+add-four-2 c = search needs
+
+shared-slice-read-four-3 : tie.Need-shared-slice-read-four-3
+shared-slice-read-four-3 c = search needs
+
+add-four-3 : tie.Need-add-four-3
+add-four-3 c = search needs
+
+shared-slice-read-four-4 : tie.Need-shared-slice-read-four-4
+shared-slice-read-four-4 c = search needs
+
+four-requires : tie.Need-four-requires
+four-requires c κs = search needs
+
+returns : tie.Need-returns
+returns c = c .four .ensures ∙ four-num (c .before .before .before .before .before .before .args .m .now) (c .before .before .before .before .before .before .args .at) (c .before .before .before .before .before .before .pre)
+
+pub word-spec : {M : Type 1} → statement M
+word-spec =
+    tie.close
+    (tie.spec
+    shared-slice-read-four
+    add-four
+    shared-slice-read-four-2
+    add-four-2
+    shared-slice-read-four-3
+    add-four-3
+    shared-slice-read-four-4
+    four-requires
+    returns)

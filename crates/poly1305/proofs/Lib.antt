@@ -1,0 +1,4 @@
+pub mod Laws
+pub mod StateLaws
+pub mod Mac
+pub mod Outcomes

@@ -1,0 +1,54 @@
+use borrow.Author.Needs.{needs}
+use mathlib.Core.Path.{_≡_, refl, ap, sym, _∙_}
+use Rattle.limbs.specs.Limbs.{value, limbsOf, quad}
+use Rattle.limbs.proofs.Quads.{quad-num}
+use Rattle.poly1305.proofs.number.Statement.{statement}
+use Rattle.poly1305.proofs.number.Tie as tie
+use Rattle.poly1305.proofs.number.Reads as reads
+use Rattle.poly1305.proofs.number.Lts as lts
+use Rattle.limbs.proofs.pack.Reads as pack-reads
+use Rattle.words.proofs.load32.Reads as load32-reads
+
+load32-requires : tie.Need-load32-requires
+load32-requires c κs = search needs
+
+add-load32 : tie.Need-add-load32
+add-load32 c = search needs
+
+load32-requires-2 : tie.Need-load32-requires-2
+load32-requires-2 c κs = search needs
+
+add-load32-2 : tie.Need-add-load32-2
+add-load32-2 c = search needs
+
+load32-requires-3 : tie.Need-load32-requires-3
+load32-requires-3 c κs = search needs
+
+add-load32-3 : tie.Need-add-load32-3
+add-load32-3 c = search needs
+
+load32-requires-4 : tie.Need-load32-requires-4
+load32-requires-4 c κs = search needs
+
+pack-requires : tie.Need-pack-requires
+pack-requires c κs = search needs
+
+returns : tie.Need-returns
+returns c = let a = c .before .before .before .before .before .before .args in
+    c .pack .ensures
+    ∙ ap limbsOf
+    (rw (c .before .before .before .before .load32 .ensures, c .before .before .before .load322 .ensures, c .before .before .load323 .ensures, c .before .load324 .ensures) (quad-num (a .b .now) (a .at) (c .before .before .before .before .before .before .pre)))
+
+pub number-spec : {M : Type 1} → statement M
+number-spec =
+    tie.close
+    (tie.spec
+    load32-requires
+    add-load32
+    load32-requires-2
+    add-load32-2
+    load32-requires-3
+    add-load32-3
+    load32-requires-4
+    pack-requires
+    returns)
