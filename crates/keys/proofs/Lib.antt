@@ -1,0 +1,7 @@
+pub mod Laws
+pub mod HashLaws
+pub mod KeyLaws
+pub mod PadLaws
+pub mod TagLaws
+pub mod Stretches
+pub mod Outcomes

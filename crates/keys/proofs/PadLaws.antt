@@ -1,0 +1,41 @@
+-- A pad is as long as its flake and is bytes, and laid twice it gives the contents back.
+use mathlib.Core.Path.{_≡_, sym}
+use mathlib.Core.List.{List}
+use Prim.Native.Nat.{ℕ, _≤_}
+use native.Mathlib.Omega.{arith}
+use lib.ListN.{length}
+use lib.Seq.{length-take-le}
+use Rattle.words.specs.Le.{Bytes}
+use Rattle.words.proofs.LeLaws.{bytes-part}
+use Rattle.words.proofs.XorLaws.{length-xorl, xorl-back}
+use Rattle.chacha20.specs.ChaCha20.{keystream, blocks, encrypted}
+use Rattle.chacha20.proofs.KeystreamLaws.{length-keystream, keystream-bytes}
+use Rattle.keys.specs.Pads.{nonceOf, firstBlock, padOf, under}
+use Rattle.keys.proofs.Laws.{xorl-take}
+
+module _ (key : List ℕ) (k f size : ℕ) where
+  -- the keystream reaches as far as the flake
+  reaches : size ≤ length (keystream key (nonceOf k) (firstBlock size f) (blocks size))
+  reaches = rw (length-keystream key (nonceOf k) (firstBlock size f) (blocks size)) (omega arith)
+
+  pub length-pad : length (padOf key k f size) ≡ size
+  unfolding padOf
+  length-pad = length-take-le size (keystream key (nonceOf k) (firstBlock size f) (blocks size)) reaches
+
+  pub pad-bytes : Bytes (padOf key k f size)
+  unfolding padOf
+  pad-bytes =
+      bytes-part 0 size (keystream key (nonceOf k) (firstBlock size f) (blocks size))
+      (keystream-bytes key (nonceOf k) (firstBlock size f) (blocks size))
+
+  pub length-under : (contents : List ℕ) → length (under key k f size contents) ≡ length contents
+  length-under contents = length-xorl contents (padOf key k f size)
+
+  -- what was laid once and is laid again is the contents
+  pub under-back : (contents : List ℕ) → under key k f size (under key k f size contents) ≡ contents
+  under-back contents = xorl-back contents (padOf key k f size)
+
+-- ChaCha20 from the flake's first block on lays the pad
+pub laid : (key : List ℕ) (k f : ℕ) (d : List ℕ) → encrypted key (nonceOf k) (firstBlock (length d) f) d ≡ under key k f (length d) d
+unfolding encrypted padOf
+laid key k f d = sym (xorl-take d (keystream key (nonceOf k) (firstBlock (length d) f) (blocks (length d))) (reaches key k f (length d)))

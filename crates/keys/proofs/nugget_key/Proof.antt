@@ -1,0 +1,35 @@
+use borrow.Author.Needs.{needs}
+use Rattle.words.specs.Le.{le}
+use Rattle.keys.specs.Keys.{nuggetKey}
+use Rattle.keys.proofs.nugget_key.Statement.{statement}
+use Rattle.keys.proofs.nugget_key.Tie as tie
+
+slice-aggregate-store : tie.Need-slice-aggregate-store
+slice-aggregate-store c = search needs
+
+store-requires : tie.Need-store-requires
+store-requires c κs = search needs
+
+slice-aggregate-lettered : tie.Need-slice-aggregate-lettered
+slice-aggregate-lettered c = search needs
+
+slice-aggregate-lettered-2 : tie.Need-slice-aggregate-lettered-2
+slice-aggregate-lettered-2 c = search needs
+
+lettered-requires : tie.Need-lettered-requires
+lettered-requires c κs = search needs
+
+returns : tie.Need-returns
+unfolding nuggetKey le
+returns c = rw (c .lettered .ensures, c .before .before .before .before .store .ensures)
+
+pub nugget-key-spec : {M : Type 1} → statement M
+nugget-key-spec =
+    tie.close
+    (tie.spec
+    slice-aggregate-store
+    store-requires
+    slice-aggregate-lettered
+    slice-aggregate-lettered-2
+    lettered-requires
+    returns)
