@@ -1,0 +1,4 @@
+pub mod Lent
+pub mod Nodes
+pub mod Made
+pub mod Alike

@@ -1,0 +1,73 @@
+-- Records and tags of some nuggets changed: their paths are left to renew.
+use mathlib.Core.Path.{_≡_, sym, _∙_}
+use mathlib.Core.Bool.{true, false}
+use mathlib.Core.Logic.{_⊎_, inl, inr}
+use mathlib.Core.List.{List}
+use Prim.Native.Nat.{ℕ, _+_, _-_, _*_, _<_, _≤_}
+use native.Mathlib.Omega.{arith}
+use lib.Dec.{ltb}
+use borrow.Author.Tests.{ltb-true, ltb-false}
+use Rattle.base.specs.Lists.{part}
+use Rattle.base.proofs.PickLaws.{told}
+use Rattle.layout.specs.Shape.{leaves}
+use Rattle.layout.specs.Parts.{recordAt, tagAt, nodeAt}
+use Rattle.layout.specs.declared.Shape.{Shape}
+use Rattle.layout.proofs.Places.{apart, record-inside}
+use Rattle.nodes.specs.Lent.{Lent}
+use Rattle.nodes.specs.Alike.{Alike}
+use Rattle.nodes.proofs.Bounds.{tags-inside, node-below, node-above}
+use Rattle.nodes.proofs.MadeLaws.{made-alike}
+use Rattle.tree.specs.Good.{AllGood, GoodBut, Beside, Agrees}
+use Rattle.tree.proofs.Laws.{clash, part-equal}
+use Rattle.tree.proofs.UpwardLaws.{path-leaf}
+use Rattle.tree.proofs.RenewLaws.{all-but, but-more}
+
+-- the nuggets of E join those left to renew
+pub changed-but : (s : Shape) (v w : List ℕ) (D E : ℕ → Type 0) → Beside s E v w → GoodBut s D v → GoodBut s (λ m. D m ⊎ E m) w
+changed-but s v w D E x g i a b none =
+    sym (x .nodes i a b) ∙ g i a b (λ m h d. none m h (inl d))
+    ∙ made-alike s v w i (λ h. (x .nodes (2 * i) (omega arith) (omega arith), x .nodes (2 * i + 1) (omega arith) (omega arith))) leaf
+  where
+    leaf : leaves (s .n) ≤ i → i < leaves (s .n) + s .n → Alike s v w (i - leaves (s .n))
+    leaf h k =
+        let m = i - leaves (s .n) in
+        let e : leaves (s .n) + m ≡ i = omega arith in
+        x .others m (omega arith) (λ q. clash (rw e at (path-leaf s m)) (none m (omega arith) (inr q)))
+
+-- a change of the record bytes and tags of nugget n alone
+pub agrees-beside : (s : Shape) (n : ℕ) (v w : List ℕ) → Lent s v → n < s .n → Agrees s n v w → Beside s (λ m. m ≡ n) v w
+agrees-beside s n v w l h x =
+    record {
+      nodes =
+          λ i a b.
+          part-equal (nodeAt s i) 32 v w (x .long) (rw (l .size) (omega (arith, node-below s i b)))
+          (λ j p q. x .elsewhere j (λ c d. omega (arith, node-above s i a, record-inside s n h)) (λ c d. omega (arith, node-above s i a, tags-inside s n h)));
+      others = λ m k ne. other m k ne (told (ltb m n));
+    }
+  where
+    record-alike : (m : ℕ) → m < s .n → (m ≡ n → ⊥) → part (recordAt m) 18 v ≡ part (recordAt m) 18 w
+    record-alike m k ne =
+        part-equal (recordAt m) 18 v w (x .long) (rw (l .size) (omega (arith, record-inside s m k)))
+        (λ j p q. x .elsewhere j (λ c d. omega (arith, ne)) (λ c d. omega (arith, record-inside s m k)))
+
+    tags-alike : (m : ℕ) → m < s .n → (m * s .p + s .p ≤ n * s .p) ⊎ (n * s .p + s .p ≤ m * s .p) → part (tagAt s m 0) (16 * s .p) v ≡ part (tagAt s m 0) (16 * s .p) w
+    tags-alike m k (inl z) =
+        part-equal (tagAt s m 0) (16 * s .p) v w (x .long) (rw (l .size) (omega (arith, tags-inside s m k)))
+        (λ j p q. x .elsewhere j (λ c d. omega (arith, record-inside s n h)) (λ c d. omega (arith, z)))
+    tags-alike m k (inr z) =
+        part-equal (tagAt s m 0) (16 * s .p) v w (x .long) (rw (l .size) (omega (arith, tags-inside s m k)))
+        (λ j p q. x .elsewhere j (λ c d. omega (arith, record-inside s n h)) (λ c d. omega (arith, z)))
+
+    other : (m : ℕ) → m < s .n → (m ≡ n → ⊥) → (ltb m n ≡ true) ⊎ (ltb m n ≡ false) → Alike s v w m
+    other m k ne (inl e) = record { records = record-alike m k ne; tags = tags-alike m k (inl (apart (s .p) m n (ltb-true m n e))) }
+    other m k ne (inr e) =
+        record { records = record-alike m k ne; tags = tags-alike m k (inr (apart (s .p) n m (omega (arith, ne, ltb-false m n e)))) }
+
+-- so in a good tree just its path is left to renew
+pub one-changed : (s : Shape) (n : ℕ) (v w : List ℕ) → Lent s v → n < s .n → Agrees s n v w → AllGood s v → GoodBut s (λ m. m ≡ n) w
+one-changed s n v w l h x g =
+    but-more s w (λ m. ⊥ ⊎ (m ≡ n)) (λ m. m ≡ n) (λ m k d. only d) (changed-but s v w (λ m. ⊥) (λ m. m ≡ n) (agrees-beside s n v w l h x) (all-but s v (λ m. ⊥) g))
+  where
+    only : {m : ℕ} → ⊥ ⊎ (m ≡ n) → m ≡ n
+    only (inl d) = absurd d
+    only (inr e) = e

@@ -1,0 +1,12 @@
+pub mod Laws
+pub mod Heights
+pub mod Steps
+pub mod UpwardLaws
+pub mod PathLaws
+pub mod WorstLaws
+pub mod WholeLaws
+pub mod RenewLaws
+pub mod ChangeLaws
+pub mod BuildLaws
+pub mod FreshLaws
+pub mod Outcomes

@@ -1,0 +1,146 @@
+-- One turn of each loop and of the recursion, by what is left to do.
+use mathlib.Core.Path.{_≡_, refl, sym, ap, _∙_}
+use mathlib.Core.Bool.{Bool, true, false}
+use mathlib.Core.List.{List}
+use Prim.Native.Nat.{ℕ, zero, suc, _+_, _-_, _*_, _/_, _<_, _≤_, max}
+use native.Mathlib.Numerals.{add-one}
+use native.Mathlib.Omega.{arith}
+use borrow.Author.Tests.{le-leb, lt-leb, lt-ltb, le-ltb}
+use Rattle.base.proofs.PickLaws.{yes, no, both-on, both-off}
+use Rattle.layout.specs.Shape.{heightOf, leaves}
+use Rattle.layout.specs.Parts.{recordAt}
+use Rattle.layout.specs.declared.Shape.{Shape}
+use Rattle.answers.specs.declared.Answer.{Answer}
+use Rattle.answers.specs.declared.Answer.the-variants as A
+use Rattle.answers.specs.declared.Place.the-variants as P
+use Rattle.answers.specs.Numbers.{accepts}
+use Rattle.records.specs.Record.{recordIn, wellFormed}
+use Rattle.records.specs.declared.Record.{Record}
+use Rattle.nodes.specs.Made.{goodNode, storeNode}
+use Rattle.tree.specs.Path.{goodRecord, climbed, pathOf}
+use Rattle.tree.specs.Whole.{recordsFrom, nuggetLeaf, badOf, worst, atNode, wholeOf}
+use Rattle.tree.specs.Renewed.{storedUp, storedDown}
+
+module _ (s : Shape) (v : List ℕ) where
+  pub climbed-on : (k i : ℕ) → 0 < k → goodNode s v i ≡ true → climbed s v (k - 1) (i / 2) ≡ climbed s v k i
+  unfolding climbed
+  climbed-on zero i h e = absurd (omega arith)
+  climbed-on (suc k) i h e = let q : suc k - 1 ≡ k = omega arith in sym (yes _ e (ap (λ (x : ℕ). climbed s v x (i / 2)) (sym q)))
+
+  pub climbed-off : (k i : ℕ) → 0 < k → goodNode s v i ≡ false → A.Altered (P.Node i) ≡ climbed s v k i
+  unfolding climbed
+  climbed-off zero i h e = absurd (omega arith)
+  climbed-off (suc k) i h e = sym (no _ e refl)
+
+  pub climbed-end : (k i : ℕ) → k ≤ 0 → A.Accepted ≡ climbed s v k i
+  unfolding climbed
+  climbed-end zero i h = refl
+  climbed-end (suc k) i h = absurd (omega arith)
+
+  pub worst-on : (h i : ℕ) → 0 < h → max (badOf s v i) (max (worst s v (h - 1) (2 * i)) (worst s v (h - 1) (2 * i + 1))) ≡ worst s v h i
+  unfolding worst
+  worst-on zero i l = absurd (omega arith)
+  worst-on (suc h) i l = let q : suc h - 1 ≡ h = omega arith in rw q
+
+  pub worst-is : (h i : ℕ) {b l r m t : ℕ} → 0 < h → b ≡ badOf s v i → l ≡ worst s v (h - 1) (2 * i) → r ≡ worst s v (h - 1) (2 * i + 1) → m ≡ max l r
+      → t ≡ max b m → t ≡ worst s v h i
+  worst-is h i p eb el er em et = rw (et, em, er, el, eb) (worst-on h i p)
+
+  pub worst-end : (h i : ℕ) → h ≡ 0 → badOf s v i ≡ worst s v h i
+  unfolding worst
+  worst-end h i e = rw e
+
+  pub storedUp-on : (k i : ℕ) → 0 < k → storedUp s (k - 1) (i / 2) (storeNode s i v) ≡ storedUp s k i v
+  unfolding storedUp
+  storedUp-on zero i h = absurd (omega arith)
+  storedUp-on (suc k) i h = let q : suc k - 1 ≡ k = omega arith in rw q
+
+  pub storedUp-end : (k i : ℕ) → k ≤ 0 → v ≡ storedUp s k i v
+  unfolding storedUp
+  storedUp-end zero i h = refl
+  storedUp-end (suc k) i h = absurd (omega arith)
+
+  pub storedDown-on : (k : ℕ) → 0 < k → storedDown s (k - 1) (storeNode s k v) ≡ storedDown s k v
+  unfolding storedDown
+  storedDown-on zero h = absurd (omega arith)
+  storedDown-on (suc k) h = let q : suc k - 1 ≡ k = omega arith in rw q
+
+  pub storedDown-end : (k : ℕ) → k ≤ 0 → v ≡ storedDown s k v
+  unfolding storedDown
+  storedDown-end zero h = refl
+  storedDown-end (suc k) h = absurd (omega arith)
+
+-- is node i the leaf of a nugget
+module _ (s : Shape) (i : ℕ) where
+  pub nugget-yes : leaves (s .n) ≤ i → i < leaves (s .n) + s .n → nuggetLeaf s i ≡ true
+  unfolding nuggetLeaf
+  nugget-yes a b = both-on (le-leb _ _ a) (lt-ltb _ _ b)
+
+  pub nugget-below : i < leaves (s .n) → nuggetLeaf s i ≡ false
+  unfolding nuggetLeaf
+  nugget-below a = both-off _ (lt-leb _ _ a)
+
+  pub nugget-above : leaves (s .n) + s .n ≤ i → nuggetLeaf s i ≡ false
+  unfolding nuggetLeaf
+  nugget-above a = both-on (le-leb (leaves (s .n)) i (omega arith)) (le-ltb _ _ a)
+
+module _ (s : Shape) (v : List ℕ) (i : ℕ) where
+  pub bad-nugget : nuggetLeaf s i ≡ true → 0 ≡ badOf s v i
+  unfolding badOf
+  bad-nugget a = sym (yes _ a refl)
+
+  pub bad-good : nuggetLeaf s i ≡ false → goodNode s v i ≡ true → 0 ≡ badOf s v i
+  unfolding badOf
+  bad-good a e = sym (no _ a (yes _ e refl))
+
+  pub bad-bad : nuggetLeaf s i ≡ false → goodNode s v i ≡ false → i ≡ badOf s v i
+  unfolding badOf
+  bad-bad a e = sym (no _ a (no _ e refl))
+
+module _ (s : Shape) (epoch : ℕ) (changing : Bool) (v : List ℕ) where
+  pub record-on : (n : ℕ) {at l : ℕ} {r : Record} {ok : Bool} → at ≡ recordAt n → r ≡ recordIn at v → wellFormed (s .p) epoch changing r ≡ true → l ≡ leaves (s .n)
+      → ok ≡ goodNode s v (l + n) → ok ≡ goodRecord s epoch changing v n
+  unfolding goodRecord
+  record-on n ea er ew el eo = rw (eo, el) (sym (both-on (rw (er, ea) at ew) refl))
+
+  pub record-off : (n : ℕ) {at : ℕ} {r : Record} → at ≡ recordAt n → r ≡ recordIn at v → wellFormed (s .p) epoch changing r ≡ false
+      → false ≡ goodRecord s epoch changing v n
+  unfolding goodRecord
+  record-off n ea er ew = sym (both-off _ (rw (er, ea) at ew))
+
+  recordsFrom-suc : (k m n : ℕ) → k ≡ suc m → goodRecord s epoch changing v n ≡ true → recordsFrom s epoch changing v m (n + 1) ≡ recordsFrom s epoch changing v k n
+  unfolding recordsFrom
+  recordsFrom-suc k m n q e = rw (q, add-one n) (sym (yes _ e refl))
+
+  pub recordsFrom-on : (n : ℕ) → n < s .n → goodRecord s epoch changing v n ≡ true
+      → recordsFrom s epoch changing v (s .n - (n + 1)) (n + 1) ≡ recordsFrom s epoch changing v (s .n - n) n
+  recordsFrom-on n h e = recordsFrom-suc (s .n - n) (s .n - (n + 1)) n (omega arith) e
+
+  recordsFrom-no : (k m n : ℕ) → k ≡ suc m → goodRecord s epoch changing v n ≡ false → A.Altered (P.Record n) ≡ recordsFrom s epoch changing v k n
+  unfolding recordsFrom
+  recordsFrom-no k m n q e = rw q (sym (no _ e refl))
+
+  pub recordsFrom-off : (n : ℕ) → n < s .n → goodRecord s epoch changing v n ≡ false → A.Altered (P.Record n) ≡ recordsFrom s epoch changing v (s .n - n) n
+  recordsFrom-off n h e = recordsFrom-no (s .n - n) (s .n - (n + 1)) n (omega arith) e
+
+  pub recordsFrom-end : (n : ℕ) → s .n ≤ n → A.Accepted ≡ recordsFrom s epoch changing v (s .n - n) n
+  unfolding recordsFrom
+  recordsFrom-end n h = let q : s .n - n ≡ 0 = omega arith in rw q
+
+  pub path-on : (n : ℕ) {h l : ℕ} {r : Answer} → goodRecord s epoch changing v n ≡ true → h ≡ heightOf (s .n) → l ≡ leaves (s .n) → r ≡ climbed s v h ((l + n) / 2)
+      → r ≡ pathOf s epoch changing v n
+  unfolding pathOf
+  path-on n e eh el er = rw (er, eh, el) (sym (yes _ e refl))
+
+  pub path-off : (n : ℕ) → goodRecord s epoch changing v n ≡ false → A.Altered (P.Record n) ≡ pathOf s epoch changing v n
+  unfolding pathOf
+  path-off n e = sym (no _ e refl)
+
+  pub whole-on : {a r : Answer} {h w : ℕ} → a ≡ recordsFrom s epoch changing v (s .n) 0 → accepts a ≡ true → h ≡ heightOf (s .n) → w ≡ worst s v h 1 → r ≡ atNode w
+      → r ≡ wholeOf s epoch changing v
+  unfolding wholeOf
+  whole-on ea e eh ew er = rw (er, ew, eh) (sym (yes _ (rw ea at e) refl))
+
+  pub whole-off : {a : Answer} → a ≡ recordsFrom s epoch changing v (s .n) 0 → accepts a ≡ false → a ≡ wholeOf s epoch changing v
+  unfolding wholeOf
+  whole-off ea e = ea ∙ sym (no _ (rw ea at e) refl)

@@ -1,0 +1,41 @@
+-- Trees that are as they have to be, whole or but for the paths of some nuggets.
+use mathlib.Core.Path.{_≡_}
+use mathlib.Core.Bool.{Bool, false}
+use mathlib.Core.List.{List}
+use Prim.Native.Nat.{ℕ, zero, suc, _+_, _*_, _/_, _<_, _≤_}
+use lib.Dec.{eqb}
+use Rattle.base.specs.Pick.{either}
+use lib.ListN.{length, getD}
+use Rattle.layout.specs.Shape.{heightOf, leaves}
+use Rattle.layout.specs.declared.Shape.{Shape}
+use Rattle.layout.specs.Parts.{recordAt, tagAt}
+use Rattle.nodes.specs.Nodes.{nodeIn}
+use Rattle.nodes.specs.Alike.{Alike}
+use Rattle.nodes.specs.Made.{Good}
+
+-- "nodes 1 to 2L - 1", each what it has to be
+abbrev pub AllGood : Shape → List ℕ → Type 0
+AllGood s v = (i : ℕ) → 1 ≤ i → i < 2 * leaves (s .n) → Good s v i
+
+-- node i is node j, or one of those above it, k in all
+unfoldable pub upward : ℕ → ℕ → ℕ → Bool
+upward zero j i = false
+upward (suc k) j i = either (eqb j i) (upward k (j / 2) i)
+
+-- node i is the leaf of nugget n, or stands above it
+unfoldable pub onPath : Shape → ℕ → ℕ → Bool
+onPath s n i = upward (suc (heightOf (s .n))) (leaves (s .n) + n) i
+
+-- every node is good that is on no path of a nugget in D
+abbrev pub GoodBut : Shape → (ℕ → Type 0) → List ℕ → Type 0
+GoodBut s D v = (i : ℕ) → 1 ≤ i → i < 2 * leaves (s .n) → ((n : ℕ) → n < s .n → D n → onPath s n i ≡ false) → Good s v i
+
+-- the volumes differ in no node, and in the record and tags of nuggets in E alone; the head and the flakes aren't looked at
+pub record Beside (s : Shape) (E : ℕ → Type 0) (v w : List ℕ) : Type 0 where
+  pub nodes : (i : ℕ) → 1 ≤ i → i < 2 * leaves (s .n) → nodeIn s v i ≡ nodeIn s w i
+  pub others : (m : ℕ) → m < s .n → (E m → ⊥) → Alike s v w m
+
+-- the volumes differ in no byte outside the record and the tags of nugget n
+pub record Agrees (s : Shape) (n : ℕ) (v w : List ℕ) : Type 0 where
+  pub long : length w ≡ length v
+  pub elsewhere : (j : ℕ) → (recordAt n ≤ j → j < recordAt n + 18 → ⊥) → (tagAt s n 0 ≤ j → j < tagAt s n 0 + 16 * s .p → ⊥) → getD v j 0 ≡ getD w j 0

@@ -1,0 +1,5 @@
+pub mod Path
+pub mod Whole
+pub mod Fresh
+pub mod Renewed
+pub mod Good

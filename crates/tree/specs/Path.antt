@@ -1,0 +1,35 @@
+-- Document 01, *Path*: "record n if ill formed or its leaf isn't node L + n; then node i, from its parent up, that isn't made of its two."
+use mathlib.Core.Bool.{Bool}
+use mathlib.Core.List.{List}
+use Prim.Native.Nat.{ℕ, zero, suc, _+_, _*_, _/_, _^_, _<_, _≤_}
+use Rattle.base.specs.Pick.{pick, both}
+use Rattle.layout.specs.Shape.{heightOf, leaves}
+use Rattle.layout.specs.Parts.{recordAt}
+use Rattle.layout.specs.declared.Shape.{Shape}
+use Rattle.answers.specs.declared.Answer.{Answer}
+use Rattle.answers.specs.declared.Answer.the-variants as A
+use Rattle.answers.specs.declared.Place.the-variants as P
+use Rattle.records.specs.Record.{recordIn, wellFormed}
+use Rattle.nodes.specs.Made.{goodNode}
+
+-- record n is well formed, under the head's epoch and state
+abbrev pub formed : Shape → ℕ → Bool → List ℕ → ℕ → Bool
+formed s epoch changing v n = wellFormed (s .p) epoch changing (recordIn (recordAt n) v)
+
+-- and its leaf is node L + n
+unfoldable pub goodRecord : Shape → ℕ → Bool → List ℕ → ℕ → Bool
+goodRecord s epoch changing v n = both (formed s epoch changing v n) (goodNode s v (leaves (s .n) + n))
+
+-- "then node i, from its parent up": node i and those above it, k in all
+unfoldable pub climbed : Shape → List ℕ → ℕ → ℕ → Answer
+climbed s v zero i = A.Accepted
+climbed s v (suc k) i = pick (goodNode s v i) (climbed s v k (i / 2)) (A.Altered (P.Node i))
+
+unfoldable pub pathOf : Shape → ℕ → Bool → List ℕ → ℕ → Answer
+pathOf s epoch changing v n =
+    pick (goodRecord s epoch changing v n) (climbed s v (heightOf (s .n)) ((leaves (s .n) + n) / 2)) (A.Altered (P.Record n))
+
+-- node i and those above it, up to node 1, are k nodes
+pub record Rises (k i : ℕ) : Type 0 where
+  pub reaches : 2 ^ k ≤ 2 * i + 1
+  pub ends : i < 2 ^ k
