@@ -1,0 +1,26 @@
+use Rattle.drive.specs.Head.{frontIn}
+use mathlib.Core.Path.{_≡_, refl, sym, _∙_, ap}
+use borrow.Author.Needs.{needs}
+use Rattle.drive.proofs.front.Statement.{statement}
+use Rattle.drive.proofs.front.Tie as tie
+
+check-in-requires : tie.Need-check-in-requires
+check-in-requires c κs = search needs
+
+state-byte-requires : tie.Need-state-byte-requires
+state-byte-requires c κs = search needs
+
+numbers-of-requires : tie.Need-numbers-of-requires
+numbers-of-requires c κs = search needs
+
+front-of-requires : tie.Need-front-of-requires
+front-of-requires c κs = search needs
+
+returns : tie.Need-returns
+unfolding frontIn
+returns c = c .front-of .ensures ∙ rw (c .before .numbers-of .ensures, c .before .before .state-byte .ensures, c .before .before .before .before .check-in .ensures)
+
+pub front-spec : {M : Type 1} → statement M
+front-spec =
+    tie.close
+    (tie.spec check-in-requires state-byte-requires numbers-of-requires front-of-requires returns)

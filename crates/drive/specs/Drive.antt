@@ -1,0 +1,36 @@
+-- Document 01: "The open drive is one record that the calls change where it stands".
+use Prim.Native.Nat.{ℕ}
+use mathlib.Core.Bool.{Bool, true, false}
+use mathlib.Core.List.{List}
+use lib.ListN.{replicate}
+use Rattle.layout.specs.declared.Shape.{Shape}
+use Rattle.layout.specs.Shape.{shape}
+use Rattle.drive.specs.declared.Drive.{Drive}
+use Rattle.drive.specs.declared.State.{State}
+use Rattle.drive.specs.declared.State.the-variants.{Steady, Changing}
+
+abbrev pub shapeOf : Drive → Shape
+shapeOf d = shape (d .n) (d .p) (d .f)
+
+abbrev pub isChanging : State → Bool
+isChanging Steady = false
+isChanging (Changing left) = true
+
+abbrev pub zeros : ℕ → List ℕ
+zeros n = replicate n 0
+
+-- "the blank drive: every field zero, steady"
+unfoldable pub blankDrive : Drive
+blankDrive =
+    record {
+      n = 0;
+      p = 0;
+      f = 0;
+      salt = zeros 16;
+      state = Steady;
+      epoch = 0;
+      counter = 0;
+      node = zeros 32;
+      present = zeros 32;
+      old = zeros 32;
+    }

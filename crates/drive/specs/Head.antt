@@ -1,0 +1,41 @@
+-- Document 01, the row of the head: "0-2 `NGT`; 3-4 version 1; 5 state (0 steady, 1 changing); 6-7 epoch; 8-11 N; 12-13 P;
+-- 14-15 F; 16-31 salt; 32-39 counter; 40-71 old-secret check (zeros when steady); 72-103 seal".
+use Prim.Native.Nat.{ℕ}
+use mathlib.Core.List.{List, [], _∷_, _++_}
+use Rattle.words.specs.Le.{le}
+use Rattle.keys.specs.Keys.{checkOf, sealOf}
+use Rattle.drive.specs.declared.Drive.{Drive}
+use Rattle.drive.specs.declared.State.{State}
+use Rattle.drive.specs.declared.State.the-variants.{Steady, Changing}
+use Rattle.drive.specs.Drive.{zeros}
+
+-- "`NGT`"
+abbrev pub mark : List ℕ
+mark = 78 ∷ 71 ∷ 84 ∷ []
+
+abbrev pub version : ℕ
+version = 1
+
+abbrev pub stateByte : State → ℕ
+stateByte Steady = 0
+stateByte (Changing left) = 1
+
+-- bytes 0 to 15
+unfoldable pub numbersOf : ℕ → ℕ → ℕ → ℕ → ℕ → List ℕ
+numbersOf n p f state epoch = mark ++ (le 2 version ++ (le 1 state ++ (le 2 epoch ++ (le 4 n ++ (le 2 p ++ le 2 f)))))
+
+-- "old-secret check (zeros when steady)": the check that a state holds
+abbrev pub checkFor : State → List ℕ → List ℕ → ℕ → List ℕ
+checkFor Steady old salt epoch = zeros 32
+checkFor (Changing left) old salt epoch = checkOf old salt epoch
+
+abbrev pub checkIn : Drive → List ℕ
+checkIn d = checkFor (d .state) (d .old) (d .salt) (d .epoch)
+
+-- bytes 0 to 71
+unfoldable pub frontIn : Drive → List ℕ
+frontIn d = numbersOf (d .n) (d .p) (d .f) (stateByte (d .state)) (d .epoch) ++ (d .salt ++ (le 8 (d .counter) ++ checkIn d))
+
+-- the 104 bytes that the drive makes
+unfoldable pub headOf : Drive → List ℕ
+headOf d = frontIn d ++ sealOf (d .present) (frontIn d) (d .node)

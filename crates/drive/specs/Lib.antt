@@ -1,0 +1,3 @@
+pub mod Drive
+pub mod Head
+pub mod Opening
