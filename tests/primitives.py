@@ -25,7 +25,7 @@ def library():
     made = ROOT / "target" / "primitives"
     made.mkdir(parents=True, exist_ok=True)
     code, shared = made / "primitives.o", made / "primitives.so"
-    built = subprocess.run(["bash", "bench/native.sh", "primitives", str(code)], cwd=ROOT, capture_output=True, text=True)
+    built = subprocess.run(["bash", "tests/native.sh", "primitives", str(code)], cwd=ROOT, capture_output=True, text=True)
     if built.returncode:
         sys.exit(f"the library isn't built:\n{built.stdout}{built.stderr}")
     subprocess.run(["gcc", "-shared", "-o", shared, "-Wl,--whole-archive", code, "-Wl,--no-whole-archive"], check=True)
