@@ -5,6 +5,11 @@ cd "$(dirname "$0")/.."
 bash tests/needs.sh
 made=target/bench
 mkdir -p "$made"
-bash tests/native.sh primitives "$made/primitives.o" >"$made/library.log" 2>&1 || { tail -n 40 "$made/library.log"; exit 1; }
-gcc -O3 -Wall -Wextra -std=c11 -o "$made/bench" bench/bench.c bench/peer_*.c "$made/primitives.o"
+for crate in primitives probe; do
+    bash tests/native.sh "$crate" "$made/$crate.o" >"$made/$crate.log" 2>&1 || { tail -n 40 "$made/$crate.log"; exit 1; }
+done
+peers=(bench/peer_*.c)
+gcc -O3 -Wall -Wextra -std=c11 -o "$made/bench" bench/bench.c "${peers[@]}" "$made/primitives.o"
+gcc -O3 -Wall -Wextra -std=c11 -o "$made/tree" bench/tree.c "${peers[@]}" "$made/probe.o"
 "$made/bench"
+"$made/tree"

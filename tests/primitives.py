@@ -5,31 +5,16 @@ and Poly1305 with the second program's. NGT_SEED sets the seed; a failure prints
 """
 import ctypes
 import hashlib
-import os
-import pathlib
 import random
-import subprocess
 import sys
 
-ROOT = pathlib.Path(__file__).resolve().parent.parent
+from proved import ROOT, SEED, library
+
 sys.path.insert(0, str(ROOT / "second"))
 import primitives  # noqa: E402
 
-SEED = int(os.environ.get("NGT_SEED", "1"))
 LONGEST = 5000
 CASES = 1000
-
-
-def library():
-    """The proved functions, for the processor at hand, as a shared object."""
-    made = ROOT / "target" / "primitives"
-    made.mkdir(parents=True, exist_ok=True)
-    code, shared = made / "primitives.o", made / "primitives.so"
-    built = subprocess.run(["bash", "tests/native.sh", "primitives", str(code)], cwd=ROOT, capture_output=True, text=True)
-    if built.returncode:
-        sys.exit(f"the library isn't built:\n{built.stdout}{built.stderr}")
-    subprocess.run(["gcc", "-shared", "-o", shared, "-Wl,--whole-archive", code, "-Wl,--no-whole-archive"], check=True)
-    return ctypes.CDLL(str(shared))
 
 
 def lengths(source):
@@ -86,7 +71,7 @@ def blake2s_keyed(proved, source, m):
 
 
 def main():
-    proved = library()
+    proved = library("primitives")
     passed = failed = 0
     for case, n in enumerate(lengths(random.Random(SEED))):
         for compare in (chacha20, poly1305, blake2s, blake2s_keyed):

@@ -1,0 +1,2 @@
+pub mod ProbeLaws
+pub mod Outcomes

@@ -1,0 +1,161 @@
+// The C interface of keys and tree, which comparisons go through.
+// It touches `keys`, `tree` and `images`, and tests what it is given itself.
+use answers::Answer;
+use layout::Shape;
+ghost use mathlib.Core.Path.{_≡_};
+ghost use lib.ListN.{length};
+ghost use Rattle.keys.specs.Keys.{nuggetKey, tagKey, checkOf, sealOf};
+ghost use Rattle.keys.specs.Tags.{tagOf};
+ghost use Rattle.layout.specs.Shape.{shape};
+ghost use Rattle.answers.specs.Numbers.{numberOf};
+ghost use Rattle.images.specs.Answers.{answerImage};
+ghost use Rattle.probe.specs.Probes.{lentAnswer, pathAnswer, wholeAnswer, renewAnswer, laidBytes, renewedBytes, builtBytes};
+
+#[no_mangle]
+pub extern "C" fn ngt_nugget_key(secret: &[u8; 32], salt: &[u8; 16], n: u32, out: &mut [u8; 32])
+    ensures { λ _. ⌜ now (out .exit) ≡ nuggetKey (now (secret .entry)) (now (salt .entry)) n ⌝ }
+{
+    *out = keys::nugget_key(*secret, *salt, n);
+}
+
+#[no_mangle]
+pub extern "C" fn ngt_tag_key(key: &[u8; 32], f: u32, k: u64, out: &mut [u8; 32])
+    ensures { λ _. ⌜ now (out .exit) ≡ tagKey (now (key .entry)) f k ⌝ }
+{
+    *out = keys::tag_key(*key, f, k);
+}
+
+#[no_mangle]
+pub extern "C" fn ngt_check(old: &[u8; 32], salt: &[u8; 16], epoch: u16, out: &mut [u8; 32])
+    ensures { λ _. ⌜ now (out .exit) ≡ checkOf (now (old .entry)) (now (salt .entry)) epoch ⌝ }
+{
+    *out = keys::check_of(*old, *salt, epoch);
+}
+
+#[no_mangle]
+pub extern "C" fn ngt_seal(secret: &[u8; 32], front: &[u8], node: &[u8], out: &mut [u8; 32])
+    ensures { λ _. ⌜ now (out .exit) ≡ sealOf (now (secret .entry)) (now (front .entry)) (now (node .entry)) ⌝ }
+{
+    *out = keys::seal_of(*secret, front, node);
+}
+
+#[no_mangle]
+pub extern "C" fn ngt_tag(stored: &[u8], key: &[u8; 32], k: u64, f: u32, out: &mut [u8; 16])
+    ensures { λ _. ⌜ now (out .exit) ≡ tagOf (now (key .entry)) k f (now (stored .entry)) ⌝ }
+{
+    *out = keys::tag_of(stored, *key, k, f);
+}
+
+// The pad of flake f laid over a flake; a slice over 4,096 bytes or a flake past 63 is left as it is.
+#[no_mangle]
+pub extern "C" fn ngt_lay_pad(flake: &mut [u8], key: &[u8; 32], k: u64, f: u32)
+    ensures { λ _. ⌜ now (flake .exit) ≡ laidBytes (now (key .entry)) k f (now (flake .entry)) ⌝ }
+{
+    if flake.len() <= 4096 {
+        if f < 64 {
+            keys::lay_pad(flake, *key, k, f);
+        }
+    }
+}
+
+// Tests 1 and 2 of a shape and a volume.
+fn lent(vol: &[u8], s: Shape) -> Answer
+    ensures { λ r. ⌜ r ≡ lentAnswer s (now (vol .entry)) ⌝ }
+{
+    if layout::in_limits(s) {
+        if vol.len() == layout::length_of(s) {
+            return Answer::Accepted;
+        }
+        return Answer::Length;
+    }
+    Answer::Limits
+}
+
+// And 8 for the nugget.
+fn lent_nugget(vol: &[u8], s: Shape, n: u32) -> Answer
+    ensures { λ r. ⌜ r ≡ renewAnswer s (now (vol .entry)) n ⌝ }
+{
+    let a = lent(vol, s);
+    if answers::accepted(a) {
+        if n < s.n {
+            return Answer::Accepted;
+        }
+        return Answer::PastEnd;
+    }
+    a
+}
+
+fn path(vol: &[u8], s: Shape, epoch: u16, changing: bool, n: u32) -> Answer
+    ensures { λ r. ⌜ r ≡ pathAnswer s epoch changing (now (vol .entry)) n ⌝ }
+{
+    let a = lent_nugget(vol, s, n);
+    if answers::accepted(a) {
+        return tree::path(vol, s, epoch, changing, n);
+    }
+    a
+}
+
+fn whole(vol: &[u8], s: Shape, epoch: u16, changing: bool) -> Answer
+    ensures { λ r. ⌜ r ≡ wholeAnswer s epoch changing (now (vol .entry)) ⌝ }
+{
+    let a = lent(vol, s);
+    if answers::accepted(a) {
+        return tree::whole(vol, s, epoch, changing);
+    }
+    a
+}
+
+#[no_mangle]
+pub extern "C" fn ngt_path(
+    vol: &[u8],
+    n: u32,
+    p: u32,
+    f: u32,
+    epoch: u16,
+    changing: bool,
+    nugget: u32,
+    answer: &mut [u8; 16],
+)
+    ensures { λ _. ⌜ now (answer .exit) ≡ answerImage (pathAnswer (shape n p f) epoch changing (now (vol .entry)) nugget) ⌝ }
+{
+    let a = path(vol, Shape { n, p, f }, epoch, changing, nugget);
+    *answer = images::answer_image(a);
+}
+
+#[no_mangle]
+pub extern "C" fn ngt_whole(
+    vol: &[u8],
+    n: u32,
+    p: u32,
+    f: u32,
+    epoch: u16,
+    changing: bool,
+    answer: &mut [u8; 16],
+)
+    ensures { λ _. ⌜ now (answer .exit) ≡ answerImage (wholeAnswer (shape n p f) epoch changing (now (vol .entry))) ⌝ }
+{
+    let a = whole(vol, Shape { n, p, f }, epoch, changing);
+    *answer = images::answer_image(a);
+}
+
+#[no_mangle]
+pub extern "C" fn ngt_renew(vol: &mut [u8], n: u32, p: u32, f: u32, nugget: u32)
+    ensures { λ _. ⌜ now (vol .exit) ≡ renewedBytes (shape n p f) nugget (now (vol .entry)) ⌝ }
+{
+    let s = Shape { n, p, f };
+    let a = lent_nugget(vol, s, nugget);
+    if answers::accepted(a) {
+        tree::renew(vol, s, nugget);
+    }
+}
+
+#[no_mangle]
+pub extern "C" fn ngt_build(vol: &mut [u8], n: u32, p: u32, f: u32)
+    ensures { λ _. ⌜ now (vol .exit) ≡ builtBytes (shape n p f) (now (vol .entry)) ⌝ }
+{
+    let s = Shape { n, p, f };
+    let a = lent(vol, s);
+    if answers::accepted(a) {
+        tree::build(vol, s);
+    }
+}

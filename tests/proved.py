@@ -1,0 +1,55 @@
+"""The proved functions of an exporting crate, for the processor at hand, called by ctypes."""
+import ctypes
+import os
+import pathlib
+import subprocess
+import sys
+
+ROOT = pathlib.Path(__file__).resolve().parent.parent
+SEED = int(os.environ.get("NGT_SEED", "1"))
+
+
+def library(crate):
+    made = ROOT / "target" / "shared"
+    made.mkdir(parents=True, exist_ok=True)
+    code, shared = made / f"{crate}.o", made / f"{crate}.so"
+    built = subprocess.run(["bash", "tests/native.sh", crate, str(code)], cwd=ROOT, capture_output=True, text=True)
+    if built.returncode:
+        sys.exit(f"the library {crate} isn't built:\n{built.stdout}{built.stderr}")
+    subprocess.run(["gcc", "-shared", "-o", shared, "-Wl,--whole-archive", code, "-Wl,--no-whole-archive"], check=True)
+    return ctypes.CDLL(str(shared))
+
+
+def slice_of(data):
+    """A slice passes as a pointer and a length."""
+    return data, ctypes.c_size_t(len(data))
+
+
+def room(data=b"", size=None):
+    """Bytes that a call may change, and one behind them that it may not."""
+    size = len(data) if size is None else size
+    return ctypes.create_string_buffer(bytes(data), size + 1)
+
+
+def left(buffer):
+    """What the call left; None if it went past the end."""
+    raw = buffer.raw
+    return raw[:-1] if raw[-1:] == b"\0" else None
+
+
+class Tally:
+    """Counts checks; a failure prints the seed and the case."""
+
+    def __init__(self):
+        self.passed = self.failed = 0
+
+    def same(self, what, case, got, wanted):
+        if got == wanted:
+            self.passed += 1
+        else:
+            self.failed += 1
+            print(f"{what} differs: NGT_SEED={SEED}, case {case}: got {got!r:.200}, wanted {wanted!r:.200}")
+
+    def close(self):
+        print(f"{self.passed} passed, {self.failed} failed")
+        return 1 if self.failed else 0
