@@ -50,5 +50,7 @@ holds "every file has its layout" rt fmt --check
 counts "every crate is proved, every program writes its stdout, every edit is refused" rt ci
 counts "every edit is refused by a fact" python3 tests/first_errors.py
 counts "the second program holds against the documents" python3 second/check.py
+counts "the primitives agree with independent ones" python3 tests/primitives.py
+counts "keys, pads, tags, leaves, nodes, path and whole agree with the second program" python3 tests/parts.py
 echo "gate: $((SECONDS - started)) s in all"
 echo "$passed passed, 0 failed"
