@@ -5,6 +5,7 @@ use mathlib.Core.List.{List}
 use Prim.Native.Nat.{ℕ, zero, suc, _+_, _-_, _*_, _/_, _<_, _≤_, max}
 use native.Mathlib.Numerals.{add-one}
 use native.Mathlib.Omega.{arith}
+use lib.ListN.{length}
 use borrow.Author.Tests.{le-leb, lt-leb, lt-ltb, le-ltb}
 use Rattle.base.proofs.PickLaws.{yes, no, both-on, both-off}
 use Rattle.layout.specs.Shape.{heightOf, leaves}
@@ -16,10 +17,13 @@ use Rattle.answers.specs.declared.Place.the-variants as P
 use Rattle.answers.specs.Numbers.{accepts}
 use Rattle.records.specs.Record.{recordIn, wellFormed}
 use Rattle.records.specs.declared.Record.{Record}
+use Rattle.nodes.specs.Lent.{Lent}
 use Rattle.nodes.specs.Made.{goodNode, storeNode}
-use Rattle.tree.specs.Path.{goodRecord, climbed, pathOf}
+use Rattle.nodes.proofs.Bounds.{lent-small}
+use Rattle.tree.specs.Path.{goodRecord, climbed, pathOf, Rises}
 use Rattle.tree.specs.Whole.{recordsFrom, nuggetLeaf, badOf, worst, atNode, wholeOf}
-use Rattle.tree.specs.Renewed.{storedUp, storedDown}
+use Rattle.tree.specs.Renewed.{storedUp, renewed, storedDown}
+use Rattle.tree.proofs.Heights.{rises-leaf}
 
 module _ (s : Shape) (v : List ℕ) where
   pub climbed-on : (k i : ℕ) → 0 < k → goodNode s v i ≡ true → climbed s v (k - 1) (i / 2) ≡ climbed s v k i
@@ -144,3 +148,11 @@ module _ (s : Shape) (epoch : ℕ) (changing : Bool) (v : List ℕ) where
   pub whole-off : {a : Answer} → a ≡ recordsFrom s epoch changing v (s .n) 0 → accepts a ≡ false → a ≡ wholeOf s epoch changing v
   unfolding wholeOf
   whole-off ea e = ea ∙ sym (no _ (rw ea at e) refl)
+
+-- where the renewal begins
+pub renew-starts : {s : Shape} {v : List ℕ} (n : ℕ) {k i : ℕ} → Lent s v → n < s .n → k ≡ suc (heightOf (s .n)) → i ≡ leaves (s .n) + n
+    → Rises k i × (i < 2 * leaves (s .n)) × Lent s v × (length v ≡ length v) × (storedUp s k i v ≡ renewed s n v)
+unfolding renewed
+renew-starts {s} n l h ek ei =
+    let q = lent-small l in
+    rw (ek, ei) (rises-leaf s n q h, omega (arith, q .enough-leaves), l, refl, refl)

@@ -11,8 +11,8 @@ use Rattle.layout.specs.Shape.{heightOf, leaves}
 use Rattle.layout.specs.declared.Shape.{Shape}
 use Rattle.nodes.proofs.Bounds.{Small}
 use Rattle.tree.specs.Path.{Rises}
-use Rattle.tree.proofs.Laws.{clash, either-left, either-right, either-told}
 use Rattle.tree.specs.Good.{upward, onPath}
+use Rattle.tree.proofs.Laws.{clash, either-left, either-right, either-told}
 use Rattle.tree.proofs.Heights.{rises-half, rises-leaf}
 
 pub upward-le : (k j i : ℕ) → upward k j i ≡ true → i ≤ j

@@ -4,8 +4,8 @@ use mathlib.Core.Bool.{Bool, false}
 use mathlib.Core.List.{List}
 use Prim.Native.Nat.{ℕ, zero, suc, _+_, _*_, _/_, _<_, _≤_}
 use lib.Dec.{eqb}
-use Rattle.base.specs.Pick.{either}
 use lib.ListN.{length, getD}
+use Rattle.base.specs.Pick.{either}
 use Rattle.layout.specs.Shape.{heightOf, leaves}
 use Rattle.layout.specs.declared.Shape.{Shape}
 use Rattle.layout.specs.Parts.{recordAt, tagAt}

@@ -1,7 +1,8 @@
 use mathlib.Core.Path.{_∙_}
 use mathlib.Core.List.{[], _∷_}
-use Prim.Native.Nat.{_+_, _*_}
+use Prim.Native.Nat.{_+_, _*_, _≤_}
 use native.Mathlib.Omega.{arith}
+use lib.ListN.{length}
 use borrow.Author.Needs.{needs}
 use Rattle.layout.proofs.Limits.{inside}
 use Rattle.nodes.proofs.Bounds.{lent-small}
@@ -50,6 +51,15 @@ add-right-end c =
     let q = lent-small l in
     omega (arith, q .few-leaves, q .few-tags, q .few-nuggets, c .before .before .before .pre .2, c .node-at2 .ensures ∙ inside (a .s) (l .limited))
 
+-- both nodes stand in the volume
+ends : (c : tie.After-node-at2) → (c .before .node-at .result + 32 ≤ length (c .before .before .before .args .vol .now)) × (c .node-at2 .result + 32 ≤ length (c .before .before .before .args .vol .now))
+ends c =
+    let a = c .before .before .before .args in
+    let l = c .before .before .before .pre .0 in (
+      omega (arith, l .size, c .before .before .before .pre .2, c .before .node-at .ensures ∙ inside (a .s) (l .limited)),
+      omega (arith, l .size, c .before .before .before .pre .2, c .node-at2 .ensures ∙ inside (a .s) (l .limited)),
+    )
+
 start-requires : tie.Need-start-requires
 start-requires c κs = search needs
 
@@ -66,11 +76,7 @@ part-absorb-start : tie.Need-part-absorb-start
 part-absorb-start c = search needs
 
 part-absorb-end : tie.Need-part-absorb-end
-part-absorb-end c =
-    let a = c .before .before .before .before .before .before .args in
-    let l = c .before .before .before .before .before .before .pre .0 in
-    let q = lent-small l in
-    omega (arith, l .size, c .before .before .before .before .before .before .pre .2, c .before .before .before .before .node-at .ensures ∙ inside (a .s) (l .limited))
+part-absorb-end c = omega (arith, ends (c .before .before .before) .0, ends (c .before .before .before) .1)
 
 absorb-requires-2 : tie.Need-absorb-requires-2
 absorb-requires-2 c κs = search needs
@@ -82,11 +88,7 @@ part-absorb-start-2 : tie.Need-part-absorb-start-2
 part-absorb-start-2 c = search needs
 
 part-absorb-end-2 : tie.Need-part-absorb-end-2
-part-absorb-end-2 c =
-    let a = c .before .before .before .before .before .before .before .before .args in
-    let l = c .before .before .before .before .before .before .before .before .pre .0 in
-    let q = lent-small l in
-    omega (arith, l .size, c .before .before .before .before .before .before .before .before .pre .2, c .before .before .before .before .before .node-at2 .ensures ∙ inside (a .s) (l .limited))
+part-absorb-end-2 c = omega (arith, ends (c .before .before .before .before .before) .0, ends (c .before .before .before .before .before) .1)
 
 absorb-requires-3 : tie.Need-absorb-requires-3
 absorb-requires-3 c κs = search needs

@@ -1,6 +1,7 @@
 use mathlib.Core.Path.{_∙_}
-use Prim.Native.Nat.{_*_}
+use Prim.Native.Nat.{_+_, _*_, _≤_}
 use native.Mathlib.Omega.{arith}
+use lib.ListN.{length}
 use borrow.Author.Needs.{needs}
 use Rattle.layout.proofs.Limits.{inside}
 use Rattle.nodes.proofs.Bounds.{lent-small, tags-inside}
@@ -30,6 +31,15 @@ add-tags-end c =
     let q = lent-small l in
     omega (arith, q .few-tags, tags-inside (a .s) (a .n) (c .before .before .before .before .pre .1), c .tag-at .ensures ∙ inside (a .s) (l .limited))
 
+-- the record and the tags stand in the volume
+ends : (c : tie.After-tag-at) → (c .before .record-at .result + 18 ≤ length (c .before .before .before .before .args .vol .now)) × (c .tag-at .result + 16 * c .before .before .before .before .args .s .p ≤ length (c .before .before .before .before .args .vol .now))
+ends c =
+    let a = c .before .before .before .before .args in
+    let l = c .before .before .before .before .pre .0 in (
+      omega (arith, l .size, c .before .before .before .before .pre .1, c .before .record-at .ensures),
+      omega (arith, l .size, tags-inside (a .s) (a .n) (c .before .before .before .before .pre .1), c .tag-at .ensures ∙ inside (a .s) (l .limited)),
+    )
+
 array-write-start : tie.Need-array-write-start
 array-write-start c = search needs
 
@@ -55,7 +65,7 @@ part-absorb-start : tie.Need-part-absorb-start
 part-absorb-start c = search needs
 
 part-absorb-end : tie.Need-part-absorb-end
-part-absorb-end c = search needs
+part-absorb-end c = omega (arith, ends (c .before .before .before .before .before .before) .0, ends (c .before .before .before .before .before .before) .1)
 
 absorb-requires-2 : tie.Need-absorb-requires-2
 absorb-requires-2 c κs = search needs
@@ -67,11 +77,7 @@ part-absorb-start-2 : tie.Need-part-absorb-start-2
 part-absorb-start-2 c = search needs
 
 part-absorb-end-2 : tie.Need-part-absorb-end-2
-part-absorb-end-2 c =
-    let a = c .before .before .before .before .before .before .before .before .before .before .before .before .args in
-    let l = c .before .before .before .before .before .before .before .before .before .before .before .before .pre .0 in
-    let q = lent-small l in
-    omega (arith, l .size, tags-inside (a .s) (a .n) (c .before .before .before .before .before .before .before .before .before .before .before .before .pre .1), c .before .before .before .before .before .before .before .before .tag-at .ensures ∙ inside (a .s) (l .limited))
+part-absorb-end-2 c = omega (arith, ends (c .before .before .before .before .before .before .before .before) .0, ends (c .before .before .before .before .before .before .before .before) .1)
 
 absorb-requires-3 : tie.Need-absorb-requires-3
 absorb-requires-3 c κs = search needs

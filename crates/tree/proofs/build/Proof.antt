@@ -35,7 +35,7 @@ unfolding built
 loop-holds c =
     let a = c .before .before .args in
     let e = c .leaves-of .ensures in
-    (omega (arith, e, lent-small (c .before .before .pre) .some-leaves), c .before .before .pre, refl, ap (λ (k : ℕ). storedDown (a .s) (2 * k - 1) (a .vol .now)) e)
+    (omega (arith, e, lent-small (c .before .before .pre) .some-leaves), c .before .before .pre, refl, ap (λ (k : ℕ). storedDown (a .s) k (a .vol .now)) (omega (arith, e)))
 
 store-requires : tie.Need-store-requires Inv-loop μ-loop
 store-requires c κs = (c .before .before .loop .inv .1, omega (arith, c .before .loop-test .taken), c .before .before .loop .inv .0)

@@ -1,18 +1,17 @@
-use mathlib.Core.Path.{_≡_, refl, ap, _∙_}
+use mathlib.Core.Path.{_≡_, ap, _∙_}
 use mathlib.Core.List.{List}
 use Prim.Native.Nat.{ℕ, _-_, _*_, _/_, _<_}
 use native.Mathlib.Omega.{arith}
-use native.Mathlib.Numerals.{add-one}
 use lib.ListN.{length}
 use borrow.Author.Needs.{needs}
-use Rattle.layout.specs.Shape.{leaves, heightOf}
+use Rattle.layout.specs.Shape.{leaves}
 use Rattle.layout.proofs.Limits.{limits}
 use Rattle.nodes.specs.Lent.{Lent}
 use Rattle.nodes.proofs.Bounds.{lent-small}
 use Rattle.tree.specs.Path.{Rises}
 use Rattle.tree.specs.Renewed.{renewed, storedUp}
-use Rattle.tree.proofs.Heights.{rises-some, rises-next, rises-leaf, height-few}
-use Rattle.tree.proofs.Steps.{storedUp-on, storedUp-end}
+use Rattle.tree.proofs.Heights.{rises-some, rises-next, height-few}
+use Rattle.tree.proofs.Steps.{storedUp-on, storedUp-end, renew-starts}
 use Rattle.tree.proofs.renew.Statement.{statement}
 use Rattle.tree.proofs.renew.Tie as tie
 
@@ -38,13 +37,9 @@ add-i : tie.Need-add-i Inv-loop μ-loop
 add-i c = omega (arith, c .leaves-of .ensures, lent-small (c .before .before .before .pre .0) .few-leaves, c .before .before .before .pre .1, lent-small (c .before .before .before .pre .0) .few-nuggets)
 
 loop-holds : tie.Need-loop-holds Inv-loop μ-loop
-unfolding renewed
 loop-holds c =
-    let a = c .before .before .before .args in
-    let e = c .before .height-of .ensures in
-    let f = c .leaves-of .ensures in
-    let q = lent-small (c .before .before .before .pre .0) in
-    rw (e, f, add-one (heightOf (a .s .n))) (rises-leaf (a .s) (a .n) q (c .before .before .before .pre .1), omega (arith, c .before .before .before .pre .1, q .enough-leaves), c .before .before .before .pre .0, refl, refl)
+    let p = c .before .before .before .pre in
+    renew-starts _ (p .0) (p .1) (omega (arith, c .before .height-of .ensures)) (omega (arith, c .leaves-of .ensures))
 
 store-requires : tie.Need-store-requires Inv-loop μ-loop
 store-requires c κs =
