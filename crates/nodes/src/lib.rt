@@ -1,5 +1,6 @@
 // The nodes of the tree in a lent volume: what each has to be, whether it is so, and a node stored anew.
 // It touches `base`, `words`, `layout` and `blake2s`.
+use layout::Shape;
 ghost use mathlib.Core.Path.{_≡_};
 ghost use Prim.Native.Nat.{_+_, _*_, _<_, _≤_};
 ghost use Rattle.layout.specs.Shape.{leaves};
@@ -8,7 +9,7 @@ ghost use Rattle.nodes.specs.Nodes.{nodeIn, leafOf, innerOf};
 ghost use Rattle.nodes.specs.Made.{madeOf, goodNode, storeNode};
 
 // "no key, `L`, nugget (4), the 18 record bytes, the nugget's P tags"
-fn leaf(vol: &[u8], s: layout::Shape, n: u32) -> [u8; 32]
+fn leaf(vol: &[u8], s: Shape, n: u32) -> [u8; 32]
     requires { ⌜ Lent s (now vol) × (n < s .n) ⌝ }
     ensures { λ r. ⌜ r ≡ leafOf s (now (vol .entry)) n ⌝ }
 {
@@ -27,7 +28,7 @@ fn leaf(vol: &[u8], s: layout::Shape, n: u32) -> [u8; 32]
 }
 
 // "no key, `T`, node 2i, node 2i + 1"
-fn inner(vol: &[u8], s: layout::Shape, i: u32) -> [u8; 32]
+fn inner(vol: &[u8], s: Shape, i: u32) -> [u8; 32]
     requires { ⌜ Lent s (now vol) × (1 ≤ i) × (i < leaves (s .n)) ⌝ }
     ensures { λ r. ⌜ r ≡ innerOf (nodeIn s (now (vol .entry)) (2 * i)) (nodeIn s (now (vol .entry)) (2 * i + 1)) ⌝ }
 {
@@ -42,7 +43,7 @@ fn inner(vol: &[u8], s: layout::Shape, i: u32) -> [u8; 32]
 }
 
 // What node i has to be.
-fn made(vol: &[u8], s: layout::Shape, i: u32) -> [u8; 32]
+fn made(vol: &[u8], s: Shape, i: u32) -> [u8; 32]
     requires { ⌜ Lent s (now vol) × (1 ≤ i) × (i < 2 * leaves (s .n)) ⌝ }
     ensures { λ r. ⌜ r ≡ madeOf s (now (vol .entry)) i ⌝ }
 {
@@ -57,7 +58,7 @@ fn made(vol: &[u8], s: layout::Shape, i: u32) -> [u8; 32]
 }
 
 // Whether node i is what it has to be.
-pub fn good(vol: &[u8], s: layout::Shape, i: u32) -> bool
+pub fn good(vol: &[u8], s: Shape, i: u32) -> bool
     requires { ⌜ Lent s (now vol) × (1 ≤ i) × (i < 2 * leaves (s .n)) ⌝ }
     ensures { λ r. ⌜ r ≡ goodNode s (now (vol .entry)) i ⌝ }
 {
@@ -68,7 +69,7 @@ pub fn good(vol: &[u8], s: layout::Shape, i: u32) -> bool
 }
 
 // Node i made anew.
-pub fn store(vol: &mut [u8], s: layout::Shape, i: u32)
+pub fn store(vol: &mut [u8], s: Shape, i: u32)
     requires { ⌜ Lent s (now vol) × (1 ≤ i) × (i < 2 * leaves (s .n)) ⌝ }
     ensures { λ _. ⌜ now (vol .exit) ≡ storeNode s i (now (vol .entry)) ⌝ }
 {

@@ -18,7 +18,8 @@ use Rattle.answers.specs.declared.Place.the-variants as P
 use Rattle.answers.specs.Numbers.{numberOf}
 use Rattle.nodes.specs.Nodes.{nodeIn, leafOf, innerOf}
 use Rattle.nodes.specs.Made.{goodNode}
-use Rattle.nodes.proofs.Bounds.{Small}
+use Rattle.nodes.specs.Lent.{Lent}
+use Rattle.nodes.proofs.Bounds.{lent-small}
 use Rattle.nodes.proofs.MadeLaws.{made-leaf, made-inner, good-true, true-good}
 use Rattle.tree.specs.Path.{formed, goodRecord, climbed, pathOf, Rises}
 use Rattle.tree.specs.Good.{AllGood, upward}
@@ -52,10 +53,11 @@ climbed-all s v (suc k) j e i u =
     go g (inl w) again = rw (eqb-true j i w) at g
     go g (inr w) again = again w
 
-pub path-belongs : (s : Shape) (epoch : ℕ) (changing : Bool) (v : List ℕ) (n : ℕ) → Small s → n < s .n → pathOf s epoch changing v n ≡ A.Accepted
+pub path-belongs : (s : Shape) (epoch : ℕ) (changing : Bool) (v : List ℕ) (n : ℕ) → Lent s v → n < s .n → pathOf s epoch changing v n ≡ A.Accepted
     → Belongs s epoch changing v n
 unfolding pathOf goodRecord
-path-belongs s epoch changing v n small h e =
+path-belongs s epoch changing v n l h e =
+    let small = lent-small l in
     let q = accepted-pick (goodRecord s epoch changing v n) (climbed s v (heightOf (s .n)) ((leaves (s .n) + n) / 2)) (P.Record n) e in
     record {
       well-formed = both-left _ _ (q .0);
@@ -73,10 +75,11 @@ climbed-good s v g (suc k) j r h =
     yes _ (true-good s v j (g j (rises-some (suc k) j r (omega arith)) h)) (climbed-good s v g k (j / 2) (rises-half k j r) (omega arith))
 
 -- in a good tree every path over a well formed record is accepted
-pub good-path : (s : Shape) (epoch : ℕ) (changing : Bool) (v : List ℕ) (n : ℕ) → Small s → n < s .n → AllGood s v → formed s epoch changing v n ≡ true
+pub good-path : (s : Shape) (epoch : ℕ) (changing : Bool) (v : List ℕ) (n : ℕ) → Lent s v → n < s .n → AllGood s v → formed s epoch changing v n ≡ true
     → pathOf s epoch changing v n ≡ A.Accepted
 unfolding pathOf goodRecord
-good-path s epoch changing v n small h g f =
+good-path s epoch changing v n l h g f =
+    let small = lent-small l in
     yes _ (both-on f (true-good s v (leaves (s .n) + n) (g (leaves (s .n) + n) (omega (arith, small .some-leaves)) (omega (arith, small .enough-leaves)))))
     (climbed-good s v g (heightOf (s .n)) ((leaves (s .n) + n) / 2) (rises-half (heightOf (s .n)) (leaves (s .n) + n) (rises-leaf s n small h))
     (omega (arith, small .enough-leaves)))

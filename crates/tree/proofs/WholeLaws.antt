@@ -16,7 +16,8 @@ use Rattle.answers.specs.declared.Answer.the-variants as A
 use Rattle.answers.specs.declared.Place.the-variants as P
 use Rattle.answers.specs.Numbers.{accepts}
 use Rattle.nodes.specs.Made.{goodNode}
-use Rattle.nodes.proofs.Bounds.{Small}
+use Rattle.nodes.specs.Lent.{Lent}
+use Rattle.nodes.proofs.Bounds.{Small, lent-small}
 use Rattle.nodes.proofs.MadeLaws.{good-true, true-good}
 use Rattle.tree.specs.Path.{formed, goodRecord, pathOf}
 use Rattle.tree.specs.Whole.{recordsFrom, nuggetLeaf, worst, atNode, wholeOf}
@@ -91,11 +92,14 @@ module _ (s : Shape) (epoch : ℕ) (changing : Bool) (v : List ℕ) where
           absurd (omega (arith, whole-stages e .1, worst-most s v (heightOf (s .n)) 1 i (record { within = under-root (heightOf (s .n)) i a b; other = x; bad = g })))
 
   -- and these two give acceptance
-  pub good-whole : Small s → AllGood s v → ((n : ℕ) → n < s .n → formed s epoch changing v n ≡ true) → wholeOf s epoch changing v ≡ A.Accepted
+  pub good-whole : Lent s v → AllGood s v → ((n : ℕ) → n < s .n → formed s epoch changing v n ≡ true) → wholeOf s epoch changing v ≡ A.Accepted
   unfolding wholeOf goodRecord atNode
-  good-whole small g f =
+  good-whole l g f =
       yes _ (ap accepts records) (ap atNode (none (worst-bad s v (heightOf (s .n)) 1)))
     where
+      small : Small s
+      small = lent-small l
+
       record-good : (n : ℕ) → n < s .n → goodRecord s epoch changing v n ≡ true
       record-good n h = both-on (f n h) (true-good s v (leaves (s .n) + n) (g (leaves (s .n) + n) (omega (arith, small .some-leaves)) (omega (arith, small .enough-leaves))))
 
@@ -109,5 +113,5 @@ module _ (s : Shape) (epoch : ℕ) (changing : Bool) (v : List ℕ) where
           absurd (clash (true-good s v _ (g _ (r .0) (r .1))) (x .bad))
 
   -- if the whole passes, every path passes
-  pub whole-paths : Small s → wholeOf s epoch changing v ≡ A.Accepted → (n : ℕ) → n < s .n → pathOf s epoch changing v n ≡ A.Accepted
-  whole-paths small e n h = good-path s epoch changing v n small h (whole-good e) (whole-formed e n h)
+  pub whole-paths : Lent s v → wholeOf s epoch changing v ≡ A.Accepted → (n : ℕ) → n < s .n → pathOf s epoch changing v n ≡ A.Accepted
+  whole-paths l e n h = good-path s epoch changing v n l h (whole-good e) (whole-formed e n h)

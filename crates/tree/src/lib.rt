@@ -1,5 +1,8 @@
 // The tree over records and tags in a lent volume: the test of a path, of the whole, a path renewed, all of it built.
 // It touches `layout`, `answers`, `records` and `nodes`.
+use answers::Answer;
+use answers::Place;
+use layout::Shape;
 ghost use mathlib.Core.Path.{_≡_};
 ghost use mathlib.Core.Bool.{true};
 ghost use Prim.Native.Nat.{_*_, _<_, _≤_, max};
@@ -10,7 +13,7 @@ ghost use Rattle.tree.specs.Whole.{recordsFrom, nuggetLeaf, badOf, worst
 ghost use Rattle.tree.specs.Renewed.{renewed, built};
 
 // Whether record n is well formed and its leaf is node L + n.
-fn good_record(vol: &[u8], s: layout::Shape, epoch: u16, changing: bool, n: u32) -> bool
+fn good_record(vol: &[u8], s: Shape, epoch: u16, changing: bool, n: u32) -> bool
     requires { ⌜ Lent s (now vol) × (n < s .n) ⌝ }
     ensures { λ r. ⌜ r ≡ goodRecord s epoch changing (now (vol .entry)) n ⌝ }
 {
@@ -23,7 +26,7 @@ fn good_record(vol: &[u8], s: layout::Shape, epoch: u16, changing: bool, n: u32)
 }
 
 // "then node i, from its parent up, that isn't made of its two"
-fn climb(vol: &[u8], s: layout::Shape, count: u32, from: u32) -> answers::Answer
+fn climb(vol: &[u8], s: Shape, count: u32, from: u32) -> Answer
     requires { ⌜ Lent s (now vol) × Rises count from × (from < 2 * leaves (s .n)) ⌝ }
     ensures { λ r. ⌜ r ≡ climbed s (now (vol .entry)) count from ⌝ }
 {
@@ -34,14 +37,14 @@ fn climb(vol: &[u8], s: layout::Shape, count: u32, from: u32) -> answers::Answer
             i = i / 2;
             k -= 1;
         } else {
-            return answers::Answer::Altered(answers::Place::Node(i));
+            return Answer::Altered(Place::Node(i));
         }
     }
-    answers::Answer::Accepted
+    Answer::Accepted
 }
 
 // The test "path" of nugget n.
-pub fn path(vol: &[u8], s: layout::Shape, epoch: u16, changing: bool, n: u32) -> answers::Answer
+pub fn path(vol: &[u8], s: Shape, epoch: u16, changing: bool, n: u32) -> Answer
     requires { ⌜ Lent s (now vol) × (n < s .n) ⌝ }
     ensures { λ r. ⌜ r ≡ pathOf s epoch changing (now (vol .entry)) n ⌝ }
 {
@@ -49,12 +52,12 @@ pub fn path(vol: &[u8], s: layout::Shape, epoch: u16, changing: bool, n: u32) ->
         let leaf = (layout::leaves_of(s.n) as u32) + n;
         climb(vol, s, layout::height_of(s.n), leaf / 2)
     } else {
-        answers::Answer::Altered(answers::Place::Record(n))
+        Answer::Altered(Place::Record(n))
     }
 }
 
 // "records ascending"
-fn all_records(vol: &[u8], s: layout::Shape, epoch: u16, changing: bool) -> answers::Answer
+fn all_records(vol: &[u8], s: Shape, epoch: u16, changing: bool) -> Answer
     requires { ⌜ Lent s (now vol) ⌝ }
     ensures { λ r. ⌜ r ≡ recordsFrom s epoch changing (now (vol .entry)) (s .n) 0 ⌝ }
 {
@@ -64,14 +67,14 @@ fn all_records(vol: &[u8], s: layout::Shape, epoch: u16, changing: bool) -> answ
         if good_record(vol, s, epoch, changing, n) {
             n += 1;
         } else {
-            return answers::Answer::Altered(answers::Place::Record(n));
+            return Answer::Altered(Place::Record(n));
         }
     }
-    answers::Answer::Accepted
+    Answer::Accepted
 }
 
 // Whether node i is the leaf of a nugget, which belongs to its record's test.
-fn nugget_leaf(s: layout::Shape, i: u32) -> bool
+fn nugget_leaf(s: Shape, i: u32) -> bool
     requires { ⌜ inLimits s ≡ true ⌝ }
     ensures { λ r. ⌜ r ≡ nuggetLeaf s i ⌝ }
 {
@@ -86,7 +89,7 @@ fn nugget_leaf(s: layout::Shape, i: u32) -> bool
 }
 
 // Node i if it is bad, else 0.
-fn bad(vol: &[u8], s: layout::Shape, i: u32) -> u32
+fn bad(vol: &[u8], s: Shape, i: u32) -> u32
     requires { ⌜ Lent s (now vol) × (1 ≤ i) × (i < 2 * leaves (s .n)) ⌝ }
     ensures { λ r. ⌜ r ≡ badOf s (now (vol .entry)) i ⌝ }
 {
@@ -103,7 +106,7 @@ fn greater(a: u32, b: u32) -> u32
 }
 
 // "each node stands over the two nodes below it": the greatest bad node of the subtree of this height under node i.
-fn worst_under(vol: &[u8], s: layout::Shape, height: u32, i: u32) -> u32
+fn worst_under(vol: &[u8], s: Shape, height: u32, i: u32) -> u32
     requires { ⌜ Lent s (now vol) × Stands s height i ⌝ }
     ensures { λ r. ⌜ r ≡ worst s (now (vol .entry)) height i ⌝ }
 {
@@ -116,18 +119,18 @@ fn worst_under(vol: &[u8], s: layout::Shape, height: u32, i: u32) -> u32
     greater(own, greater(left, right))
 }
 
-fn at_node(i: u32) -> answers::Answer
+fn at_node(i: u32) -> Answer
     ensures { λ r. ⌜ r ≡ atNode i ⌝ }
 {
     if i == 0 {
-        answers::Answer::Accepted
+        Answer::Accepted
     } else {
-        answers::Answer::Altered(answers::Place::Node(i))
+        Answer::Altered(Place::Node(i))
     }
 }
 
 // The test "whole": "records ascending, then all other nodes from 2L - 1 down to 1".
-pub fn whole(vol: &[u8], s: layout::Shape, epoch: u16, changing: bool) -> answers::Answer
+pub fn whole(vol: &[u8], s: Shape, epoch: u16, changing: bool) -> Answer
     requires { ⌜ Lent s (now vol) ⌝ }
     ensures { λ r. ⌜ r ≡ wholeOf s epoch changing (now (vol .entry)) ⌝ }
 {
@@ -140,7 +143,7 @@ pub fn whole(vol: &[u8], s: layout::Shape, epoch: u16, changing: bool) -> answer
 }
 
 // The leaf of nugget n and the nodes above it, made anew from the leaf up.
-pub fn renew(vol: &mut [u8], s: layout::Shape, n: u32)
+pub fn renew(vol: &mut [u8], s: Shape, n: u32)
     requires { ⌜ Lent s (now vol) × (n < s .n) ⌝ }
     ensures { λ _. ⌜ now (vol .exit) ≡ renewed s n (now (vol .entry)) ⌝ }
 {
@@ -154,7 +157,7 @@ pub fn renew(vol: &mut [u8], s: layout::Shape, n: u32)
 }
 
 // Every node made anew, from the last to the first.
-pub fn build(vol: &mut [u8], s: layout::Shape)
+pub fn build(vol: &mut [u8], s: Shape)
     requires { ⌜ Lent s (now vol) ⌝ }
     ensures { λ _. ⌜ now (vol .exit) ≡ built s (now (vol .entry)) ⌝ }
 {
