@@ -1,11 +1,11 @@
 -- The digits of a number are its limbs, and no other limbs below 2^26 are.
 use mathlib.Core.Path.{_≡_, refl, ap, sym, _∙_}
 use Prim.Native.Nat.{ℕ, _+_, _*_, _/_, _%_, _^_, _<_, _≤_}
-use native.Mathlib.Nat.{mod-eq-of-lt, mod-lt, mod-add-div, add-mul-mod-self-left, add-mul-div-left, div-eq-of-lt, zero-add, div-div-eq-div-mul, div-one, div-lt-iff-lt-mul, lt-trans, lt-of-le-of-lt, le-pred-of-lt, le-of-lt}
+use native.Mathlib.Nat.{mod-eq-of-lt, mod-lt, mod-add-div, add-mul-mod-self-left, add-mul-div-left, div-eq-of-lt, zero-add, div-div-eq-div-mul, div-one, div-lt-iff-lt-mul, lt-trans, lt-of-le-of-lt, le-of-lt}
 use native.Mathlib.Omega.{arith}
-use lib.Dec.{lit<, lit≤}
+use lib.Dec.{lit<}
 use Rattle.limbs.specs.declared.Limbs.{Limbs}
-use Rattle.limbs.specs.Limbs.{at, value, digit, limbsOf, p}
+use Rattle.limbs.specs.Limbs.{at, value, limbsOf, p}
 use Rattle.limbs.specs.Bounds.{Below, Reduced}
 use Rattle.limbs.proofs.Field.{grows}
 

@@ -1,6 +1,5 @@
 -- Identities of five digits to any base B, and of a modulus P with B^5 = P + 5.
-use mathlib.Core.Path.{_≡_, refl, ap, sym, _∙_}
-use mathlib.Core.Logic.{_⊎_, inl, inr}
+use mathlib.Core.Path.{_≡_, ap, sym, _∙_}
 use Prim.Native.Nat.{ℕ, zero, suc, _+_, _*_, _/_, _%_, _<_, _≤_}
 use native.Mathlib.Nat.{add-le-add, mul-le-mul-left, mul-suc, add-mul-mod-self-left, mod-eq-of-lt, mod-add-div}
 use native.Mathlib.Omega.{arith}
@@ -26,6 +25,9 @@ module _ (B : ℕ) where
   pub grows : {a b c d e a′ b′ c′ d′ e′ : ℕ} → a ≤ a′ → b ≤ b′ → c ≤ c′ → d ≤ d′ → e ≤ e′ → at B a b c d e ≤ at B a′ b′ c′ d′ e′
   unfolding at
   grows ha hb hc hd he = up ha (up hb (up hc (up hd he)))
+
+  carry0 : (x q m y : ℕ) → x ≡ q * B + m → x + B * y ≡ m + B * (y + q)
+  carry0 x q m y e = omega arith
 
   carry1 : (x q q′ m y : ℕ) → x + q ≡ q′ * B + m → x + B * y + q ≡ m + B * (y + q′)
   carry1 x q q′ m y e = omega arith
@@ -59,10 +61,29 @@ module _ (B P : ℕ) (wraps : B * B * B * B * B ≡ P + 5) where
   pub gone : (x y k : ℕ) → x ≡ y + P * k → x % P ≡ y % P
   gone x y k e = ap (λ (z : ℕ). z % P) e ∙ add-mul-mod-self-left y P k
 
-  -- what left the top comes back five times at the bottom, and is carried once
-  pub carried : (w a b c d e q a′ u : ℕ) → w ≡ at B a b c d e + (P + 5) * q → a + 5 * q ≡ u * B + a′ → at B a′ (b + u) c d e % P ≡ w % P
+  back : (a b c d e a′ u q : ℕ) → a + 5 * q ≡ u * B + a′
+      → a + B * (b + B * (c + B * (d + B * (e + B * q)))) ≡ a′ + B * (b + u + B * (c + B * (d + B * e))) + P * q
+  back a b c d e a′ u q h = omega (arith, ap (λ (z : ℕ). z * q) wraps)
+
+  -- carried in two chains; what leaves the top comes back five times at the bottom
+  pub carried : (a b c d e a′ b′ c′ d′ e′ q0 q1 q2 q3 q4 a″ u d″ w : ℕ) → a ≡ q0 * B + a′ → d ≡ q3 * B + d′ → b + q0 ≡ q1 * B + b′ → e + q3 ≡ q4 * B + e′
+      → c + q1 ≡ q2 * B + c′ → a′ + 5 * q4 ≡ u * B + a″ → d′ + q2 ≡ w * B + d″ → at B a″ (b′ + u) c′ d″ (e′ + w) % P ≡ at B a b c d e % P
   unfolding at
-  carried w a b c d e q a′ u f g = sym (gone w (a′ + B * (b + u + B * (c + B * (d + B * e)))) q (omega arith))
+  carried a b c d e a′ b′ c′ d′ e′ q0 q1 q2 q3 q4 a″ u d″ w h0 h3 h1 h4 h2 hu hw =
+      let y3 = d + B * e in
+      let y2 = c + B * y3 in
+      let y1 = b + B * y2 in
+      let s3 : y3 + q2 ≡ d″ + B * (e + q3 + w) = ap (λ (z : ℕ). z + q2) (carry0 B d q3 d′ e h3) ∙ carry1 B d′ q2 w d″ (e + q3) hw in
+      let s4 : e + q3 + w ≡ e′ + w + B * q4 = omega arith in
+      let t0 : a + B * y1 ≡ a′ + B * (b′ + B * (c′ + B * (d″ + B * (e′ + w + B * q4)))) =
+      carry0 B a q0 a′ y1 h0
+      ∙ ap (λ (z : ℕ). a′ + B * z) (carry1 B b q0 q1 b′ y2 h1)
+      ∙ ap (λ (z : ℕ). a′ + B * (b′ + B * z)) (carry1 B c q1 q2 c′ y3 h2)
+      ∙ ap (λ (z : ℕ). a′ + B * (b′ + B * (c′ + B * z))) s3
+      ∙ ap (λ (z : ℕ). a′ + B * (b′ + B * (c′ + B * (d″ + B * z)))) s4 in
+      sym
+      (gone (a + B * (b + B * (c + B * (d + B * e)))) (a″ + B * (b′ + u + B * (c′ + B * (d″ + B * (e′ + w))))) q4
+      (t0 ∙ back a′ b′ c′ d″ (e′ + w) a″ u q4 hu))
 
   -- the sum may be reduced before the product
   pub mod-in : (x b r : ℕ) → (x + b) * r % P ≡ (x % P + b) * r % P

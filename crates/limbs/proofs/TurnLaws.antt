@@ -1,5 +1,5 @@
 -- Laws of the turns: what one turn adds, and a loop of turns from the front.
-use mathlib.Core.Path.{_≡_, refl, ap, sym, _∙_}
+use mathlib.Core.Path.{_≡_, refl, _∙_}
 use mathlib.Core.List.{List, [], _∷_, _++_}
 use Prim.Native.Nat.{ℕ, zero, suc, _+_, _-_, _*_, _%_, _^_, _<_, _≤_}
 use native.Mathlib.Nat.{mul-comm, add-zero, sub-zero, mod-eq-of-lt, mod-lt, sub-eq-zero-of-le}

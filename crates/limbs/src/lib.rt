@@ -1,7 +1,6 @@
 // Numbers modulo 2^130 - 5 in five limbs of 26 bits, and the turns of RFC 8439 2.5.1 over 16-byte blocks.
 // It touches `base` and `words`.
 ghost use mathlib.Core.Path.{_≡_};
-ghost use mathlib.Core.List.{List};
 ghost use Prim.Native.Nat.{_+_, _*_, _%_, _^_, _<_, _≤_};
 ghost use lib.ListN.{length};
 ghost use Rattle.base.specs.Lists.{part};
@@ -85,20 +84,24 @@ fn ripple_limbs(h: Limbs, x: u64) -> Rippled
     )
 }
 
-// 2^130 is 5 modulo p, so what leaves the top comes back five times at the bottom.
+// 2^130 is 5 modulo p, so what leaves the top comes back five times at the bottom. Two chains of carries run side by side.
 fn carry(a: u64, b: u64, c: u64, d: u64, e: u64) -> Limbs
     requires { ⌜ (a < 2 ^ 60) × (b < 2 ^ 60) × (c < 2 ^ 60) × (d < 2 ^ 60) × (e < 2 ^ 60) ⌝ }
     ensures { λ r. ⌜ Stands (at (2 ^ 26) a b c d e) r ⌝ }
 {
-    let r = ripple(a, b, c, d, e, 0);
-    let l = r.low;
-    let u = split(wide(l.l0) + 5 * r.top);
+    let c0 = split(a);
+    let c3 = split(d);
+    let c1 = split(b + c0.high);
+    let c4 = split(e + c3.high);
+    let c2 = split(c + c1.high);
+    let u = split(wide(c0.low) + 5 * c4.high);
+    let w = split(wide(c3.low) + c2.high);
     Limbs {
         l0: u.low,
-        l1: l.l1 + (u.high as u32),
-        l2: l.l2,
-        l3: l.l3,
-        l4: l.l4,
+        l1: c1.low + (u.high as u32),
+        l2: c2.low,
+        l3: w.low,
+        l4: c4.low + (w.high as u32),
     }
 }
 
@@ -113,8 +116,7 @@ fn dot(h: Limbs, a: u32, b: u32, c: u32, d: u32, e: u32) -> u64
     requires { ⌜ Below (2 ^ 28) h × (a < 2 ^ 29) × (b < 2 ^ 29) × (c < 2 ^ 29) × (d < 2 ^ 29) × (e < 2 ^ 29) ⌝ }
     ensures { λ r. ⌜ (r ≡ h .l0 * a + h .l1 * b + h .l2 * c + h .l3 * d + h .l4 * e) × (r < 2 ^ 60) ⌝ }
 {
-    // The two lowest limbs come last out of a carry, so they are wanted last here.
-    times(h.l2, c) + times(h.l3, d) + times(h.l4, e) + times(h.l0, a) + times(h.l1, b)
+    times(h.l0, a) + times(h.l1, b) + times(h.l2, c) + times(h.l3, d) + times(h.l4, e)
 }
 
 // Five times each limb: what a limb of r counts where its product leaves the top.

@@ -1,12 +1,12 @@
 -- Laws of bytes and words that the state's laws rest on.
 use mathlib.Core.Path.{_≡_, refl, ap, sym, _∙_}
-use mathlib.Core.List.{List, [], _∷_, _++_, append-assoc, append-nil}
-use Prim.Native.Nat.{ℕ, zero, suc, _+_, _*_, _-_, _^_, _<_, _≤_}
-use native.Mathlib.Nat.{zero-add, mul-comm, add-comm, lt-of-le-of-lt}
+use mathlib.Core.List.{List, [], _∷_, _++_, append-nil}
+use Prim.Native.Nat.{ℕ, zero, suc, _+_, _*_, _^_, _<_, _≤_}
+use native.Mathlib.Nat.{zero-add, lt-of-le-of-lt}
 use native.Mathlib.Omega.{arith}
 use lib.Bits.{bitAnd, and-block, and-le-r}
 use lib.Dec.{lit<}
-use lib.ListN.{length, take, drop, set, replicate, drop-of-length-le, length-replicate}
+use lib.ListN.{length, drop, set, replicate, drop-of-length-le}
 use lib.Seq.{sets, sets-eq, drop-cons, set-at}
 use Rattle.words.specs.Le.{num}
 use Rattle.limbs.specs.Limbs.{quad, p}

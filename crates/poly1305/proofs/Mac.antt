@@ -13,7 +13,7 @@ use Rattle.base.specs.Lists.{fold, part}
 use Rattle.base.proofs.FoldLaws.{fold-append}
 use Rattle.base.proofs.PartLaws.{length-part}
 use Rattle.base.proofs.PickLaws.{yes, no, told}
-use Rattle.words.specs.Le.{num, le, Bytes}
+use Rattle.words.specs.Le.{num, Bytes}
 use Rattle.words.proofs.LeLaws.{num-lt, bytes-part}
 use Rattle.limbs.specs.declared.Limbs.{Limbs}
 use Rattle.limbs.specs.Limbs.{value, limbsOf, p}

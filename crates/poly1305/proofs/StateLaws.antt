@@ -1,5 +1,5 @@
 -- Laws of the state: pieces join, a good state stays good, and 16 bytes at once are one turn.
-use mathlib.Core.Path.{_≡_, refl, ap, sym, _∙_}
+use mathlib.Core.Path.{_≡_, refl, sym, _∙_}
 use mathlib.Core.Bool.{Bool, true, false}
 use mathlib.Core.Logic.{_⊎_, inl, inr}
 use mathlib.Core.List.{List, [], _∷_, _++_}
@@ -21,7 +21,6 @@ use Rattle.limbs.specs.Turns.{turn, turns}
 use Rattle.limbs.proofs.Digits.{limbs-below, limbs-reduced, value-limbs}
 use Rattle.limbs.proofs.TurnLaws.{turn-lt}
 use Rattle.poly1305.specs.declared.State.{State}
-use Rattle.poly1305.specs.Poly1305.{clamp}
 use Rattle.poly1305.specs.State.{zeros, started, emptied, held, push, absorbed, Good}
 use Rattle.poly1305.proofs.Laws.{sets-full}
 

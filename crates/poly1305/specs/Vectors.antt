@@ -2,7 +2,6 @@
 use mathlib.Core.Path.{_≡_, refl}
 use mathlib.Core.List.{List, [], _∷_}
 use Prim.Native.Nat.{ℕ}
-use Rattle.base.specs.Lists.{part, fold}
 use Rattle.words.specs.Le.{num, le}
 use Rattle.limbs.specs.Limbs.{p}
 use Rattle.limbs.specs.Turns.{turn, turns}

@@ -1,7 +1,6 @@
 // Poly1305 (RFC 8439 2.5): the tag of a message that is given in pieces of any length.
 // It touches `base`, `words` and `limbs`.
 ghost use mathlib.Core.Path.{_≡_};
-ghost use mathlib.Core.List.{List};
 ghost use Prim.Native.Nat.{_+_, _*_, _<_, _≤_};
 ghost use lib.ListN.{length, take};
 ghost use Rattle.base.specs.Lists.{part};

@@ -1,12 +1,10 @@
 use borrow.Author.Needs.{needs}
 use native.Mathlib.Omega.{arith}
-use mathlib.Core.Path.{_≡_, refl, ap, sym, _∙_}
+use mathlib.Core.Path.{sym}
 use Prim.Native.Nat.{_^_}
 use Rattle.limbs.proofs.Field.{plus}
 use Rattle.limbs.proofs.add.Statement.{statement}
 use Rattle.limbs.proofs.add.Tie as tie
-use Rattle.limbs.proofs.add.Reads as reads
-use Rattle.limbs.proofs.add.Lts as lts
 
 add-t3 : tie.Need-add-t3
 add-t3 c = search needs

@@ -1,5 +1,4 @@
 use borrow.Author.Needs.{needs}
-use mathlib.Core.Path.{_≡_, refl, ap, sym, _∙_}
 use Prim.Native.Nat.{_%_, _^_}
 use lib.Dec.{lit≤}
 use Rattle.limbs.specs.Limbs.{value, p}
@@ -7,9 +6,6 @@ use Rattle.limbs.proofs.Field.{frozen}
 use Rattle.limbs.proofs.Digits.{wraps, held, loose-under, digits-under}
 use Rattle.limbs.proofs.freeze.Statement.{statement}
 use Rattle.limbs.proofs.freeze.Tie as tie
-use Rattle.limbs.proofs.freeze.Reads as reads
-use Rattle.limbs.proofs.freeze.Lts as lts
-use Rattle.limbs.proofs.ripple_limbs.Reads as ripple-limbs-reads
 
 ripple-limbs-requires : tie.Need-ripple-limbs-requires
 ripple-limbs-requires c κs = search needs

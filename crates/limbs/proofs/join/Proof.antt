@@ -3,8 +3,6 @@ use native.Mathlib.Omega.{arith}
 use Rattle.limbs.proofs.Quads.{joined}
 use Rattle.limbs.proofs.join.Statement.{statement}
 use Rattle.limbs.proofs.join.Tie as tie
-use Rattle.limbs.proofs.join.Reads as reads
-use Rattle.limbs.proofs.join.Lts as lts
 
 mul-t9 : tie.Need-mul-t9
 mul-t9 c = search needs

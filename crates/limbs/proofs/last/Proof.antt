@@ -1,14 +1,9 @@
 use borrow.Author.Needs.{needs}
-use mathlib.Core.Path.{_≡_, refl, ap, sym, _∙_}
+use mathlib.Core.Path.{ap, _∙_}
 use Rattle.limbs.specs.Limbs.{value, limbsOf}
 use Rattle.limbs.proofs.TurnLaws.{last-is}
 use Rattle.limbs.proofs.last.Statement.{statement}
 use Rattle.limbs.proofs.last.Tie as tie
-use Rattle.limbs.proofs.last.Reads as reads
-use Rattle.limbs.proofs.last.Lts as lts
-use Rattle.limbs.proofs.fives.Reads as fives-reads
-use Rattle.limbs.proofs.freeze.Reads as freeze-reads
-use Rattle.limbs.proofs.run.Reads as run-reads
 
 fives-requires : tie.Need-fives-requires
 fives-requires c κs = search needs

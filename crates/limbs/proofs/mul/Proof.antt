@@ -1,15 +1,11 @@
 use borrow.Author.Needs.{needs}
-use mathlib.Core.Path.{_≡_, refl, ap, sym, _∙_}
+use mathlib.Core.Path.{_∙_}
 use Prim.Native.Nat.{_^_}
 use Rattle.limbs.specs.Limbs.{p}
 use Rattle.limbs.proofs.Field.{product}
 use Rattle.limbs.proofs.Digits.{wraps}
 use Rattle.limbs.proofs.mul.Statement.{statement}
 use Rattle.limbs.proofs.mul.Tie as tie
-use Rattle.limbs.proofs.mul.Reads as reads
-use Rattle.limbs.proofs.mul.Lts as lts
-use Rattle.limbs.proofs.carry.Reads as carry-reads
-use Rattle.limbs.proofs.dot.Reads as dot-reads
 
 dot-requires : tie.Need-dot-requires
 dot-requires c κs = search needs

@@ -1,14 +1,11 @@
 use native.Mathlib.Omega.{arith}
-use mathlib.Core.Path.{_≡_, refl, ap, sym, _∙_}
-use Prim.Native.Nat.{ℕ, _+_, _*_, _^_}
+use mathlib.Core.Path.{_≡_, _∙_}
+use Prim.Native.Nat.{_+_, _*_, _^_}
 use Rattle.limbs.proofs.Digits.{held}
 use Rattle.limbs.specs.Limbs.{quad}
 use borrow.Author.Needs.{needs}
 use Rattle.limbs.proofs.pack.Statement.{statement}
 use Rattle.limbs.proofs.pack.Tie as tie
-use Rattle.limbs.proofs.pack.Reads as reads
-use Rattle.limbs.proofs.pack.Lts as lts
-use Rattle.limbs.proofs.join.Reads as join-reads
 
 join-requires : tie.Need-join-requires
 join-requires c κs = search needs

@@ -6,9 +6,6 @@ use Rattle.limbs.proofs.Field.{rippled}
 use Rattle.limbs.proofs.Digits.{wraps}
 use Rattle.limbs.proofs.ripple.Statement.{statement}
 use Rattle.limbs.proofs.ripple.Tie as tie
-use Rattle.limbs.proofs.ripple.Reads as reads
-use Rattle.limbs.proofs.ripple.Lts as lts
-use Rattle.limbs.proofs.split.Reads as split-reads
 
 add-split : tie.Need-add-split
 add-split c = search needs

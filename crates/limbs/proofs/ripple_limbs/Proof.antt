@@ -1,11 +1,7 @@
 use borrow.Author.Needs.{needs}
-use mathlib.Core.Path.{_≡_, refl, ap, sym, _∙_}
+use mathlib.Core.Path.{sym}
 use Rattle.limbs.proofs.ripple_limbs.Statement.{statement}
 use Rattle.limbs.proofs.ripple_limbs.Tie as tie
-use Rattle.limbs.proofs.ripple_limbs.Reads as reads
-use Rattle.limbs.proofs.ripple_limbs.Lts as lts
-use Rattle.limbs.proofs.ripple.Reads as ripple-reads
-use Rattle.limbs.proofs.wide.Reads as wide-reads
 
 wide-requires : tie.Need-wide-requires
 wide-requires c κs = search needs

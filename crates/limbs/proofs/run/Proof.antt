@@ -1,16 +1,13 @@
 use borrow.Author.Needs.{needs}
 use native.Mathlib.Omega.{arith}
-use mathlib.Core.Path.{_≡_, refl, ap, sym, _∙_}
-use Prim.Native.Nat.{ℕ, _+_, _-_, _*_, _%_, _^_, _<_, _≤_}
+use mathlib.Core.Path.{_≡_}
+use Prim.Native.Nat.{_+_, _-_, _*_, _%_, _^_, _≤_}
 use lib.ListN.{drop}
 use Rattle.limbs.specs.Limbs.{value, p}
 use Rattle.limbs.specs.Bounds.{Below, stepsBy}
 use Rattle.limbs.proofs.TurnLaws.{wider, steps-none, steps-more, steps-done}
 use Rattle.limbs.proofs.run.Statement.{statement}
 use Rattle.limbs.proofs.run.Tie as tie
-use Rattle.limbs.proofs.run.Reads as reads
-use Rattle.limbs.proofs.run.Lts as lts
-use Rattle.limbs.proofs.turn_at.Reads as turn-at-reads
 
 abbrev Inv-loop : tie.InvT-loop
 Inv-loop r v m n top h₀ i₀ h i = (i ≤ n) × Below (2 ^ 26 + 2 ^ 20) h × (stepsBy top (n - i) (value r) (value h % p) (drop (16 * i) m) ≡ stepsBy top n (value r) (value h₀ % p) m)

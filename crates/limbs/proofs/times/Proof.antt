@@ -1,10 +1,8 @@
 use native.Mathlib.Omega.{arith}
-use mathlib.Core.Path.{_≡_, refl, ap, sym, _∙_}
+use mathlib.Core.Path.{refl}
 use native.Mathlib.Nat.{mul-le-mul-left, le-of-lt}
 use Rattle.limbs.proofs.times.Statement.{statement}
 use Rattle.limbs.proofs.times.Tie as tie
-use Rattle.limbs.proofs.times.Reads as reads
-use Rattle.limbs.proofs.times.Lts as lts
 
 mul-result : tie.Need-mul-result
 mul-result c = omega (arith, mul-le-mul-left (c .args .a) (le-of-lt (c .pre .1)))

@@ -1,20 +1,13 @@
 use borrow.Author.Needs.{needs}
-use native.Mathlib.Omega.{arith}
-use mathlib.Core.Path.{_≡_, refl, ap, sym, _∙_}
+use mathlib.Core.Path.{ap, sym, _∙_}
 use Prim.Native.Nat.{ℕ, _+_, _*_, _/_, _^_}
 use native.Mathlib.Nat.{add-zero}
 use Rattle.words.specs.Le.{le}
-use Rattle.limbs.specs.Limbs.{value, p}
+use Rattle.limbs.specs.Limbs.{p}
 use Rattle.limbs.proofs.TurnLaws.{wider}
 use Rattle.limbs.proofs.Quads.{laid, le-quad, quad-over}
 use Rattle.limbs.proofs.total.Statement.{statement}
 use Rattle.limbs.proofs.total.Tie as tie
-use Rattle.limbs.proofs.total.Reads as reads
-use Rattle.limbs.proofs.total.Lts as lts
-use Rattle.limbs.proofs.add.Reads as add-reads
-use Rattle.limbs.proofs.ripple_limbs.Reads as ripple-limbs-reads
-use Rattle.limbs.proofs.unpack.Reads as unpack-reads
-use Rattle.words.proofs.store32.Reads as store32-reads
 
 add-requires : tie.Need-add-requires
 add-requires c κs = (wider (c .pre .0), search needs)

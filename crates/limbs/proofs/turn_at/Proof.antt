@@ -1,16 +1,10 @@
 use borrow.Author.Needs.{needs}
-use mathlib.Core.Path.{_≡_, refl, ap, sym, _∙_}
-use Prim.Native.Nat.{ℕ, _+_, _*_, _%_, _^_}
+use mathlib.Core.Path.{ap, _∙_}
+use Prim.Native.Nat.{ℕ, _+_, _*_, _%_}
 use Rattle.limbs.specs.Limbs.{value, p}
 use Rattle.limbs.proofs.Quads.{quad-num}
 use Rattle.limbs.proofs.turn_at.Statement.{statement}
 use Rattle.limbs.proofs.turn_at.Tie as tie
-use Rattle.limbs.proofs.turn_at.Reads as reads
-use Rattle.limbs.proofs.turn_at.Lts as lts
-use Rattle.limbs.proofs.add.Reads as add-reads
-use Rattle.limbs.proofs.join.Reads as join-reads
-use Rattle.limbs.proofs.mul.Reads as mul-reads
-use Rattle.limbs.proofs.word.Reads as word-reads
 
 word-requires : tie.Need-word-requires
 word-requires c κs = search needs

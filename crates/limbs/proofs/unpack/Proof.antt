@@ -3,8 +3,6 @@ use native.Mathlib.Omega.{arith}
 use Rattle.limbs.proofs.Quads.{unpacked}
 use Rattle.limbs.proofs.unpack.Statement.{statement}
 use Rattle.limbs.proofs.unpack.Tie as tie
-use Rattle.limbs.proofs.unpack.Reads as reads
-use Rattle.limbs.proofs.unpack.Lts as lts
 
 mul-t3 : tie.Need-mul-t3
 mul-t3 c = search needs

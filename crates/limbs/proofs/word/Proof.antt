@@ -1,11 +1,8 @@
 use borrow.Author.Needs.{needs}
-use mathlib.Core.Path.{_≡_, refl, ap, sym, _∙_}
+use mathlib.Core.Path.{_∙_}
 use Rattle.limbs.proofs.Quads.{four-num}
 use Rattle.limbs.proofs.word.Statement.{statement}
 use Rattle.limbs.proofs.word.Tie as tie
-use Rattle.limbs.proofs.word.Reads as reads
-use Rattle.limbs.proofs.word.Lts as lts
-use Rattle.limbs.proofs.four.Reads as four-reads
 
 shared-slice-read-four : tie.Need-shared-slice-read-four
 shared-slice-read-four c = search needs

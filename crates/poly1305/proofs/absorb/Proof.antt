@@ -1,16 +1,9 @@
 use borrow.Author.Needs.{needs}
-use native.Mathlib.Omega.{arith}
-use mathlib.Core.Path.{_≡_, refl, ap, sym, _∙_}
 use Prim.Native.Nat.{_-_}
 use native.Mathlib.Nat.{sub-zero}
 use Rattle.poly1305.proofs.StateLaws.{absorbed-good, two}
 use Rattle.poly1305.proofs.absorb.Statement.{statement}
 use Rattle.poly1305.proofs.absorb.Tie as tie
-use Rattle.poly1305.proofs.absorb.Reads as reads
-use Rattle.poly1305.proofs.absorb.Lts as lts
-use Rattle.poly1305.proofs.aligned.Reads as aligned-reads
-use Rattle.poly1305.proofs.lay.Reads as lay-reads
-use Rattle.poly1305.proofs.top_up.Reads as top-up-reads
 
 aligned-requires : tie.Need-aligned-requires
 aligned-requires c κs = search needs

@@ -1,16 +1,11 @@
 use borrow.Author.Needs.{needs}
 use native.Mathlib.Omega.{arith}
-use mathlib.Core.Path.{_≡_, refl, ap, sym, _∙_}
 use Prim.Native.Nat.{_-_, _*_, _/_}
 use lib.ListN.{length}
 use Rattle.base.proofs.PartLaws.{length-part}
 use Rattle.poly1305.proofs.StateLaws.{absorbed-good, two}
 use Rattle.poly1305.proofs.aligned.Statement.{statement}
 use Rattle.poly1305.proofs.aligned.Tie as tie
-use Rattle.poly1305.proofs.aligned.Reads as reads
-use Rattle.poly1305.proofs.aligned.Lts as lts
-use Rattle.poly1305.proofs.lay.Reads as lay-reads
-use Rattle.poly1305.proofs.push_blocks.Reads as push-blocks-reads
 
 mul-e : tie.Need-mul-e
 mul-e c = search needs

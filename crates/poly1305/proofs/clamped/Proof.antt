@@ -1,17 +1,12 @@
 use borrow.Author.Needs.{needs}
 use native.Mathlib.Omega.{arith}
-use mathlib.Core.Path.{_≡_, refl, ap, sym, _∙_}
-use Prim.Native.Nat.{ℕ, _+_, _-_, _*_, _%_, _^_, _<_, _≤_}
-use Rattle.limbs.specs.Limbs.{value, limbsOf, quad}
+use mathlib.Core.Path.{ap, _∙_}
+use Rattle.limbs.specs.Limbs.{limbsOf}
 use Rattle.limbs.proofs.Quads.{quad-num}
 use Rattle.poly1305.specs.Poly1305.{clamp}
 use Rattle.poly1305.proofs.Laws.{clamp-quad}
 use Rattle.poly1305.proofs.clamped.Statement.{statement}
 use Rattle.poly1305.proofs.clamped.Tie as tie
-use Rattle.poly1305.proofs.clamped.Reads as reads
-use Rattle.poly1305.proofs.clamped.Lts as lts
-use Rattle.limbs.proofs.pack.Reads as pack-reads
-use Rattle.words.proofs.load32.Reads as load32-reads
 
 load32-requires : tie.Need-load32-requires
 load32-requires c κs = search needs

@@ -1,18 +1,13 @@
 use borrow.Author.Needs.{needs}
-use mathlib.Core.Path.{_≡_, refl, ap, sym, _∙_}
-use Prim.Native.Nat.{ℕ, _+_, _-_, _*_, _%_, _^_, _<_, _≤_}
+use mathlib.Core.Path.{ap, sym, _∙_}
+use Prim.Native.Nat.{ℕ, _+_}
 use Rattle.words.specs.Le.{le}
-use Rattle.limbs.specs.Limbs.{value, limbsOf, quad}
+use Rattle.limbs.specs.Limbs.{value}
 use Rattle.limbs.proofs.Digits.{limbs-below}
 use Rattle.poly1305.specs.State.{finished}
 use Rattle.poly1305.proofs.Mac.{ended-empty, ended-by}
 use Rattle.poly1305.proofs.finish.Statement.{statement}
 use Rattle.poly1305.proofs.finish.Tie as tie
-use Rattle.poly1305.proofs.finish.Reads as reads
-use Rattle.poly1305.proofs.finish.Lts as lts
-use Rattle.limbs.proofs.last.Reads as last-reads
-use Rattle.limbs.proofs.total.Reads as total-reads
-use Rattle.words.proofs.copy.Reads as copy-reads
 
 total-requires : tie.Need-total-requires
 total-requires c κs = search needs

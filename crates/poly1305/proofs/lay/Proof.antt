@@ -1,11 +1,8 @@
 use borrow.Author.Needs.{needs}
-use mathlib.Core.Path.{_≡_, refl, ap, sym, _∙_}
+use mathlib.Core.Path.{sym}
 use Rattle.poly1305.proofs.StateLaws.{lays}
 use Rattle.poly1305.proofs.lay.Statement.{statement}
 use Rattle.poly1305.proofs.lay.Tie as tie
-use Rattle.poly1305.proofs.lay.Reads as reads
-use Rattle.poly1305.proofs.lay.Lts as lts
-use Rattle.words.proofs.copy.Reads as copy-reads
 
 slice-aggregate-copy : tie.Need-slice-aggregate-copy
 slice-aggregate-copy c = search needs

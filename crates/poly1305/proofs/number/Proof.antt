@@ -1,13 +1,9 @@
 use borrow.Author.Needs.{needs}
-use mathlib.Core.Path.{_≡_, refl, ap, sym, _∙_}
-use Rattle.limbs.specs.Limbs.{value, limbsOf, quad}
+use mathlib.Core.Path.{ap, _∙_}
+use Rattle.limbs.specs.Limbs.{limbsOf}
 use Rattle.limbs.proofs.Quads.{quad-num}
 use Rattle.poly1305.proofs.number.Statement.{statement}
 use Rattle.poly1305.proofs.number.Tie as tie
-use Rattle.poly1305.proofs.number.Reads as reads
-use Rattle.poly1305.proofs.number.Lts as lts
-use Rattle.limbs.proofs.pack.Reads as pack-reads
-use Rattle.words.proofs.load32.Reads as load32-reads
 
 load32-requires : tie.Need-load32-requires
 load32-requires c κs = search needs

@@ -1,13 +1,10 @@
 use borrow.Author.Needs.{needs}
-use mathlib.Core.Path.{_≡_, refl, ap, sym, _∙_}
-use Rattle.limbs.specs.Limbs.{value, limbsOf}
+use mathlib.Core.Path.{refl, sym, _∙_}
+use Rattle.limbs.specs.Limbs.{value}
 use Rattle.limbs.specs.Turns.{turns}
 use Rattle.poly1305.proofs.StateLaws.{emptied-by, run, run-none}
 use Rattle.poly1305.proofs.push_blocks.Statement.{statement}
 use Rattle.poly1305.proofs.push_blocks.Tie as tie
-use Rattle.poly1305.proofs.push_blocks.Reads as reads
-use Rattle.poly1305.proofs.push_blocks.Lts as lts
-use Rattle.limbs.proofs.blocks.Reads as blocks-reads
 
 returns : tie.Need-returns
 returns c = let a = c .before .before .args in

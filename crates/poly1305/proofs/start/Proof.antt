@@ -1,14 +1,8 @@
 use borrow.Author.Needs.{needs}
-use mathlib.Core.Path.{_≡_, refl, ap, sym, _∙_}
-use Rattle.limbs.specs.Limbs.{value, limbsOf, quad}
+use Rattle.limbs.specs.Limbs.{quad}
 use Rattle.poly1305.specs.State.{started}
 use Rattle.poly1305.proofs.start.Statement.{statement}
 use Rattle.poly1305.proofs.start.Tie as tie
-use Rattle.poly1305.proofs.start.Reads as reads
-use Rattle.poly1305.proofs.start.Lts as lts
-use Rattle.limbs.proofs.pack.Reads as pack-reads
-use Rattle.poly1305.proofs.clamped.Reads as clamped-reads
-use Rattle.poly1305.proofs.number.Reads as number-reads
 
 slice-aggregate-clamped : tie.Need-slice-aggregate-clamped
 slice-aggregate-clamped c = search needs

@@ -1,5 +1,5 @@
 use borrow.Author.Needs.{needs}
-use mathlib.Core.Path.{_≡_, refl, ap, sym, _∙_}
+use mathlib.Core.Path.{refl, ap, sym, _∙_}
 use lib.ListN.{length}
 use lib.Seq.{sets, length-sets}
 use Rattle.limbs.specs.Limbs.{value, limbsOf}
@@ -7,10 +7,6 @@ use Rattle.limbs.specs.Turns.{turn}
 use Rattle.poly1305.proofs.StateLaws.{emptied-by, one-turn, filled}
 use Rattle.poly1305.proofs.top_up.Statement.{statement}
 use Rattle.poly1305.proofs.top_up.Tie as tie
-use Rattle.poly1305.proofs.top_up.Reads as reads
-use Rattle.poly1305.proofs.top_up.Lts as lts
-use Rattle.limbs.proofs.blocks.Reads as blocks-reads
-use Rattle.words.proofs.copy.Reads as copy-reads
 
 slice-aggregate-copy : tie.Need-slice-aggregate-copy
 slice-aggregate-copy c = search needs
