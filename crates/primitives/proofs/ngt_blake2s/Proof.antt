@@ -1,6 +1,7 @@
 -- Three calls; the hash of the pieces is the hash of the message.
+use mathlib.Core.Path.{_∙_}
 use borrow.Author.Needs.{needs}
-use Rattle.blake2s.proofs.FaceLaws.{absorbed-hash}
+use Rattle.primitives.proofs.Laws.{hashed}
 use Rattle.primitives.proofs.ngt_blake2s.Statement.{statement}
 use Rattle.primitives.proofs.ngt_blake2s.Tie as tie
 
@@ -15,7 +16,7 @@ finish-requires c κs = search needs
 
 returns : tie.Need-returns
 returns c =
-    rw (c .finish .ensures, c .before .absorb .ensures, c .before .before .start .ensures) (absorbed-hash _)
+    c .finish .ensures ∙ hashed _ (c .before .absorb .ensures) (c .before .before .start .ensures)
 
 pub ngt-blake2s-spec : {M : Type 1} → statement M
 ngt-blake2s-spec = tie.close (tie.spec start-requires absorb-requires finish-requires returns)
