@@ -7,8 +7,8 @@ ghost use lib.ListN.{length};
 ghost use Rattle.words.specs.Xor.{xorl};
 ghost use Rattle.blake2s.specs.Hash.{blake2s};
 ghost use Rattle.keys.specs.Keys.{nuggetKey, tagKey, checkOf, sealOf};
-ghost use Rattle.keys.specs.Pads.{nonceOf, firstBlock, padOf};
-ghost use Rattle.keys.specs.Tags.{tagOf};
+ghost use Rattle.keys.specs.Pads.{nonceOf, firstBlock, padOf, under};
+ghost use Rattle.keys.specs.Tags.{tagOf, tagUnder};
 
 // The hash of a letter and two parts, keyed.
 fn lettered(key: [u8; 32], letter: u8, a: &[u8], b: &[u8]) -> [u8; 32]
@@ -86,4 +86,13 @@ pub fn tag_of(stored: &[u8], key: [u8; 32], k: u64, f: u32) -> [u8; 16]
     let s = poly1305::start(t);
     let a = poly1305::absorb(s, stored);
     poly1305::finish(a)
+}
+
+// Contents become the stored flake where they lie; the tag is over what is stored.
+pub fn encipher(flake: &mut [u8], key: [u8; 32], k: u64, f: u32) -> [u8; 16]
+    requires { ⌜ (length (now flake) ≤ 4096) × (f < 64) ⌝ }
+    ensures { λ r. ⌜ (r ≡ tagUnder key k f (now (flake .entry))) × (now (flake .exit) ≡ under key k f (length (now (flake .entry))) (now (flake .entry))) ⌝ }
+{
+    lay_pad(&mut *flake, key, k, f);
+    tag_of(flake, key, k, f)
 }
