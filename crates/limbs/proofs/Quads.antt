@@ -2,9 +2,10 @@
 use mathlib.Core.Path.{_≡_, refl, ap, sym, _∙_}
 use mathlib.Core.List.{List, [], _∷_, _++_}
 use Prim.Native.Nat.{ℕ, zero, suc, _+_, _*_, _/_, _%_, _^_, _<_, _≤_}
-use native.Mathlib.Nat.{pow-suc, suc-add, zero-add, add-assoc}
+use native.Mathlib.Nat.{pow-suc, suc-add, zero-add, add-assoc, add-comm}
 use native.Mathlib.Omega.{arith}
 use lib.ListN.{length, getD, drop, replicate}
+use lib.Bits.{bitOr, or-shifted-r}
 use lib.Seq.{take-add, drop-drop, sets}
 use Rattle.base.specs.Lists.{part}
 use Rattle.base.proofs.PartLaws.{length-part}
@@ -54,22 +55,29 @@ quad-num l from h =
     rw add-assoc at (num-split l (from + 8) 4 4 (omega arith)) in
     sym (s1 ∙ ap (λ (z : ℕ). num (part from 4 l) + 2 ^ 32 * z) (s2 ∙ ap (λ (z : ℕ). num (part (from + 4) 4 l) + 2 ^ 32 * z) s3))
 
--- words cut into limbs
-pub joined : (a b c d top : ℕ)
-    → at (2 ^ 26) (a % 2 ^ 26) (a / 2 ^ 26 + b % 2 ^ 20 * 2 ^ 6) (b / 2 ^ 20 + c % 2 ^ 14 * 2 ^ 12) (c / 2 ^ 14 + d % 2 ^ 8 * 2 ^ 18) (d / 2 ^ 8 + top)
-    ≡ quad a b c d + 2 ^ 104 * top
-unfolding at quad
-joined a b c d top =
-    let e4 : c / 2 ^ 14 + d % 2 ^ 8 * 2 ^ 18 + 2 ^ 26 * (d / 2 ^ 8 + top) ≡ c / 2 ^ 14 + 2 ^ 18 * d + 2 ^ 26 * top = omega arith in
-    let y3 : ℕ = c + 2 ^ 32 * d in
-    let e3 : b / 2 ^ 20 + c % 2 ^ 14 * 2 ^ 12 + 2 ^ 26 * (c / 2 ^ 14 + 2 ^ 18 * d + 2 ^ 26 * top) ≡ b / 2 ^ 20 + 2 ^ 12 * y3 + 2 ^ 52 * top = omega arith in
-    rw (e4, e3) (above a b y3 top)
-  where
-    above : (a b y top : ℕ)
-        → a % 2 ^ 26 + 2 ^ 26 * (a / 2 ^ 26 + b % 2 ^ 20 * 2 ^ 6 + 2 ^ 26 * (b / 2 ^ 20 + 2 ^ 12 * y + 2 ^ 52 * top)) ≡ a + 2 ^ 32 * (b + 2 ^ 32 * y) + 2 ^ 104 * top
-    above a b y top =
-        let e2 : a / 2 ^ 26 + b % 2 ^ 20 * 2 ^ 6 + 2 ^ 26 * (b / 2 ^ 20 + 2 ^ 12 * y + 2 ^ 52 * top) ≡ a / 2 ^ 26 + 2 ^ 6 * (b + 2 ^ 32 * y) + 2 ^ 78 * top = omega arith in
-        rw e2 (omega arith)
+halves : (a b c d x : ℕ) → a + 2 ^ 32 * b + 2 ^ 64 * (c + 2 ^ 32 * d) + x ≡ quad a b c d + x
+unfolding quad
+halves a b c d x = omega arith
+
+-- two halves cut into limbs
+cut : (lo hi top : ℕ)
+    → at (2 ^ 26) (lo % 2 ^ 26) (lo / 2 ^ 26 % 2 ^ 26) (lo / 2 ^ 52 + hi % 2 ^ 14 * 2 ^ 12) (hi / 2 ^ 14 % 2 ^ 26) (hi / 2 ^ 40 + top) ≡ lo + 2 ^ 64 * hi + 2 ^ 104 * top
+unfolding at
+cut lo hi top =
+    let e4 : hi / 2 ^ 14 % 2 ^ 26 + 2 ^ 26 * (hi / 2 ^ 40 + top) ≡ hi / 2 ^ 14 + 2 ^ 26 * top = omega arith in
+    let e3 : lo / 2 ^ 52 + hi % 2 ^ 14 * 2 ^ 12 + 2 ^ 26 * (hi / 2 ^ 14 + 2 ^ 26 * top) ≡ lo / 2 ^ 52 + 2 ^ 12 * hi + 2 ^ 52 * top = omega arith in
+    let e2 : lo / 2 ^ 26 % 2 ^ 26 + 2 ^ 26 * (lo / 2 ^ 52 + 2 ^ 12 * hi + 2 ^ 52 * top) ≡ lo / 2 ^ 26 + 2 ^ 38 * hi + 2 ^ 78 * top = omega arith in
+    rw (e4, e3, e2) (omega arith)
+
+-- four words cut into limbs, with `one` at bit 128
+pub joined : (a b c d one : ℕ) → c < 2 ^ 32 → d < 2 ^ 32
+    → at (2 ^ 26) ((a + 2 ^ 32 * b) % 2 ^ 26) ((a + 2 ^ 32 * b) / 2 ^ 26 % 2 ^ 26) ((a + 2 ^ 32 * b) / 2 ^ 52 + (c + 2 ^ 32 * d) % 2 ^ 14 * 2 ^ 12)
+    ((c + 2 ^ 32 * d) / 2 ^ 14 % 2 ^ 26) (bitOr ((c + 2 ^ 32 * d) / 2 ^ 40) (one * 2 ^ 24))
+    ≡ quad a b c d + 2 ^ 104 * (one * 2 ^ 24)
+joined a b c d one hc hd =
+    let hi = c + 2 ^ 32 * d in
+    let top : bitOr (hi / 2 ^ 40) (one * 2 ^ 24) ≡ hi / 2 ^ 40 + one * 2 ^ 24 = or-shifted-r one 24 (hi / 2 ^ 40) (omega arith) ∙ add-comm (one * 2 ^ 24) (hi / 2 ^ 40) in
+    rw (top, cut (a + 2 ^ 32 * b) hi (one * 2 ^ 24)) (halves a b c d (2 ^ 104 * (one * 2 ^ 24)))
 
 -- limbs joined to words
 pub unpacked : (a b c d e : ℕ)

@@ -145,17 +145,19 @@ fn mul(h: Limbs, r: Limbs, v: Limbs) -> Limbs
     carry(d0, d1, d2, d3, d4)
 }
 
-// The digits of a number of four words, with `top` added to the highest.
-fn join(a: u32, b: u32, c: u32, d: u32, top: u32) -> Limbs
-    requires { ⌜ top ≤ 2 ^ 24 ⌝ }
-    ensures { λ r. ⌜ Holds (quad a b c d + 2 ^ 104 * top) r ⌝ }
+// The digits of a number of four words, with `one` set at bit 128.
+fn join(a: u32, b: u32, c: u32, d: u32, one: u32) -> Limbs
+    requires { ⌜ one ≤ 1 ⌝ }
+    ensures { λ r. ⌜ Holds (quad a b c d + 2 ^ 104 * (one * 2 ^ 24)) r ⌝ }
 {
+    let lo = (a as u64) + 0x1_0000_0000 * (b as u64);
+    let hi = (c as u64) + 0x1_0000_0000 * (d as u64);
     Limbs {
-        l0: a % 0x400_0000,
-        l1: a / 0x400_0000 + b % 0x10_0000 * 0x40,
-        l2: b / 0x10_0000 + c % 0x4000 * 0x1000,
-        l3: c / 0x4000 + d % 0x100 * 0x4_0000,
-        l4: d / 0x100 + top,
+        l0: (lo % 0x400_0000) as u32,
+        l1: (lo / 0x400_0000 % 0x400_0000) as u32,
+        l2: (lo / 0x10_0000_0000_0000 + hi % 0x4000 * 0x1000) as u32,
+        l3: (hi / 0x4000 % 0x400_0000) as u32,
+        l4: (hi / 0x100_0000_0000) as u32 | one * 0x100_0000,
     }
 }
 
@@ -194,28 +196,28 @@ fn word(m: &[u8], at: usize) -> u32
     four(m[at], m[at + 1], m[at + 2], m[at + 3])
 }
 
-// One turn with the 16 bytes at `at` and `top` at bit 104.
-fn turn_at(h: Limbs, r: Limbs, v: Limbs, m: &[u8], at: usize, top: u32) -> Limbs
-    requires { ⌜ Below (2 ^ 26 + 2 ^ 20) h × Below (2 ^ 26) r × Fives r v × (at + 16 ≤ length (now m)) × (top ≤ 2 ^ 24) ⌝ }
-    ensures { λ x. ⌜ Stands ((value h + (num (part at 16 (now (m .entry))) + 2 ^ 104 * top)) * value r) x ⌝ }
+// One turn with the 16 bytes at `at` and `one` at bit 128.
+fn turn_at(h: Limbs, r: Limbs, v: Limbs, m: &[u8], at: usize, one: u32) -> Limbs
+    requires { ⌜ Below (2 ^ 26 + 2 ^ 20) h × Below (2 ^ 26) r × Fives r v × (at + 16 ≤ length (now m)) × (one ≤ 1) ⌝ }
+    ensures { λ x. ⌜ Stands ((value h + (num (part at 16 (now (m .entry))) + 2 ^ 104 * (one * 2 ^ 24))) * value r) x ⌝ }
 {
     let a = word(m, at);
     let b = word(m, at + 4);
     let c = word(m, at + 8);
     let d = word(m, at + 12);
-    let n = join(a, b, c, d, top);
+    let n = join(a, b, c, d, one);
     mul(add(h, n), r, v)
 }
 
 // n turns with the first blocks of m. A turn is called from here alone, so that it is laid into the loop.
-fn run(a: Limbs, r: Limbs, v: Limbs, m: &[u8], n: usize, top: u32) -> Limbs
-    requires { ⌜ Below (2 ^ 26) a × Below (2 ^ 26) r × Fives r v × (16 * n ≤ length (now m)) × (top ≤ 2 ^ 24) ⌝ }
-    ensures { λ x. ⌜ Ran (stepsBy top n (value r) (value a % p) (now (m .entry))) x ⌝ }
+fn run(a: Limbs, r: Limbs, v: Limbs, m: &[u8], n: usize, one: u32) -> Limbs
+    requires { ⌜ Below (2 ^ 26) a × Below (2 ^ 26) r × Fives r v × (16 * n ≤ length (now m)) × (one ≤ 1) ⌝ }
+    ensures { λ x. ⌜ Ran (stepsBy (one * 2 ^ 24) n (value r) (value a % p) (now (m .entry))) x ⌝ }
 {
     let mut h = a;
     let mut i = 0;
     while i < n {
-        let x = turn_at(h, r, v, m, 16 * i, top);
+        let x = turn_at(h, r, v, m, 16 * i, one);
         h = x;
         i += 1;
     }
@@ -237,7 +239,7 @@ pub fn blocks(a: Limbs, r: Limbs, m: &[u8], n: usize) -> Limbs
     requires { ⌜ Reduced a × Below (2 ^ 26) r × (16 * n ≤ length (now m)) ⌝ }
     ensures { λ x. ⌜ x ≡ limbsOf (turns n (value r) (value a) (now (m .entry))) ⌝ }
 {
-    let h = run(a, r, fives(r), m, n, 0x100_0000);
+    let h = run(a, r, fives(r), m, n, 1);
     freeze(h)
 }
 

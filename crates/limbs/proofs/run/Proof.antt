@@ -10,14 +10,14 @@ use Rattle.limbs.proofs.run.Statement.{statement}
 use Rattle.limbs.proofs.run.Tie as tie
 
 abbrev Inv-loop : tie.InvT-loop
-Inv-loop r v m n top h₀ i₀ h i = (i ≤ n) × Below (2 ^ 26 + 2 ^ 20) h × (stepsBy top (n - i) (value r) (value h % p) (drop (16 * i) m) ≡ stepsBy top n (value r) (value h₀ % p) m)
+Inv-loop r v m n one h₀ i₀ h i = (i ≤ n) × Below (2 ^ 26 + 2 ^ 20) h × (stepsBy (one * 2 ^ 24) (n - i) (value r) (value h % p) (drop (16 * i) m) ≡ stepsBy (one * 2 ^ 24) n (value r) (value h₀ % p) m)
 
 abbrev μ-loop : tie.MeasureT-loop
-μ-loop r v m n top h₀ i₀ h i = n - i
+μ-loop r v m n one h₀ i₀ h i = n - i
 
 loop-holds : tie.Need-loop-holds Inv-loop μ-loop
 loop-holds c = let a = c .before .args in
-    (omega arith, wider (c .before .pre .0), steps-none (a .top) (a .n) (value (a .r)) (value (a .a) % p) (a .m .now))
+    (omega arith, wider (c .before .pre .0), steps-none (a .one * 2 ^ 24) (a .n) (value (a .r)) (value (a .a) % p) (a .m .now))
 
 mul-turn-at : tie.Need-mul-turn-at Inv-loop μ-loop
 mul-turn-at c = search needs
@@ -36,14 +36,14 @@ loop-again c = let a = c .before .before .before .before .args in
     let t = c .before .before .loop in (
       omega arith,
       c .turn-at .ensures .loose,
-      steps-more (a .top) (a .n) (t .i) (value (a .r)) (value (t .h)) (value (c .turn-at .result)) (a .m .now) (c .before .loop-test .taken) (c .turn-at .ensures .same) (t .inv .2),
+      steps-more (a .one * 2 ^ 24) (a .n) (t .i) (value (a .r)) (value (t .h)) (value (c .turn-at .result)) (a .m .now) (c .before .loop-test .taken) (c .turn-at .ensures .same) (t .inv .2),
     )
 
 returns : tie.Need-returns Inv-loop μ-loop
 returns c = let a = c .before .before .before .args in
     let t = c .before .loop in
     record {
-      same = steps-done (a .top) (a .n) (t .i) (value (a .r)) (value (t .h) % p) (drop (16 * t .i) (a .m .now)) (c .loop-test .left) (t .inv .2);
+      same = steps-done (a .one * 2 ^ 24) (a .n) (t .i) (value (a .r)) (value (t .h) % p) (drop (16 * t .i) (a .m .now)) (c .loop-test .left) (t .inv .2);
       loose = t .inv .1;
     }
 
