@@ -1,13 +1,14 @@
 -- Laws of bytes and words that the state's laws rest on.
 use mathlib.Core.Path.{_≡_, refl, ap, sym, _∙_}
-use mathlib.Core.List.{List, [], _∷_, _++_, append-nil}
+use mathlib.Core.List.{List, [], _∷_, _++_}
 use Prim.Native.Nat.{ℕ, zero, suc, _+_, _*_, _^_, _<_, _≤_}
-use native.Mathlib.Nat.{zero-add, lt-of-le-of-lt}
+use native.Mathlib.Nat.{lt-of-le-of-lt}
 use native.Mathlib.Omega.{arith}
 use lib.Bits.{bitAnd, and-block, and-le-r}
 use lib.Dec.{lit<}
-use lib.ListN.{length, drop, set, replicate, drop-of-length-le}
-use lib.Seq.{sets, sets-eq, drop-cons, set-at}
+use lib.ListN.{length, drop, set, replicate}
+use lib.Seq.{sets, drop-cons, set-at}
+use Rattle.base.proofs.PartLaws.{sets-front}
 use Rattle.words.specs.Le.{num}
 use Rattle.limbs.specs.Limbs.{quad, p}
 use Rattle.limbs.proofs.Quads.{num-append}
@@ -38,14 +39,6 @@ clamp-quad a b c d ha hb hc =
 pub clamp-lt : (r : ℕ) → clamp r < p
 unfolding clamp p
 clamp-lt r = lt-of-le-of-lt (and-le-r r 0x0ffffffc0ffffffc0ffffffc0fffffff) (lit< tt)
-
--- stores from the first place on
-pub sets-front : (l v : List ℕ) → length v ≤ length l → sets l 0 v ≡ v ++ drop (length v) l
-sets-front l v h = sets-eq v l 0 (omega arith) ∙ rw (zero-add (length v))
-
--- all of it stored anew
-pub sets-full : (l v : List ℕ) → length v ≡ length l → sets l 0 v ≡ v
-sets-full l v e = sets-front l v (omega arith) ∙ rw (drop-of-length-le l {i = length v} (omega arith)) (append-nil v)
 
 num-zeros : (n k : ℕ) → num (drop k (replicate n 0)) ≡ 0
 unfolding num

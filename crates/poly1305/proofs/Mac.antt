@@ -23,7 +23,8 @@ use Rattle.limbs.proofs.TurnLaws.{turn-lt}
 use Rattle.poly1305.specs.declared.State.{State}
 use Rattle.poly1305.specs.Poly1305.{clamp, poly1305}
 use Rattle.poly1305.specs.State.{zeros, started, emptied, held, push, absorbed, ended, finished, Good}
-use Rattle.poly1305.proofs.Laws.{clamp-lt, sets-front, num-laid}
+use Rattle.poly1305.proofs.Laws.{clamp-lt, num-laid}
+use Rattle.base.proofs.PartLaws.{sets-front}
 use Rattle.poly1305.proofs.StateLaws.{start-good, absorbed-pad, emptied-good, lays, block}
 
 -- an empty buffer adds nothing

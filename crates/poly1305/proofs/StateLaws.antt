@@ -22,7 +22,7 @@ use Rattle.limbs.proofs.Digits.{limbs-below, limbs-reduced, value-limbs}
 use Rattle.limbs.proofs.TurnLaws.{turn-lt}
 use Rattle.poly1305.specs.declared.State.{State}
 use Rattle.poly1305.specs.State.{zeros, started, emptied, held, push, absorbed, Good}
-use Rattle.poly1305.proofs.Laws.{sets-full}
+use Rattle.base.proofs.PartLaws.{sets-full}
 
 -- two pieces one after the other are the joined piece
 pub join : (s : State) (a b : List ℕ) → absorbed (absorbed s a) b ≡ absorbed s (a ++ b)
