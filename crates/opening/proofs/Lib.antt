@@ -1,0 +1,6 @@
+pub mod Laws
+pub mod FormatLaws
+pub mod MountLaws
+pub mod Refusals
+pub mod HeadBack
+pub mod Outcomes

@@ -1,0 +1,47 @@
+use Rattle.opening.specs.Mount.{marked}
+use lib.Dec.{eqb}
+use Rattle.base.proofs.PickLaws.{both-on, both-off}
+use Prim.Native.Nat.{ℕ, _-_}
+use mathlib.Core.Path.{refl, sym, _∙_, ap}
+use borrow.Author.Needs.{needs}
+use Rattle.opening.proofs.has_mark.Statement.{statement}
+use Rattle.opening.proofs.has_mark.Tie as tie
+
+sub-equal : tie.Need-sub-equal
+sub-equal c = search needs
+
+part-equal-start : tie.Need-part-equal-start
+part-equal-start c = search needs
+
+part-equal-end : tie.Need-part-equal-end
+part-equal-end c = search needs
+
+slice-aggregate-equal : tie.Need-slice-aggregate-equal
+slice-aggregate-equal c = search needs
+
+equal-requires : tie.Need-equal-requires
+equal-requires c κs = search needs
+
+load-requires : tie.Need-load-requires
+load-requires c κs = search needs
+
+returns : tie.Need-returns
+unfolding marked
+returns c = ap (λ (x : ℕ). eqb x 1) (c .load .ensures .0) ∙ sym (both-on (sym (c .before .before .equal .ensures) ∙ c .before .if1 .taken) refl)
+
+returns-2 : tie.Need-returns-2
+unfolding marked
+returns-2 c = sym (both-off _ (sym (c .before .equal .ensures) ∙ c .if1 .left))
+
+pub has-mark-spec : {M : Type 1} → statement M
+has-mark-spec =
+    tie.close
+    (tie.spec
+    sub-equal
+    part-equal-start
+    part-equal-end
+    slice-aggregate-equal
+    equal-requires
+    load-requires
+    returns
+    returns-2)

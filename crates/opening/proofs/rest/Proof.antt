@@ -1,0 +1,49 @@
+use Rattle.opening.proofs.Laws.{goes-on, stops}
+use Rattle.opening.specs.Stages.{restOf}
+use Rattle.tree.specs.Whole.{wholeOf}
+use Rattle.answers.specs.Numbers.{accepts}
+use Rattle.answers.specs.declared.Answer.{Answer}
+use Rattle.layout.specs.declared.Shape.{Shape}
+use mathlib.Core.Bool.{Bool}
+use mathlib.Core.Path.{sym, _∙_, ap, ap₂}
+use borrow.Author.Needs.{needs}
+use Rattle.opening.proofs.rest.Statement.{statement}
+use Rattle.opening.proofs.rest.Tie as tie
+
+keys-fit-requires : tie.Need-keys-fit-requires
+keys-fit-requires c κs = search needs
+
+accepted-requires : tie.Need-accepted-requires
+accepted-requires c κs = search needs
+
+shape-of-requires : tie.Need-shape-of-requires
+shape-of-requires c κs = search needs
+
+is-changing-requires : tie.Need-is-changing-requires
+is-changing-requires c κs = search needs
+
+whole-requires : tie.Need-whole-requires
+whole-requires c κs = rw (c .before .shape-of .ensures) (c .before .before .before .before .before .before .pre)
+
+returns : tie.Need-returns
+unfolding restOf
+returns c =
+    let a = c .before .before .before .before .before .before .before .args in
+    c .whole .ensures ∙ ap₂ (λ (s : Shape) (b : Bool). wholeOf s (a .d .epoch) b (a .vol .now)) (c .before .before .shape-of .ensures) (c .before .is-changing .ensures)
+    ∙ sym (goes-on _ _ (sym (ap (λ (x : Answer). accepts x) (c .before .before .before .before .before .keys-fit .ensures)) ∙ sym (c .before .before .before .before .accepted .ensures) ∙ c .before .before .before .if1 .taken))
+
+returns-2 : tie.Need-returns-2
+unfolding restOf
+returns-2 c = c .before .before .keys-fit .ensures ∙ sym (stops _ _ (sym (ap (λ (x : Answer). accepts x) (c .before .before .keys-fit .ensures)) ∙ sym (c .before .accepted .ensures) ∙ c .if1 .left))
+
+pub rest-spec : {M : Type 1} → statement M
+rest-spec =
+    tie.close
+    (tie.spec
+    keys-fit-requires
+    accepted-requires
+    shape-of-requires
+    is-changing-requires
+    whole-requires
+    returns
+    returns-2)

@@ -1,0 +1,25 @@
+use borrow.Author.Needs.{needs}
+use Rattle.opening.proofs.shape_in.Statement.{statement}
+use Rattle.opening.proofs.shape_in.Tie as tie
+
+load32-requires : tie.Need-load32-requires
+load32-requires c κs = search needs
+
+load-requires : tie.Need-load-requires
+load-requires c κs = search needs
+
+cast-t4 : tie.Need-cast-t4
+cast-t4 c = search needs
+
+load-requires-2 : tie.Need-load-requires-2
+load-requires-2 c κs = search needs
+
+cast-t6 : tie.Need-cast-t6
+cast-t6 c = search needs
+
+returns : tie.Need-returns
+returns c = rw (c .before .before .load32 .ensures, c .before .load .ensures .0, c .load2 .ensures .0)
+
+pub shape-in-spec : {M : Type 1} → statement M
+shape-in-spec =
+    tie.close (tie.spec load32-requires load-requires cast-t4 load-requires-2 cast-t6 returns)

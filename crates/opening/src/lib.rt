@@ -1,0 +1,319 @@
+// Format and mount: a drive opened over a lent volume, made afresh or as it stands.
+// It touches `drive`, `tree`, `nodes`, `records`, `keys`, `layout`, `answers` and `words`.
+use answers::Answer;
+use drive::Done;
+use drive::Drive;
+use drive::State;
+use layout::Shape;
+use records::Record;
+ghost use mathlib.Core.Path.{_≡_};
+ghost use Prim.Native.Nat.{_+_, _-_, _<_, _≤_};
+ghost use lib.ListN.{length};
+ghost use Rattle.base.specs.Lists.{part};
+ghost use Rattle.layout.specs.Shape.{shape};
+ghost use Rattle.nodes.specs.Lent.{Lent};
+ghost use Rattle.nodes.specs.Nodes.{nodeIn};
+ghost use Rattle.drive.specs.Drive.{shapeOf};
+ghost use Rattle.opening.specs.Format.{counterTop, formatAnswer, bare, planted, freshDrive, formatDone, formatVolume};
+ghost use Rattle.opening.specs.Mount.{marked, headFits, sealed, checked, shapeIn, stateIn, epochIn, keptOld, openedDrive, mountDone};
+ghost use Rattle.opening.specs.Stages.{formOf, keysOf, restOf};
+
+// The 16 bytes at `at`.
+fn sixteen(vol: &[u8], at: usize) -> [u8; 16]
+    requires { ⌜ at + 16 ≤ length (now vol) ⌝ }
+    ensures { λ r. ⌜ r ≡ part at 16 (now (vol .entry)) ⌝ }
+{
+    let mut out = [0u8; 16];
+    let end = at + 16;
+    words::copy(&mut out, 0, &vol[at..end]);
+    out
+}
+
+// Node 1 of a volume of this shape.
+fn first_node(vol: &[u8], s: Shape) -> [u8; 32]
+    requires { ⌜ Lent s (now vol) ⌝ }
+    ensures { λ r. ⌜ r ≡ nodeIn s (now (vol .entry)) 1 ⌝ }
+{
+    let at = layout::node_at(s, 1);
+    let end = at + 32;
+    let mut out = [0u8; 32];
+    words::copy(&mut out, 0, &vol[at..end]);
+    out
+}
+
+// "Format: 1, 2, 13."
+fn format_tests(vol: &[u8], s: Shape, outside: u64) -> Answer
+    ensures { λ r. ⌜ r ≡ formatAnswer s outside (now (vol .entry)) ⌝ }
+{
+    if layout::in_limits(s) {
+        if vol.len() == layout::length_of(s) {
+            if outside == 0xffff_ffff_ffff_ffff {
+                return Answer::CounterTop;
+            }
+            return Answer::Accepted;
+        }
+        return Answer::Length;
+    }
+    Answer::Limits
+}
+
+// "Everything is zero [..]; epochs are 1"
+fn lay_bare(vol: &mut [u8], s: Shape)
+    requires { ⌜ Lent s (now vol) ⌝ }
+    ensures { λ _. ⌜ now (vol .exit) ≡ bare s ⌝ }
+{
+    words::clear(&mut *vol);
+    let count = s.n;
+    let mut n = 0;
+    while n < count {
+        let fresh = Record {
+            keycount: 0,
+            journal: 0,
+            epoch: 1,
+        };
+        records::store(&mut *vol, layout::record_at(n), fresh);
+        n += 1;
+    }
+}
+
+// The drive of a volume that was just planted.
+fn fresh_drive(vol: &[u8], s: Shape, salt: [u8; 16], secret: [u8; 32], outside: u64) -> Drive
+    requires { ⌜ Lent s (now vol) × (now vol ≡ planted s) × (outside < counterTop) ⌝ }
+    ensures { λ r. ⌜ r ≡ freshDrive s salt secret outside ⌝ }
+{
+    let node = first_node(vol, s);
+    Drive {
+        n: s.n,
+        p: s.p,
+        f: s.f,
+        salt: salt,
+        state: State::Steady,
+        epoch: 1,
+        counter: outside + 1,
+        node: node,
+        present: secret,
+        old: [0u8; 32],
+    }
+}
+
+// "Format takes N, P, F, salt, secret and the outside counter."
+pub fn format(
+    vol: &mut [u8],
+    n: u32,
+    p: u32,
+    f: u32,
+    salt: [u8; 16],
+    secret: [u8; 32],
+    outside: u64,
+) -> Done
+    ensures { λ r. ⌜ (r ≡ formatDone (shape n p f) salt secret outside (now (vol .entry))) × (now (vol .exit) ≡ formatVolume (shape n p f) salt secret outside (now (vol .entry))) ⌝ }
+{
+    let s = Shape { n: n, p: p, f: f };
+    let a = format_tests(vol, s, outside);
+    if answers::accepted(a) {
+        lay_bare(&mut *vol, s);
+        tree::build(&mut *vol, s);
+        let d = fresh_drive(vol, s, salt, secret, outside);
+        let first = drive::head(d);
+        words::copy(&mut *vol, 0, &first);
+        return Done {
+            answer: a,
+            drive: d,
+        };
+    }
+    Done {
+        answer: a,
+        drive: drive::blank(),
+    }
+}
+
+// Test 3: "mark or version differs"
+fn has_mark(vol: &[u8]) -> bool
+    requires { ⌜ 104 ≤ length (now vol) ⌝ }
+    ensures { λ r. ⌜ r ≡ marked (now (vol .entry)) ⌝ }
+{
+    let mark = [78u8, 71u8, 84u8];
+    if words::equal(&vol[0..3], &mark) {
+        words::load(vol, 3, 2) == 1
+    } else {
+        false
+    }
+}
+
+fn shape_in(vol: &[u8]) -> Shape
+    requires { ⌜ 104 ≤ length (now vol) ⌝ }
+    ensures { λ r. ⌜ r ≡ shapeIn (now (vol .entry)) ⌝ }
+{
+    Shape {
+        n: words::load32(vol, 8),
+        p: words::load(vol, 12, 2) as u32,
+        f: words::load(vol, 14, 2) as u32,
+    }
+}
+
+fn epoch_in(vol: &[u8]) -> u16
+    requires { ⌜ 104 ≤ length (now vol) ⌝ }
+    ensures { λ r. ⌜ r ≡ epochIn (now (vol .entry)) ⌝ }
+{
+    words::load(vol, 6, 2) as u16
+}
+
+// One less, where there is one.
+fn one_below(epoch: u16) -> u16
+    ensures { λ r. ⌜ r ≡ epoch - 1 ⌝ }
+{
+    if epoch == 0 { 0 } else { epoch - 1 }
+}
+
+// "changing carries the epoch being left"
+fn state_in(vol: &[u8]) -> State
+    requires { ⌜ 104 ≤ length (now vol) ⌝ }
+    ensures { λ r. ⌜ r ≡ stateIn (now (vol .entry)) ⌝ }
+{
+    if words::load(vol, 5, 1) == 0 {
+        return State::Steady;
+    }
+    State::Changing(one_below(epoch_in(vol)))
+}
+
+// Test 1: "N, P, F, state or epoch out of limits"
+fn head_fits(vol: &[u8]) -> bool
+    requires { ⌜ 104 ≤ length (now vol) ⌝ }
+    ensures { λ r. ⌜ r ≡ headFits (now (vol .entry)) ⌝ }
+{
+    if layout::in_limits(shape_in(vol)) {
+        if 1 < words::load(vol, 5, 1) {
+            return false;
+        }
+        return drive::epoch_fits(state_in(vol), epoch_in(vol));
+    }
+    false
+}
+
+// "2 (under 104 bytes), 3, 1, 2"
+fn form(vol: &[u8]) -> Answer
+    ensures { λ r. ⌜ r ≡ formOf (now (vol .entry)) ⌝ }
+{
+    if vol.len() < 104 {
+        return Answer::Length;
+    }
+    if has_mark(vol) {
+        if head_fits(vol) {
+            if vol.len() == layout::length_of(shape_in(vol)) {
+                return Answer::Accepted;
+            }
+            return Answer::Length;
+        }
+        return Answer::Limits;
+    }
+    Answer::Mark
+}
+
+// "an accepted change or mount leaves zeros there"
+fn kept_old(state: State, old: [u8; 32]) -> [u8; 32]
+    ensures { λ r. ⌜ r ≡ keptOld state old ⌝ }
+{
+    match state {
+        State::Steady => [0u8; 32],
+        State::Changing(_) => old,
+    }
+}
+
+// The drive that the head's bytes, node 1 and the brought secrets make.
+fn opened(vol: &[u8], present: [u8; 32], old: [u8; 32]) -> Drive
+    requires { ⌜ Lent (shapeIn (now vol)) (now vol) ⌝ }
+    ensures { λ r. ⌜ r ≡ openedDrive (now (vol .entry)) present old ⌝ }
+{
+    let s = shape_in(vol);
+    let node = first_node(vol, s);
+    let salt = sixteen(vol, 16);
+    let state = state_in(vol);
+    let kept = kept_old(state, old);
+    Drive {
+        n: s.n,
+        p: s.p,
+        f: s.f,
+        salt: salt,
+        state: state,
+        epoch: epoch_in(vol),
+        counter: words::load(vol, 32, 8),
+        node: node,
+        present: present,
+        old: kept,
+    }
+}
+
+// Test 4: the seal over the bytes as they stand
+fn seal_stands(d: Drive, vol: &[u8]) -> bool
+    requires { ⌜ 104 ≤ length (now vol) ⌝ }
+    ensures { λ r. ⌜ r ≡ sealed d (now (vol .entry)) ⌝ }
+{
+    let present = d.present;
+    let node = d.node;
+    let seal = keys::seal_of(present, &vol[0..72], &node);
+    words::equal(&vol[72..104], &seal)
+}
+
+// Test 5: "old-secret check differs (when steady: from zeros)"
+fn check_stands(d: Drive, vol: &[u8]) -> bool
+    requires { ⌜ 104 ≤ length (now vol) ⌝ }
+    ensures { λ r. ⌜ r ≡ checked d (now (vol .entry)) ⌝ }
+{
+    let check = drive::check_in(d);
+    words::equal(&vol[40..72], &check)
+}
+
+// "4, 5, 6"
+fn keys_fit(d: Drive, vol: &[u8], outside: u64) -> Answer
+    requires { ⌜ 104 ≤ length (now vol) ⌝ }
+    ensures { λ r. ⌜ r ≡ keysOf d (now (vol .entry)) outside ⌝ }
+{
+    if seal_stands(d, vol) {
+        if check_stands(d, vol) {
+            if d.counter == outside {
+                return Answer::Accepted;
+            }
+            return Answer::Counter;
+        }
+        return Answer::OldSecret;
+    }
+    Answer::Seal
+}
+
+// "4, 5, 6, 7 whole"
+fn rest(d: Drive, vol: &[u8], outside: u64) -> Answer
+    requires { ⌜ Lent (shapeOf d) (now vol) ⌝ }
+    ensures { λ r. ⌜ r ≡ restOf d (now (vol .entry)) outside ⌝ }
+{
+    let a = keys_fit(d, vol, outside);
+    if answers::accepted(a) {
+        let state = d.state;
+        return tree::whole(vol, drive::shape_of(d), d.epoch, drive::is_changing(state));
+    }
+    a
+}
+
+// "Mount takes both secrets (the old one unused when steady) and the outside counter."
+pub fn mount(vol: &[u8], present: [u8; 32], old: [u8; 32], outside: u64) -> Done
+    ensures { λ r. ⌜ r ≡ mountDone (now (vol .entry)) present old outside ⌝ }
+{
+    let a = form(vol);
+    if answers::accepted(a) {
+        let d = opened(vol, present, old);
+        let b = rest(d, vol, outside);
+        if answers::accepted(b) {
+            return Done {
+                answer: b,
+                drive: d,
+            };
+        }
+        return Done {
+            answer: b,
+            drive: drive::blank(),
+        };
+    }
+    Done {
+        answer: a,
+        drive: drive::blank(),
+    }
+}
