@@ -1,0 +1,5 @@
+pub mod Laws
+pub mod PieceLaws
+pub mod TestLaws
+pub mod TouchLaws
+pub mod Outcomes

@@ -1,0 +1,3 @@
+pub mod Nugget
+pub mod Tests
+pub mod Touched

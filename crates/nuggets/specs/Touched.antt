@@ -1,0 +1,14 @@
+-- "let T be the flakes touched": those of a nugget that a range of offsets meets.
+use Prim.Native.Nat.{ℕ, _+_, max, min}
+use mathlib.Core.Bool.{Bool}
+use lib.Dec.{ltb}
+use Rattle.layout.specs.declared.Shape.{Shape}
+use Rattle.layout.specs.Spots.{offsetAt}
+use Rattle.records.specs.Journal.{flakesWith}
+
+-- flake f of nugget n has a byte of the range: the later of the two starts lies before the earlier of the two ends
+unfoldable pub meets : Shape → ℕ → ℕ → ℕ → ℕ → Bool
+meets s o len n f = ltb (max o (offsetAt s n f 0)) (min (o + len) (offsetAt s n f (s .f)))
+
+unfoldable pub touchedOf : Shape → ℕ → ℕ → ℕ → ℕ
+touchedOf s o len n = flakesWith (s .p) (meets s o len n)

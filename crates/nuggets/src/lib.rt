@@ -1,0 +1,201 @@
+// One nugget of a lent volume: its key, its tests, what its flakes read as, and which of them a range touches.
+// It touches `chacha20` and `keys` for pads and tags, `tree` for paths, `records`, `layout`, `drive`, `words` and `answers`.
+use answers::Answer;
+use answers::Place;
+use drive::Drive;
+use layout::Shape;
+ghost use mathlib.Core.Path.{_≡_};
+ghost use mathlib.Core.Bool.{true};
+ghost use Prim.Native.Nat.{_+_, _-_, _<_, _≤_, _^_, _/_, min};
+ghost use lib.ListN.{length, drop};
+ghost use Rattle.base.specs.Lists.{part};
+ghost use Rattle.words.specs.Xor.{xorl};
+ghost use Rattle.chacha20.specs.ChaCha20.{keystream, blocks};
+ghost use Rattle.layout.specs.Shape.{inLimits};
+ghost use Rattle.layout.specs.Spots.{capacity};
+ghost use Rattle.keys.specs.Pads.{nonceOf, firstBlock, padOf, Size};
+ghost use Rattle.nodes.specs.Lent.{Lent};
+ghost use Rattle.drive.specs.Drive.{shapeOf};
+ghost use Rattle.nuggets.specs.Nugget.{secretFor, nuggetOf, contentsIn};
+ghost use Rattle.nuggets.specs.Tests.{goodFlake, passes, flakesIn, nuggetRead};
+ghost use Rattle.nuggets.specs.Touched.{touchedOf};
+
+// What the tests and the contents of one nugget rest on.
+pub struct Nugget {
+    pub number: u32,
+    pub key: [u8; 32],
+    pub keycount: u64,
+    pub journal: u64,
+}
+
+// "One less means: under the old secret."
+pub fn secret_for(d: Drive, epoch: u16) -> [u8; 32]
+    ensures { λ r. ⌜ r ≡ secretFor d epoch ⌝ }
+{
+    let present = d.present;
+    let old = d.old;
+    if epoch == d.epoch {
+        return present;
+    }
+    old
+}
+
+// The key is made once for all flakes of the nugget.
+pub fn nugget_of(d: Drive, vol: &[u8], n: u32) -> Nugget
+    requires { ⌜ Lent (shapeOf d) (now vol) × (n < d .n) ⌝ }
+    ensures { λ r. ⌜ r ≡ nuggetOf d (now (vol .entry)) n ⌝ }
+{
+    let r = records::read(vol, layout::record_at(n));
+    let secret = secret_for(d, r.epoch);
+    let salt = d.salt;
+    let key = keys::nugget_key(secret, salt, n);
+    Nugget {
+        number: n,
+        key: key,
+        keycount: r.keycount,
+        journal: r.journal,
+    }
+}
+
+// "Tag = Poly1305 under the tag key over the stored flake."
+fn flake_good(vol: &[u8], s: Shape, g: Nugget, f: u32) -> bool
+    requires { ⌜ Lent s (now vol) × (g .number < s .n) × (f < s .p) ⌝ }
+    ensures { λ r. ⌜ r ≡ goodFlake s (now (vol .entry)) g f ⌝ }
+{
+    let key = g.key;
+    let at = layout::flake_at(s, g.number, f);
+    let end = at + (s.f as usize);
+    let tag = layout::tag_at(s, g.number, f);
+    let tag_end = tag + 16;
+    let made = keys::tag_of(&vol[at..end], key, g.keycount, f);
+    words::equal(&vol[tag..tag_end], &made)
+}
+
+// A flake outside the set isn't looked at.
+fn flake_passes(vol: &[u8], s: Shape, g: Nugget, mask: u64, f: u32) -> bool
+    requires { ⌜ Lent s (now vol) × (g .number < s .n) × (f < s .p) ⌝ }
+    ensures { λ r. ⌜ r ≡ passes s (now (vol .entry)) g mask f ⌝ }
+{
+    if records::has(mask, f) {
+        flake_good(vol, s, g, f)
+    } else {
+        true
+    }
+}
+
+// "flakes, ascending": the first of the set whose tag differs.
+pub fn flakes(vol: &[u8], s: Shape, g: Nugget, mask: u64) -> Answer
+    requires { ⌜ Lent s (now vol) × (g .number < s .n) ⌝ }
+    ensures { λ r. ⌜ r ≡ flakesIn s (now (vol .entry)) g mask ⌝ }
+{
+    let count = s.p;
+    let number = g.number;
+    let mut f = 0;
+    while f < count {
+        if flake_passes(vol, s, g, mask, f) {
+            f += 1;
+        } else {
+            return Answer::Altered(Place::Flake(number, f));
+        }
+    }
+    Answer::Accepted
+}
+
+// A read's tests of nugget n: "path"; then "touched present flakes".
+pub fn test_read(d: Drive, vol: &[u8], n: u32, touched: u64) -> Answer
+    requires { ⌜ Lent (shapeOf d) (now vol) × (n < d .n) ⌝ }
+    ensures { λ r. ⌜ r ≡ nuggetRead d (now (vol .entry)) n touched ⌝ }
+{
+    let s = drive::shape_of(d);
+    let state = d.state;
+    let a = tree::path(vol, s, d.epoch, drive::is_changing(state), n);
+    if answers::accepted(a) {
+        let g = nugget_of(d, vol, n);
+        return flakes(vol, s, g, g.journal & touched);
+    }
+    a
+}
+
+// "nonce of four zero bytes then the keycount"
+fn nonce_of(k: u64) -> [u8; 12]
+    ensures { λ r. ⌜ r ≡ nonceOf k ⌝ }
+{
+    let mut r = [0u8; 12];
+    words::store(&mut r, 4, 8, k);
+    r
+}
+
+// The block of the pad of flake f that byte b lies in.
+fn block_of(size: usize, f: u32, b: usize) -> u32
+    requires { ⌜ (size ≤ 4096) × (f < 64) × (b ≤ size) ⌝ }
+    ensures { λ r. ⌜ (r ≡ firstBlock size f + b / 64) × (r < 2 ^ 20) ⌝ }
+{
+    (f as usize * size / 64 + b / 64) as u32
+}
+
+fn smaller(a: usize, b: usize) -> usize
+    ensures { λ r. ⌜ r ≡ min a b ⌝ }
+{
+    if a < b { a } else { b }
+}
+
+// a - b, and 0 for what would be below it.
+fn less(a: usize, b: usize) -> usize
+    ensures { λ r. ⌜ r ≡ a - b ⌝ }
+{
+    if a < b { 0 } else { a - b }
+}
+
+// Keystream from byte `skip` of a block on laid over d: the first block by 64 bytes of scratch, whole blocks where they stand.
+fn lay_stream(d: &mut [u8], key: [u8; 32], nonce: [u8; 12], block: u32, skip: usize)
+    requires { ⌜ (skip < 64) × (block < 2 ^ 20) ⌝ }
+    ensures { λ _. ⌜ now (d .exit) ≡ xorl (now (d .entry)) (drop skip (keystream key nonce block (blocks (skip + length (now (d .entry)))))) ⌝ }
+{
+    let n = smaller(d.len(), 64 - skip);
+    let first = chacha20::block(key, nonce, block);
+    words::xor(&mut d[0..n], &first[skip..64]);
+    chacha20::lay(&mut d[n..], key, nonce, block + 1);
+}
+
+// The pad of flake f from its byte b on laid over d, a piece of the flake.
+pub fn lay_from(d: &mut [u8], key: [u8; 32], k: u64, size: usize, f: u32, b: usize)
+    requires { ⌜ Size size × (f < 64) × (b + length (now d) ≤ size) ⌝ }
+    ensures { λ _. ⌜ now (d .exit) ≡ xorl (now (d .entry)) (drop b (padOf key k f size)) ⌝ }
+{
+    let nonce = nonce_of(k);
+    let block = block_of(size, f, b);
+    lay_stream(d, key, nonce, block, b % 64);
+}
+
+// The contents of flake f from its byte b on, as many as the buffer takes: "Absent flakes give zeros."
+pub fn piece(vol: &[u8], s: Shape, g: Nugget, f: u32, b: usize, buf: &mut [u8])
+    requires { ⌜ Lent s (now vol) × (g .number < s .n) × (f < s .p) × (b + length (now buf) ≤ s .f) ⌝ }
+    ensures { λ _. ⌜ now (buf .exit) ≡ part b (length (now (buf .entry))) (contentsIn s (now (vol .entry)) g f) ⌝ }
+{
+    if records::has(g.journal, f) {
+        let key = g.key;
+        let at = layout::flake_at(s, g.number, f) + b;
+        let end = at + buf.len();
+        words::copy(&mut *buf, 0, &vol[at..end]);
+        lay_from(&mut *buf, key, g.keycount, s.f as usize, f, b);
+    } else {
+        words::clear(&mut *buf);
+    }
+}
+
+// "let T be the flakes touched": the flakes of nugget n that the range meets, by the first and the last of them.
+pub fn touched(s: Shape, o: usize, len: usize, n: u32) -> u64
+    requires { ⌜ (inLimits s ≡ true) × (0 < len) × (o + len ≤ capacity s) × (n < s .n) ⌝ }
+    ensures { λ r. ⌜ r ≡ touchedOf s o len n ⌝ }
+{
+    let size = s.f as usize;
+    let count = s.p as usize;
+    let base = n as usize * count;
+    let last = (o + len - 1) / size;
+    if last < base {
+        return 0;
+    }
+    let from = less(o / size, base);
+    let to = smaller(last - base, count - 1);
+    records::range(from as u32, to as u32)
+}
