@@ -1,0 +1,5 @@
+pub mod CountLaws
+pub mod AnswerLaws
+pub mod ReportLaws
+pub mod StoredLaws
+pub mod Outcomes

@@ -1,0 +1,128 @@
+// The calls that tell of an open drive and change nothing: its report, and the stored bytes of a flake.
+// It touches `drive` and `tree` for the tests, `records` for the counts, and `layout` and `answers`.
+mod told;
+
+use answers::Answer;
+use drive::Drive;
+pub use told::Report;
+ghost use mathlib.Core.Path.{_≡_};
+ghost use Prim.Native.Nat.{_≤_};
+ghost use lib.ListN.{length};
+ghost use Rattle.layout.specs.Parts.{recordAt};
+ghost use Rattle.reports.specs.Counts.{movedIn, flakesIn, shareOf};
+ghost use Rattle.reports.specs.Report.{reportAnswer, reportOf};
+ghost use Rattle.reports.specs.Stored.{isFlake, storedAnswer, storedFlake};
+
+// How many of the first n nuggets have this epoch.
+pub fn moved_in(vol: &[u8], n: u32, epoch: u16) -> u32
+    requires { ⌜ recordAt n ≤ length (now vol) ⌝ }
+    ensures { λ r. ⌜ r ≡ movedIn epoch (now (vol .entry)) n ⌝ }
+{
+    let mut moved = 0;
+    let mut i = 0;
+    while i < n {
+        let r = records::read(vol, layout::record_at(i));
+        i += 1;
+        if r.epoch == epoch {
+            moved += 1;
+        }
+    }
+    moved
+}
+
+// How many flakes the first n journals hold. No shape has more nuggets, so no sum of counts rolls over.
+pub fn flakes_in(vol: &[u8], n: u32) -> u32
+    requires { ⌜ (recordAt n ≤ length (now vol)) × (n ≤ 16384) ⌝ }
+    ensures { λ r. ⌜ r ≡ flakesIn 64 (now (vol .entry)) n ⌝ }
+{
+    let mut flakes = 0;
+    let mut i = 0;
+    while i < n {
+        let r = records::read(vol, layout::record_at(i));
+        flakes += records::count(r.journal);
+        i += 1;
+    }
+    flakes
+}
+
+// "share = moved × 10,000 / N rounded down"
+pub fn share_of(moved: u32, n: u32) -> u32
+    requires { ⌜ (1 ≤ n) × (n ≤ 16384) × (moved ≤ n) ⌝ }
+    ensures { λ r. ⌜ r ≡ shareOf moved n ⌝ }
+{
+    moved * 10000 / n
+}
+
+// What a report answers: 1, 2, 7 head, 7 whole.
+fn report_answer(d: Drive, vol: &[u8]) -> Answer
+    ensures { λ r. ⌜ r ≡ reportAnswer d (now (vol .entry)) ⌝ }
+{
+    let a = drive::opening(d, vol);
+    if answers::accepted(a) {
+        let state = d.state;
+        return tree::whole(vol, drive::shape_of(d), d.epoch, drive::is_changing(state));
+    }
+    a
+}
+
+pub fn report(d: Drive, vol: &[u8]) -> Report
+    ensures { λ r. ⌜ r ≡ reportOf d (now (vol .entry)) ⌝ }
+{
+    let answer = report_answer(d, vol);
+    if answers::accepted(answer) {
+        let moved = moved_in(vol, d.n, d.epoch);
+        let flakes = flakes_in(vol, d.n);
+        let share = share_of(moved, d.n);
+        return Report {
+            answer: answer,
+            n: d.n,
+            moved: moved,
+            left: d.n - moved,
+            flakes: flakes,
+            share: share,
+        };
+    }
+    Report {
+        answer: answer,
+        n: 0,
+        moved: 0,
+        left: 0,
+        flakes: 0,
+        share: 0,
+    }
+}
+
+// Whether the drive has this nugget and this flake.
+fn is_flake(d: Drive, nugget: u32, flake: u32) -> bool
+    ensures { λ r. ⌜ r ≡ isFlake d nugget flake ⌝ }
+{
+    if nugget < d.n { flake < d.p } else { false }
+}
+
+// What a stored flake answers: 1, 2, 8.
+pub fn stored_flake_answer(d: Drive, vol: &[u8], nugget: u32, flake: u32) -> Answer
+    ensures { λ r. ⌜ r ≡ storedAnswer d (now (vol .entry)) nugget flake ⌝ }
+{
+    if drive::in_form(d) {
+        if vol.len() == layout::length_of(drive::shape_of(d)) {
+            if is_flake(d, nugget, flake) {
+                return Answer::Accepted;
+            }
+            return Answer::PastEnd;
+        }
+        return Answer::Length;
+    }
+    Answer::Limits
+}
+
+// "shows a backup tool the stored bytes as that part of the volume itself, no copy"
+pub fn stored_flake<'a>(d: Drive, vol: &'a [u8], nugget: u32, flake: u32) -> &'a [u8]
+    ensures { λ r. ⌜ now r ≡ storedFlake d (now (vol .entry)) nugget flake ⌝ }
+{
+    if answers::accepted(stored_flake_answer(d, vol, nugget, flake)) {
+        let at = layout::flake_at(drive::shape_of(d), nugget, flake);
+        let end = at + (d.f as usize);
+        return &vol[at..end];
+    }
+    &vol[0..0]
+}
