@@ -270,10 +270,10 @@ fn keys_fit(d: Drive, vol: &[u8], outside: u64) -> Answer
 {
     if seal_stands(d, vol) {
         if check_stands(d, vol) {
-            if d.counter == outside {
-                return Answer::Accepted;
+            if d.counter != outside {
+                return Answer::Counter;
             }
-            return Answer::Counter;
+            return Answer::Accepted;
         }
         return Answer::OldSecret;
     }

@@ -14,11 +14,11 @@ check-stands-requires c κs = search needs
 
 returns : tie.Need-returns
 unfolding keysOf
-returns c = sym (yes _ (sym (c .before .before .before .before .before .seal-stands .ensures) ∙ c .before .before .before .before .if1 .taken) (yes _ (sym (c .before .before .before .check-stands .ensures) ∙ c .before .before .if2 .taken) (yes _ (eq-eqb _ _ (c .if3 .taken)) refl)))
+returns c = sym (yes _ (sym (c .before .before .before .before .before .seal-stands .ensures) ∙ c .before .before .before .before .if1 .taken) (yes _ (sym (c .before .before .before .check-stands .ensures) ∙ c .before .before .if2 .taken) (no _ (ne-eqb _ _ (c .if3 .taken)) refl)))
 
 returns-2 : tie.Need-returns-2
 unfolding keysOf
-returns-2 c = sym (yes _ (sym (c .before .before .before .before .before .seal-stands .ensures) ∙ c .before .before .before .before .if1 .taken) (yes _ (sym (c .before .before .before .check-stands .ensures) ∙ c .before .before .if2 .taken) (no _ (ne-eqb _ _ (c .if3 .left)) refl)))
+returns-2 c = sym (yes _ (sym (c .before .before .before .before .before .seal-stands .ensures) ∙ c .before .before .before .before .if1 .taken) (yes _ (sym (c .before .before .before .check-stands .ensures) ∙ c .before .before .if2 .taken) (yes _ (eq-eqb _ _ (c .if3 .left)) refl)))
 
 returns-3 : tie.Need-returns-3
 unfolding keysOf
