@@ -1,5 +1,7 @@
 // Format and mount: a drive opened over a lent volume, made afresh or as it stands.
 // It touches `drive`, `tree`, `nodes`, `records`, `keys`, `layout`, `answers` and `words`.
+mod head;
+
 use answers::Answer;
 use drive::Done;
 use drive::Drive;
@@ -7,7 +9,7 @@ use drive::State;
 use layout::Shape;
 use records::Record;
 ghost use mathlib.Core.Path.{_≡_};
-ghost use Prim.Native.Nat.{_+_, _-_, _<_, _≤_};
+ghost use Prim.Native.Nat.{_+_, _<_, _≤_};
 ghost use lib.ListN.{length};
 ghost use Rattle.base.specs.Lists.{part};
 ghost use Rattle.layout.specs.Shape.{shape};
@@ -15,8 +17,8 @@ ghost use Rattle.nodes.specs.Lent.{Lent};
 ghost use Rattle.nodes.specs.Nodes.{nodeIn};
 ghost use Rattle.drive.specs.Drive.{shapeOf};
 ghost use Rattle.opening.specs.Format.{counterTop, formatAnswer, bare, planted, freshDrive, formatDone, formatVolume};
-ghost use Rattle.opening.specs.Mount.{marked, headFits, sealed, checked, shapeIn, stateIn, epochIn, keptOld, openedDrive, mountDone};
-ghost use Rattle.opening.specs.Stages.{formOf, keysOf, restOf};
+ghost use Rattle.opening.specs.Mount.{sealed, checked, shapeIn, keptOld, openedDrive, mountDone};
+ghost use Rattle.opening.specs.Stages.{keysOf, restOf};
 
 // The 16 bytes at `at`.
 fn sixteen(vol: &[u8], at: usize) -> [u8; 16]
@@ -127,88 +129,6 @@ pub fn format(
     }
 }
 
-// Test 3: "mark or version differs"
-fn has_mark(vol: &[u8]) -> bool
-    requires { ⌜ 104 ≤ length (now vol) ⌝ }
-    ensures { λ r. ⌜ r ≡ marked (now (vol .entry)) ⌝ }
-{
-    let mark = [78u8, 71u8, 84u8];
-    if words::equal(&vol[0..3], &mark) {
-        words::load(vol, 3, 2) == 1
-    } else {
-        false
-    }
-}
-
-fn shape_in(vol: &[u8]) -> Shape
-    requires { ⌜ 104 ≤ length (now vol) ⌝ }
-    ensures { λ r. ⌜ r ≡ shapeIn (now (vol .entry)) ⌝ }
-{
-    Shape {
-        n: words::load32(vol, 8),
-        p: words::load(vol, 12, 2) as u32,
-        f: words::load(vol, 14, 2) as u32,
-    }
-}
-
-fn epoch_in(vol: &[u8]) -> u16
-    requires { ⌜ 104 ≤ length (now vol) ⌝ }
-    ensures { λ r. ⌜ r ≡ epochIn (now (vol .entry)) ⌝ }
-{
-    words::load(vol, 6, 2) as u16
-}
-
-// One less, where there is one.
-fn one_below(epoch: u16) -> u16
-    ensures { λ r. ⌜ r ≡ epoch - 1 ⌝ }
-{
-    if epoch == 0 { 0 } else { epoch - 1 }
-}
-
-// "changing carries the epoch being left"
-fn state_in(vol: &[u8]) -> State
-    requires { ⌜ 104 ≤ length (now vol) ⌝ }
-    ensures { λ r. ⌜ r ≡ stateIn (now (vol .entry)) ⌝ }
-{
-    if words::load(vol, 5, 1) == 0 {
-        return State::Steady;
-    }
-    State::Changing(one_below(epoch_in(vol)))
-}
-
-// Test 1: "N, P, F, state or epoch out of limits"
-fn head_fits(vol: &[u8]) -> bool
-    requires { ⌜ 104 ≤ length (now vol) ⌝ }
-    ensures { λ r. ⌜ r ≡ headFits (now (vol .entry)) ⌝ }
-{
-    if layout::in_limits(shape_in(vol)) {
-        if 1 < words::load(vol, 5, 1) {
-            return false;
-        }
-        return drive::epoch_fits(state_in(vol), epoch_in(vol));
-    }
-    false
-}
-
-// "2 (under 104 bytes), 3, 1, 2"
-fn form(vol: &[u8]) -> Answer
-    ensures { λ r. ⌜ r ≡ formOf (now (vol .entry)) ⌝ }
-{
-    if vol.len() < 104 {
-        return Answer::Length;
-    }
-    if has_mark(vol) {
-        if head_fits(vol) {
-            if vol.len() == layout::length_of(shape_in(vol)) {
-                return Answer::Accepted;
-            }
-            return Answer::Length;
-        }
-        return Answer::Limits;
-    }
-    Answer::Mark
-}
-
 // "an accepted change or mount leaves zeros there"
 fn kept_old(state: State, old: [u8; 32]) -> [u8; 32]
     ensures { λ r. ⌜ r ≡ keptOld state old ⌝ }
@@ -224,10 +144,10 @@ fn opened(vol: &[u8], present: [u8; 32], old: [u8; 32]) -> Drive
     requires { ⌜ Lent (shapeIn (now vol)) (now vol) ⌝ }
     ensures { λ r. ⌜ r ≡ openedDrive (now (vol .entry)) present old ⌝ }
 {
-    let s = shape_in(vol);
+    let s = head::shape_in(vol);
     let node = first_node(vol, s);
     let salt = sixteen(vol, 16);
-    let state = state_in(vol);
+    let state = head::state_in(vol);
     let kept = kept_old(state, old);
     Drive {
         n: s.n,
@@ -235,7 +155,7 @@ fn opened(vol: &[u8], present: [u8; 32], old: [u8; 32]) -> Drive
         f: s.f,
         salt: salt,
         state: state,
-        epoch: epoch_in(vol),
+        epoch: head::epoch_in(vol),
         counter: words::load(vol, 32, 8),
         node: node,
         present: present,
@@ -297,7 +217,7 @@ fn rest(d: Drive, vol: &[u8], outside: u64) -> Answer
 pub fn mount(vol: &[u8], present: [u8; 32], old: [u8; 32], outside: u64) -> Done
     ensures { λ r. ⌜ r ≡ mountDone (now (vol .entry)) present old outside ⌝ }
 {
-    let a = form(vol);
+    let a = head::form(vol);
     if answers::accepted(a) {
         let d = opened(vol, present, old);
         let b = rest(d, vol, outside);

@@ -9,8 +9,8 @@ use borrow.Author.Tests.{eq-eqb, ne-eqb, le-leb, lt-leb}
 use mathlib.Core.Bool.{true}
 use mathlib.Core.Path.{_≡_, refl, sym, _∙_, ap}
 use borrow.Author.Needs.{needs}
-use Rattle.opening.proofs.form.Statement.{statement}
-use Rattle.opening.proofs.form.Tie as tie
+use Rattle.opening.proofs.head.form.Statement.{statement}
+use Rattle.opening.proofs.head.form.Tie as tie
 
 returns : tie.Need-returns
 unfolding formOf

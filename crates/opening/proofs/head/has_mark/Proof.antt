@@ -4,8 +4,8 @@ use Rattle.base.proofs.PickLaws.{both-on, both-off}
 use Prim.Native.Nat.{ℕ, _-_}
 use mathlib.Core.Path.{refl, sym, _∙_, ap}
 use borrow.Author.Needs.{needs}
-use Rattle.opening.proofs.has_mark.Statement.{statement}
-use Rattle.opening.proofs.has_mark.Tie as tie
+use Rattle.opening.proofs.head.has_mark.Statement.{statement}
+use Rattle.opening.proofs.head.has_mark.Tie as tie
 
 sub-equal : tie.Need-sub-equal
 sub-equal c = search needs

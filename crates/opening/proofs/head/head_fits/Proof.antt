@@ -9,8 +9,8 @@ use Prim.Native.Nat.{ℕ, _-_}
 use native.Mathlib.Omega.{arith}
 use mathlib.Core.Path.{refl, sym, _∙_, ap, ap₂}
 use borrow.Author.Needs.{needs}
-use Rattle.opening.proofs.head_fits.Statement.{statement}
-use Rattle.opening.proofs.head_fits.Tie as tie
+use Rattle.opening.proofs.head.head_fits.Statement.{statement}
+use Rattle.opening.proofs.head.head_fits.Tie as tie
 
 shape-in-requires : tie.Need-shape-in-requires
 shape-in-requires c κs = search needs

@@ -4,8 +4,8 @@ use borrow.Author.Tests.{eq-eqb, ne-eqb}
 use Prim.Native.Nat.{ℕ, _-_}
 use mathlib.Core.Path.{refl, sym, _∙_, ap}
 use borrow.Author.Needs.{needs}
-use Rattle.opening.proofs.state_in.Statement.{statement}
-use Rattle.opening.proofs.state_in.Tie as tie
+use Rattle.opening.proofs.head.state_in.Statement.{statement}
+use Rattle.opening.proofs.head.state_in.Tie as tie
 
 load-requires : tie.Need-load-requires
 load-requires c κs = search needs

@@ -1,6 +1,6 @@
 use borrow.Author.Needs.{needs}
-use Rattle.opening.proofs.shape_in.Statement.{statement}
-use Rattle.opening.proofs.shape_in.Tie as tie
+use Rattle.opening.proofs.head.shape_in.Statement.{statement}
+use Rattle.opening.proofs.head.shape_in.Tie as tie
 
 load32-requires : tie.Need-load32-requires
 load32-requires c κs = search needs
