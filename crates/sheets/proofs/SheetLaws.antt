@@ -1,0 +1,68 @@
+-- The pieces of the input, and how long the line can be.
+use mathlib.Core.Path.{_≡_, sym, _∙_}
+use mathlib.Core.Bool.{Bool, true, false}
+use mathlib.Core.List.{List}
+use Prim.Native.Nat.{ℕ, _+_, _-_, _≤_}
+use native.Mathlib.Omega.{arith}
+use native.Mathlib.Nat.{le-refl}
+use lib.ListN.{length, take, drop, length-append, length-drop}
+use lib.Seq.{sets, take-all}
+use Rattle.base.specs.Pick.{pick}
+use Rattle.base.specs.Lists.{part}
+use Rattle.base.proofs.PartLaws.{length-part, sets-full}
+use Rattle.answers.specs.declared.Answer.{Answer}
+use Rattle.answers.specs.declared.Answer.the-variants as A
+use Rattle.answers.specs.Numbers.{numberOf, carriedOf, accepts}
+use Rattle.answers.specs.Classes.{classOf}
+use Rattle.line.specs.Lines.{reportLine, refusalLine}
+use Rattle.line.proofs.PutLaws.{decimal-le, share-le, class-le, carried-le}
+use Rattle.drive.specs.declared.Done.{Done}
+use Rattle.opening.specs.Mount.{mountDone}
+use Rattle.reports.specs.declared.told.Report.{Report}
+use Rattle.reports.specs.Report.{reportOf}
+use Rattle.sheets.specs.Sheet.{presentIn, oldIn, outsideIn, volumeIn, sized, reportText, mountedText, mountedBy, sheetLine}
+
+-- a secret copied out of the input
+pub secret-copied : (v z : List ℕ) (at : ℕ) → length z ≡ 32 → at + 32 ≤ length v → sets z 0 (part at 32 v) ≡ part at 32 v
+secret-copied v z at e h = sets-full z (part at 32 v) (length-part at 32 v h ∙ sym e)
+
+-- the volume is all that follows
+pub volume-taken : (i : List ℕ) → take (length i - 72) (drop 72 i) ≡ volumeIn i
+volume-taken i = take-all (length i - 72) (drop 72 i) (rw (length-drop 72 i) (le-refl (length i - 72)))
+
+-- the mount of the input's pieces
+pub mounted-is : (i : List ℕ) {v p o : List ℕ} {k : ℕ} {r : Done} → v ≡ volumeIn i → p ≡ presentIn i → o ≡ oldIn i → k ≡ outsideIn i
+    → r ≡ mountDone v p o k → r ≡ mountedBy i
+unfolding mountedBy
+mounted-is i ev ep eo ek er = rw (er, ek, eo, ep, ev)
+
+pub mounted-told : (i : List ℕ) {m : Done} {v : List ℕ} → m ≡ mountedBy i → v ≡ volumeIn i → mountedText m v ≡ mountedText (mountedBy i) (volumeIn i)
+mounted-told i em ev = rw (em, ev)
+
+report-short : (n m l k h : ℕ) → length (reportLine n m l k h) ≤ 90
+unfolding reportLine
+report-short n m l k h = simp length-append (omega (arith, decimal-le n, decimal-le m, decimal-le l, decimal-le k, share-le h))
+
+refusal-short : (a : Answer) → length (refusalLine a) ≤ 90
+unfolding refusalLine
+refusal-short a = simp length-append (omega (arith, decimal-le (numberOf a), class-le (classOf (numberOf a)), carried-le (carriedOf a)))
+
+pick-short : (b : Bool) (x y : List ℕ) (m : ℕ) → length x ≤ m → length y ≤ m → length (pick b x y) ≤ m
+pick-short true x y m p q = p
+pick-short false x y m p q = q
+
+told-short : (r : Report) → length (reportText r) ≤ 90
+unfolding reportText
+told-short r =
+    pick-short (accepts (r .answer)) (reportLine (r .n) (r .moved) (r .left) (r .flakes) (r .share)) (refusalLine (r .answer)) 90 (report-short (r .n) (r .moved) (r .left) (r .flakes) (r .share)) (refusal-short (r .answer))
+
+mounted-short : (m : Done) (v : List ℕ) → length (mountedText m v) ≤ 90
+unfolding mountedText
+mounted-short m v =
+    pick-short (accepts (m .answer)) (reportText (reportOf (m .drive) v)) (refusalLine (m .answer)) 90 (told-short (reportOf (m .drive) v)) (refusal-short (m .answer))
+
+-- no line is longer
+pub sheet-short : (i : List ℕ) → length (sheetLine i) ≤ 90
+unfolding sheetLine
+sheet-short i =
+    pick-short (sized i) (mountedText (mountedBy i) (volumeIn i)) (refusalLine A.Length) 90 (mounted-short (mountedBy i) (volumeIn i)) (refusal-short A.Length)
