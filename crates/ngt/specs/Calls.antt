@@ -1,0 +1,50 @@
+-- What each function of the C interface answers and what each lent byte holds at the end. "The answer's image, 16 bytes,
+-- always stored"; "Each function also returns the number."
+use mathlib.Core.Path.{_≡_}
+use mathlib.Core.List.{List, _++_}
+use Prim.Native.Nat.{ℕ}
+use Rattle.base.specs.Pick.{pick}
+use Rattle.words.specs.Le.{le}
+use Rattle.answers.specs.declared.Answer.{Answer}
+use Rattle.answers.specs.Numbers.{numberOf, accepts}
+use Rattle.layout.specs.declared.Shape.{Shape}
+use Rattle.layout.specs.Parts.{flakeAt}
+use Rattle.images.specs.Answers.{answerImage}
+use Rattle.drive.specs.declared.Drive.{Drive}
+use Rattle.drive.specs.Drive.{shapeOf, zeros}
+use Rattle.packed.specs.Image.{driveImage}
+use Rattle.opening.specs.Format.{formatDone, formatVolume}
+use Rattle.opening.specs.Mount.{mountDone}
+use Rattle.reports.specs.declared.told.Report.{Report}
+use Rattle.reports.specs.Report.{reportOf}
+use Rattle.reports.specs.Stored.{storedAnswer}
+
+-- the number and the answer's image tell this answer
+pub record Tells (a : Answer) (number : ℕ) (answer : List ℕ) : Type 0 where
+  pub told : number ≡ numberOf a
+  pub shown : answer ≡ answerImage a
+
+pub record Formatted (s : Shape) (salt secret : List ℕ) (outside : ℕ) (v : List ℕ) (number : ℕ) (vol image answer : List ℕ) : Type 0 where
+  pub tells : Tells (formatDone s salt secret outside v .answer) number answer
+  pub volume : vol ≡ formatVolume s salt secret outside v
+  pub drive : image ≡ driveImage (formatDone s salt secret outside v .drive)
+
+pub record Mounted (v present old : List ℕ) (outside number : ℕ) (image answer : List ℕ) : Type 0 where
+  pub tells : Tells (mountDone v present old outside .answer) number answer
+  pub drive : image ≡ driveImage (mountDone v present old outside .drive)
+
+-- "N, moved, left, flakes, share in hundredths of a percent, 4 bytes each"
+abbrev pub reportImage : Report → List ℕ
+reportImage r = le 4 (r .n) ++ (le 4 (r .moved) ++ (le 4 (r .left) ++ (le 4 (r .flakes) ++ le 4 (r .share))))
+
+pub record Reported (d : Drive) (v : List ℕ) (number : ℕ) (report answer : List ℕ) : Type 0 where
+  pub tells : Tells (reportOf d v .answer) number answer
+  pub numbers : report ≡ reportImage (reportOf d v)
+
+-- "where the part begins in the volume and its length, 8 bytes each; both zero if refused"
+unfoldable pub spanOf : Drive → List ℕ → ℕ → ℕ → List ℕ
+spanOf d v n f = pick (accepts (storedAnswer d v n f)) (le 8 (flakeAt (shapeOf d) n f) ++ le 8 (d .f)) (zeros 16)
+
+pub record Shown (d : Drive) (v : List ℕ) (n f number : ℕ) (span answer : List ℕ) : Type 0 where
+  pub tells : Tells (storedAnswer d v n f) number answer
+  pub part : span ≡ spanOf d v n f

@@ -1,0 +1,126 @@
+// The C interface of the drive: each call with its drive and its answer as bytes.
+// It touches the calls' crates, and `packed` and `images` for the bytes.
+use drive::Drive;
+ghost use mathlib.Core.Path.{_≡_};
+ghost use mathlib.Core.List.{_++_};
+ghost use Rattle.words.specs.Le.{le};
+ghost use Rattle.layout.specs.Shape.{shape};
+ghost use Rattle.packed.specs.Image.{driveIn};
+ghost use Rattle.ngt.specs.Calls.{Formatted, Mounted, Reported, Shown, spanOf};
+
+// Format, with the image of the drive that it hands back.
+#[no_mangle]
+pub extern "C" fn ngt_format(
+    vol: &mut [u8],
+    n: u32,
+    p: u32,
+    f: u32,
+    salt: &[u8; 16],
+    secret: &[u8; 32],
+    outside: u64,
+    image: &mut [u8; 144],
+    answer: &mut [u8; 16],
+) -> u32
+    ensures { λ r. ⌜ Formatted (shape n p f) (now (salt .entry)) (now (secret .entry)) outside (now (vol .entry)) r (now (vol .exit)) (now (image .exit)) (now (answer .exit)) ⌝ }
+{
+    let done = opening::format(vol, n, p, f, *salt, *secret, outside);
+    let d = done.drive;
+    let a = done.answer;
+    *image = packed::pack(d);
+    *answer = images::answer_image(a);
+    answers::number(a)
+}
+
+// Mount, with the image of the drive that it hands back.
+#[no_mangle]
+pub extern "C" fn ngt_mount(
+    vol: &[u8],
+    present: &[u8; 32],
+    old: &[u8; 32],
+    outside: u64,
+    image: &mut [u8; 144],
+    answer: &mut [u8; 16],
+) -> u32
+    ensures { λ r. ⌜ Mounted (now (vol .entry)) (now (present .entry)) (now (old .entry)) outside r (now (image .exit)) (now (answer .exit)) ⌝ }
+{
+    let done = opening::mount(vol, *present, *old, outside);
+    let d = done.drive;
+    let a = done.answer;
+    *image = packed::pack(d);
+    *answer = images::answer_image(a);
+    answers::number(a)
+}
+
+fn five(a: u32, b: u32, c: u32, d: u32, e: u32) -> [u8; 20]
+    ensures { λ r. ⌜ r ≡ le 4 a ++ (le 4 b ++ (le 4 c ++ (le 4 d ++ le 4 e))) ⌝ }
+{
+    let mut out = [0u8; 20];
+    words::store32(&mut out, 0, a);
+    words::store32(&mut out, 4, b);
+    words::store32(&mut out, 8, c);
+    words::store32(&mut out, 12, d);
+    words::store32(&mut out, 16, e);
+    out
+}
+
+// An image by value is known to have its 144 bytes.
+fn opened(image: [u8; 144]) -> Drive
+    ensures { λ r. ⌜ r ≡ driveIn image ⌝ }
+{
+    packed::unpack(&image)
+}
+
+// Report, "N, moved, left, flakes, share in hundredths of a percent, 4 bytes each; all zero if refused".
+#[no_mangle]
+pub extern "C" fn ngt_report(
+    image: &[u8; 144],
+    vol: &[u8],
+    report: &mut [u8; 20],
+    answer: &mut [u8; 16],
+) -> u32
+    ensures { λ r. ⌜ Reported (driveIn (now (image .entry))) (now (vol .entry)) r (now (report .exit)) (now (answer .exit)) ⌝ }
+{
+    let d = opened(*image);
+    let r = reports::report(d, vol);
+    let a = r.answer;
+    *report = five(r.n, r.moved, r.left, r.flakes, r.share);
+    *answer = images::answer_image(a);
+    answers::number(a)
+}
+
+fn two(a: usize, b: u32) -> [u8; 16]
+    ensures { λ r. ⌜ r ≡ le 8 a ++ le 8 b ⌝ }
+{
+    let mut out = [0u8; 16];
+    words::store(&mut out, 0, 8, a as u64);
+    words::store(&mut out, 8, 8, b as u64);
+    out
+}
+
+fn span_of(d: Drive, vol: &[u8], nugget: u32, flake: u32) -> [u8; 16]
+    ensures { λ r. ⌜ r ≡ spanOf d (now (vol .entry)) nugget flake ⌝ }
+{
+    if answers::accepted(reports::stored_flake_answer(d, vol, nugget, flake)) {
+        return two(layout::flake_at(drive::shape_of(d), nugget, flake), d.f);
+    }
+    [0u8; 16]
+}
+
+// Stored flake, as "where the part begins in the volume and its length, 8 bytes each; both zero if refused".
+#[no_mangle]
+pub extern "C" fn ngt_stored_flake(
+    image: &[u8; 144],
+    vol: &[u8],
+    nugget: u32,
+    flake: u32,
+    span: &mut [u8; 16],
+    answer: &mut [u8; 16],
+) -> u32
+    ensures { λ r. ⌜ Shown (driveIn (now (image .entry))) (now (vol .entry)) nugget flake r (now (span .exit)) (now (answer .exit)) ⌝ }
+{
+    let d = opened(*image);
+    let a = reports::stored_flake_answer(d, vol, nugget, flake);
+    *span = span_of(d, vol, nugget, flake);
+    *answer = images::answer_image(a);
+    answers::number(a)
+}

@@ -1,0 +1,30 @@
+-- Pieces of an image stored one behind the other, and a part copied out.
+use mathlib.Core.Path.{_≡_, refl, sym, _∙_}
+use mathlib.Core.List.{List, _++_}
+use Prim.Native.Nat.{ℕ, _+_, _-_, _≤_}
+use native.Mathlib.Nat.{add-sub-cancel-left}
+use native.Mathlib.Omega.{arith}
+use lib.ListN.{length, length-append, take, drop}
+use lib.Seq.{sets}
+use Rattle.base.specs.Lists.{part}
+use Rattle.base.proofs.PartLaws.{sets-append, sets-full, length-part}
+
+-- three pieces over all of z
+pub three-pieces : (z a b c : List ℕ) → length a ≡ 24 → length b ≡ 16 → length c ≡ 8 → length z ≡ 48
+    → sets (sets (sets z 0 a) 24 b) 40 c ≡ a ++ (b ++ c)
+three-pieces z a b c ha hb hc hz =
+    sym (sets-append z 0 a (b ++ c) 24 (omega arith) ∙ sets-append (sets z 0 a) 24 b c 40 (omega arith))
+    ∙ sets-full z (a ++ (b ++ c)) (simp length-append (omega arith))
+
+-- and four
+pub four-pieces : (z a b c d : List ℕ) → length a ≡ 48 → length b ≡ 32 → length c ≡ 32 → length d ≡ 32 → length z ≡ 144
+    → sets (sets (sets (sets z 0 a) 48 b) 80 c) 112 d ≡ a ++ (b ++ (c ++ d))
+four-pieces z a b c d ha hb hc hd hz =
+    sym (sets-append z 0 a (b ++ (c ++ d)) 48 (omega arith)
+    ∙ sets-append (sets z 0 a) 48 b (c ++ d) 80 (omega arith)
+    ∙ sets-append (sets (sets z 0 a) 48 b) 80 c d 112 (omega arith))
+    ∙ sets-full z (a ++ (b ++ (c ++ d))) (simp length-append (omega arith))
+
+-- n bytes from a place on, copied over all of z
+pub copied : (z v : List ℕ) (at n : ℕ) → length z ≡ n → at + n ≤ length v → sets z 0 (take (at + n - at) (drop at v)) ≡ part at n v
+copied z v at n e h = rw (add-sub-cancel-left at n) (sets-full z (part at n v) (length-part at n v h ∙ sym e))

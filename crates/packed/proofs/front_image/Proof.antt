@@ -1,0 +1,53 @@
+use Rattle.words.proofs.LeLaws.{length-le}
+use Rattle.packed.proofs.PieceLaws.{three-pieces, four-pieces, copied}
+use lib.ListN.{length}
+use Rattle.words.specs.Le.{le}
+use mathlib.Core.Path.{_≡_, refl, sym, _∙_, ap}
+use borrow.Author.Needs.{needs}
+use Rattle.packed.proofs.front_image.Statement.{statement}
+use Rattle.packed.proofs.front_image.Tie as tie
+
+slice-aggregate-copy : tie.Need-slice-aggregate-copy
+slice-aggregate-copy c = search needs
+
+slice-aggregate-copy-2 : tie.Need-slice-aggregate-copy-2
+slice-aggregate-copy-2 c = search needs
+
+copy-requires : tie.Need-copy-requires
+copy-requires c κs = search needs
+
+slice-aggregate-copy-3 : tie.Need-slice-aggregate-copy-3
+slice-aggregate-copy-3 c = search needs
+
+slice-aggregate-copy-4 : tie.Need-slice-aggregate-copy-4
+slice-aggregate-copy-4 c = search needs
+
+copy-requires-2 : tie.Need-copy-requires-2
+copy-requires-2 c κs = search needs
+
+slice-aggregate-store : tie.Need-slice-aggregate-store
+slice-aggregate-store c = search needs
+
+store-requires : tie.Need-store-requires
+store-requires c κs = search needs
+
+returns : tie.Need-returns
+returns c =
+    let a = c .before .before .before .before .before .before .before .before .before .before .before .args in
+    let la : length (a .t1) ≡ 24 = search needs in
+    let lb : length (a .t2) ≡ 16 = search needs in
+    c .before .store .ensures ∙ rw (c .before .before .before .before .copy2 .ensures, c .before .before .before .before .before .before .before .before .copy .ensures) (three-pieces _ (a .t1) (a .t2) (le 8 (a .counter)) la lb (length-le 8 (a .counter)) refl)
+
+pub front-image-spec : {M : Type 1} → statement M
+front-image-spec =
+    tie.close
+    (tie.spec
+    slice-aggregate-copy
+    slice-aggregate-copy-2
+    copy-requires
+    slice-aggregate-copy-3
+    slice-aggregate-copy-4
+    copy-requires-2
+    slice-aggregate-store
+    store-requires
+    returns)

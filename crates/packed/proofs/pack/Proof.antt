@@ -1,0 +1,35 @@
+use Rattle.packed.specs.Image.{driveImage}
+use mathlib.Core.Path.{_≡_, refl, sym, _∙_, ap}
+use borrow.Author.Needs.{needs}
+use Rattle.packed.proofs.pack.Statement.{statement}
+use Rattle.packed.proofs.pack.Tie as tie
+
+state-byte-requires : tie.Need-state-byte-requires
+state-byte-requires c κs = search needs
+
+left-of-requires : tie.Need-left-of-requires
+left-of-requires c κs = search needs
+
+numbers-image-requires : tie.Need-numbers-image-requires
+numbers-image-requires c κs = search needs
+
+front-image-requires : tie.Need-front-image-requires
+front-image-requires c κs = search needs
+
+whole-image-requires : tie.Need-whole-image-requires
+whole-image-requires c κs = search needs
+
+returns : tie.Need-returns
+unfolding driveImage
+returns c = c .whole-image .ensures ∙ rw (c .before .before .before .before .front-image .ensures, c .before .before .before .before .before .before .numbers-image .ensures, c .before .before .before .before .before .before .before .left-of .ensures, c .before .before .before .before .before .before .before .before .state-byte .ensures)
+
+pub pack-spec : {M : Type 1} → statement M
+pack-spec =
+    tie.close
+    (tie.spec
+    state-byte-requires
+    left-of-requires
+    numbers-image-requires
+    front-image-requires
+    whole-image-requires
+    returns)

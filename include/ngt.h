@@ -1,0 +1,34 @@
+/* The drive for hosts in C: link libngt.a, which `rt staticlib ngt` makes.
+ *
+ * No function has a precondition but that each pointer is to as many bytes as its type or its length says, and that no two
+ * of them overlap. Each returns the answer's number, 0 if the call is accepted, and always stores the answer's image.
+ *
+ * The drive's image, 144 bytes: 0-3 N; 4-7 P; 8-11 F; 12 state (0 steady, 1 changing); 13 zero; 14-15 epoch; 16-17 the epoch
+ * being left; 18-23 zero; 24-39 salt; 40-47 counter; 48-79 node 1; 80-111 present secret; 112-143 old secret.
+ * The answer's image, 16 bytes: 0-3 number; 4-7 kind of place (0 none, 1 head, 2 record, 3 node, 4 flake); 8-11 first value
+ * (record, node, nugget of a flake; for answer 11 how many are left); 12-15 second value (the flake).
+ * All numbers are little-endian. */
+#ifndef NGT_H
+#define NGT_H
+#include <stddef.h>
+#include <stdint.h>
+#ifdef __cplusplus
+extern "C" {
+#endif
+
+uint32_t ngt_format(uint8_t *vol, size_t vol_len, uint32_t n, uint32_t p, uint32_t f, const uint8_t salt[16],
+                    const uint8_t secret[32], uint64_t outside, uint8_t drive[144], uint8_t answer[16]);
+uint32_t ngt_mount(const uint8_t *vol, size_t vol_len, const uint8_t present[32], const uint8_t old[32],
+                   uint64_t outside, uint8_t drive[144], uint8_t answer[16]);
+
+/* report: N, moved, left, flakes, share in hundredths of a percent, 4 bytes each; all zero if refused. */
+uint32_t ngt_report(const uint8_t drive[144], const uint8_t *vol, size_t vol_len, uint8_t report[20], uint8_t answer[16]);
+
+/* span: where the part begins in the volume and its length, 8 bytes each; both zero if refused. */
+uint32_t ngt_stored_flake(const uint8_t drive[144], const uint8_t *vol, size_t vol_len, uint32_t nugget, uint32_t flake,
+                          uint8_t span[16], uint8_t answer[16]);
+
+#ifdef __cplusplus
+}
+#endif
+#endif
