@@ -1,7 +1,7 @@
 -- No second outcome meets the words of a public function.
 use mathlib.Core.Path.{_≡_}
 use mathlib.Core.List.{List}
-use Prim.Native.Nat.{ℕ}
+use Prim.Native.Nat.{ℕ, min}
 use lib.ListN.{drop}
 use Rattle.base.specs.Outcome.{Unique}
 use Rattle.base.specs.Lists.{part}
@@ -26,6 +26,9 @@ flakes s v g mask = only (flakesIn s v g mask)
 
 pub test-read : (d : Drive) (v : List ℕ) (n touched : ℕ) → Unique (λ r. r ≡ nuggetRead d v n touched)
 test-read d v n touched = only (nuggetRead d v n touched)
+
+pub smaller : (a b : ℕ) → Unique (λ r. r ≡ min a b)
+smaller a b = only (min a b)
 
 pub lay-from : (l key : List ℕ) (k size f b : ℕ) → Unique (λ last. last ≡ xorl l (drop b (padOf key k f size)))
 lay-from l key k size f b = only (xorl l (drop b (padOf key k f size)))

@@ -133,7 +133,8 @@ fn block_of(size: usize, f: u32, b: usize) -> u32
     (f as usize * size / 64 + b / 64) as u32
 }
 
-fn smaller(a: usize, b: usize) -> usize
+// The lesser of two lengths.
+pub fn smaller(a: usize, b: usize) -> usize
     ensures { λ r. ⌜ r ≡ min a b ⌝ }
 {
     if a < b { a } else { b }

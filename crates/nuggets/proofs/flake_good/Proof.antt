@@ -36,7 +36,6 @@ add-tag-end c =
     let lent = c .before .before .before .before .before .pre .0 in
     let q = lent-small lent in
     let m = limits s (lent .limited) in
-    let at : c .before .before .flake-at .result ≡ flakeAt s (a .g .number) (a .f) = c .before .before .flake-at .ensures ∙ inside s (lent .limited) in
     let tag : c .tag-at .result ≡ tagAt s (a .g .number) (a .f) = c .tag-at .ensures ∙ inside s (lent .limited) in
     omega (arith, tag, tag-inside s (a .g .number) (a .f) (c .before .before .before .before .before .pre .1) (c .before .before .before .before .before .pre .2), q .few-leaves, q .few-tags, q .few-nuggets, q .few-flakes, m .short, mul-le-mul (q .few-tags) (m .short))
 
@@ -51,8 +50,6 @@ part-tag-of-end c =
     let a = c .before .before .before .before .before .args in
     let s = a .s in
     let lent = c .before .before .before .before .before .pre .0 in
-    let q = lent-small lent in
-    let m = limits s (lent .limited) in
     let at : c .before .before .flake-at .result ≡ flakeAt s (a .g .number) (a .f) = c .before .before .flake-at .ensures ∙ inside s (lent .limited) in
     omega (arith, at, flake-inside s (a .g .number) (a .f) (c .before .before .before .before .before .pre .1) (c .before .before .before .before .before .pre .2), lent .size)
 
@@ -70,9 +67,6 @@ part-equal-end c =
     let a = c .before .before .before .before .before .before .before .args in
     let s = a .s in
     let lent = c .before .before .before .before .before .before .before .pre .0 in
-    let q = lent-small lent in
-    let m = limits s (lent .limited) in
-    let at : c .before .before .before .before .flake-at .result ≡ flakeAt s (a .g .number) (a .f) = c .before .before .before .before .flake-at .ensures ∙ inside s (lent .limited) in
     let tag : c .before .before .tag-at .result ≡ tagAt s (a .g .number) (a .f) = c .before .before .tag-at .ensures ∙ inside s (lent .limited) in
     omega (arith, tag, tag-inside s (a .g .number) (a .f) (c .before .before .before .before .before .before .before .pre .1) (c .before .before .before .before .before .before .before .pre .2), parts-inside s, lent .size)
 
@@ -87,8 +81,6 @@ returns c =
     let a = c .before .before .before .before .before .before .before .before .before .before .args in
     let s = a .s in
     let lent = c .before .before .before .before .before .before .before .before .before .before .pre .0 in
-    let q = lent-small lent in
-    let m = limits s (lent .limited) in
     let at : c .before .before .before .before .before .before .before .flake-at .result ≡ flakeAt s (a .g .number) (a .f) = c .before .before .before .before .before .before .before .flake-at .ensures ∙ inside s (lent .limited) in
     let tag : c .before .before .before .before .before .tag-at .result ≡ tagAt s (a .g .number) (a .f) = c .before .before .before .before .before .tag-at .ensures ∙ inside s (lent .limited) in
     good-is s (a .vol .now) (a .g) (a .f) (c .before .before .before .before .before .before .before .flake-at .result) (c .before .before .before .before .before .tag-at .result) (c .equal .ensures) (c .before .before .before .tag-of .ensures) at tag

@@ -55,8 +55,6 @@ part-copy-end c =
     let a = c .before .before .before .before .before .before .before .args in
     let s = a .s in
     let lent = c .before .before .before .before .before .before .before .pre .0 in
-    let q = lent-small lent in
-    let m = limits s (lent .limited) in
     let at : c .before .flake-at .result ≡ flakeAt s (a .g .number) (a .f) = c .before .flake-at .ensures ∙ inside s (lent .limited) in
     let room = flake-inside s (a .g .number) (a .f) (c .before .before .before .before .before .before .before .pre .1) (c .before .before .before .before .before .before .before .pre .2) in
     omega (arith, at, room, c .before .before .before .before .before .before .before .pre .3, lent .size)
@@ -83,8 +81,6 @@ returns c =
     let a = c .before .before .before .before .before .before .before .before .before .before .before .before .before .before .before .before .args in
     let s = a .s in
     let lent = c .before .before .before .before .before .before .before .before .before .before .before .before .before .before .before .before .pre .0 in
-    let q = lent-small lent in
-    let m = limits s (lent .limited) in
     let at : c .before .before .before .before .before .before .before .before .before .before .flake-at .result ≡ flakeAt s (a .g .number) (a .f) = c .before .before .before .before .before .before .before .before .before .before .flake-at .ensures ∙ inside s (lent .limited) in
     let room = flake-inside s (a .g .number) (a .f) (c .before .before .before .before .before .before .before .before .before .before .before .before .before .before .before .before .pre .1) (c .before .before .before .before .before .before .before .before .before .before .before .before .before .before .before .before .pre .2) in
     let k = length (a .buf .now) in

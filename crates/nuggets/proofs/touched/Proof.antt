@@ -36,21 +36,18 @@ div-last : tie.Need-div-last
 div-last c =
     let a = c .before .before .args in
     let l = limits (a .s) (c .before .before .pre .0) in
-    let q = small (a .s) l in
     omega (arith, l .wide)
 
 returns : tie.Need-returns
 returns c =
     let a = c .before .before .before .args in
     let l = limits (a .s) (c .before .before .before .pre .0) in
-    let q = small (a .s) l in
     touched-none (a .s) (a .o) (a .len) (a .n) l (c .before .before .before .pre .1) (c .if1 .taken)
 
 div-less : tie.Need-div-less
 div-less c =
     let a = c .before .before .before .args in
     let l = limits (a .s) (c .before .before .before .pre .0) in
-    let q = small (a .s) l in
     omega (arith, l .wide)
 
 less-requires : tie.Need-less-requires
@@ -60,7 +57,6 @@ sub-smaller : tie.Need-sub-smaller
 sub-smaller c =
     let a = c .before .before .before .before .args in
     let l = limits (a .s) (c .before .before .before .before .pre .0) in
-    let q = small (a .s) l in
     omega (arith, l .flakes)
 
 smaller-requires : tie.Need-smaller-requires
@@ -83,7 +79,6 @@ returns-2 : tie.Need-returns-2
 returns-2 c =
     let a = c .before .before .before .before .before .before .args in
     let l = limits (a .s) (c .before .before .before .before .before .before .pre .0) in
-    let q = small (a .s) l in
     c .range .ensures ∙ touched-range (a .s) (a .o) (a .len) (a .n) l (c .before .before .before .before .before .before .pre .1) _ _ (c .before .before .less .ensures) (c .before .smaller .ensures) (c .before .before .before .if1 .left)
 
 pub touched-spec : {M : Type 1} → statement M

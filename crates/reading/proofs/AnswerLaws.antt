@@ -1,0 +1,138 @@
+-- The answer of a read: one turn over its nuggets, and what an accepted one says of the volume.
+use mathlib.Core.Path.{_≡_, refl, sym, ap, _∙_}
+use mathlib.Core.Bool.{true, false}
+use mathlib.Core.Logic.{_⊎_, ⊎-elim}
+use mathlib.Core.List.{List}
+use Prim.Native.Nat.{ℕ, zero, suc, _+_, _-_, _<_, _≤_}
+use native.Mathlib.Numerals.{add-one}
+use native.Mathlib.Omega.{arith}
+use borrow.Author.Tests.{le-leb, lt-leb, leb-true, leb-false, eqb-true}
+use lib.Dec.{leb, eqb}
+use lib.ListN.{length}
+use Rattle.base.specs.Pick.{pick}
+use Rattle.base.specs.Lists.{tab}
+use Rattle.base.proofs.PickLaws.{yes, no, told}
+use Rattle.layout.specs.declared.Shape.{Shape}
+use Rattle.layout.specs.declared.Spot.{Spot}
+use Rattle.layout.specs.Shape.{inLimits}
+use Rattle.layout.specs.Parts.{lengthOf}
+use Rattle.layout.specs.Spots.{spotAt, nowhere, capacity}
+use Rattle.answers.specs.declared.Answer.{Answer}
+use Rattle.answers.specs.declared.Answer.the-variants as A
+use Rattle.answers.specs.Numbers.{accepts}
+use Rattle.nodes.specs.Lent.{Lent}
+use Rattle.tree.proofs.Laws.{clash}
+use Rattle.drive.specs.declared.Drive.{Drive}
+use Rattle.drive.specs.Drive.{shapeOf}
+use Rattle.drive.specs.Opening.{inForm, openingOf}
+use Rattle.drive.proofs.HeadLaws.{form-limits}
+use Rattle.nuggets.specs.Nugget.{byteOf}
+use Rattle.nuggets.specs.Tests.{nuggetRead}
+use Rattle.nuggets.specs.Touched.{touchedOf}
+use Rattle.reading.specs.Read.{fitsIn, nuggetsUp, nuggetsIn, nuggetsOf, readAnswer, readBuffer, bufferAt}
+
+-- the sum compared without being made
+pub fits-is : (s : Shape) (o len size : ℕ) → size ≡ capacity s → len ≤ size → leb o (size - len) ≡ fitsIn s o len
+unfolding fitsIn
+fits-is s o len size e h =
+    ⊎-elim
+    (λ yes. yes ∙ sym (le-leb (o + len) (capacity s) (omega (arith, leb-true o (size - len) yes, e, h))))
+    (λ no. no ∙ sym (lt-leb (o + len) (capacity s) (omega (arith, leb-false o (size - len) no, e, h))))
+    (told (leb o (size - len)))
+
+pub fits-not : (s : Shape) (o len size : ℕ) → size ≡ capacity s → size < len → false ≡ fitsIn s o len
+unfolding fitsIn
+fits-not s o len size e h = sym (lt-leb (o + len) (capacity s) (omega (arith, e, h)))
+
+fits-leb : (s : Shape) (o len : ℕ) → fitsIn s o len ≡ true → leb (o + len) (capacity s) ≡ true
+unfolding fitsIn
+fits-leb s o len e = e
+
+pub fits-within : (d : Drive) (o len : ℕ) {s : Shape} → s ≡ shapeOf d → fitsIn s o len ≡ true → o + len ≤ capacity (shapeOf d)
+fits-within d o len es e = leb-true (o + len) (capacity (shapeOf d)) (fits-leb (shapeOf d) o len (ap (λ (x : Shape). fitsIn x o len) (sym es) ∙ e))
+
+-- the spot of an offset, in a shape within limits
+pub spot-is : (d : Drive) (o : ℕ) {s : Shape} {t : Spot} → t ≡ pick (inLimits s) (spotAt s o) nowhere → s ≡ shapeOf d → inLimits (shapeOf d) ≡ true → t ≡ spotAt (shapeOf d) o
+spot-is d o et es h = et ∙ ap (λ (x : Shape). pick (inLimits x) (spotAt x o) nowhere) es ∙ yes _ h refl
+
+module _ (d : Drive) (v : List ℕ) (o len : ℕ) where
+  -- the test of one nugget, by what the calls gave
+  pub tested : (n : ℕ) {s : Shape} {t : ℕ} {a : Answer} → s ≡ shapeOf d → t ≡ touchedOf s o len n → a ≡ nuggetRead d v n t → a ≡ nuggetRead d v n (touchedOf (shapeOf d) o len n)
+  tested n es et ea = ea ∙ rw (et, es)
+
+  pub span-on : (end n : ℕ) {a : Answer} → n < end → a ≡ nuggetRead d v n (touchedOf (shapeOf d) o len n) → accepts a ≡ true
+      → nuggetsUp d v o len (end - (n + 1)) (n + 1) ≡ nuggetsUp d v o len (end - n) n
+  unfolding nuggetsUp
+  span-on end n h e t = let k : end - n ≡ suc (end - (n + 1)) = omega arith in rw (k, add-one n) (sym (yes _ (ap accepts (sym e) ∙ t) refl))
+
+  pub span-off : (end n : ℕ) {a : Answer} → n < end → a ≡ nuggetRead d v n (touchedOf (shapeOf d) o len n) → accepts a ≡ false → a ≡ nuggetsUp d v o len (end - n) n
+  unfolding nuggetsUp
+  span-off end n h e t = let k : end - n ≡ suc (end - (n + 1)) = omega arith in rw k (e ∙ sym (no _ (ap accepts (sym e) ∙ t) refl))
+
+  pub span-end : (end n : ℕ) → end ≤ n → A.Accepted ≡ nuggetsUp d v o len (end - n) n
+  unfolding nuggetsUp
+  span-end end n h = let k : end - n ≡ 0 = omega arith in rw k
+
+  count-is : 0 < len → spotAt (shapeOf d) (o + (len - 1)) .nugget + 1 - spotAt (shapeOf d) o .nugget ≡ nuggetsIn (shapeOf d) o len
+  unfolding nuggetsIn
+  count-is h = go len h
+    where
+      go : (l : ℕ) → 0 < l → spotAt (shapeOf d) (o + (l - 1)) .nugget + 1 - spotAt (shapeOf d) o .nugget ≡ nuggetsIn (shapeOf d) o l
+      go zero h = absurd (omega arith)
+      go (suc l) h = let k : suc l - 1 ≡ l = omega arith in rw k
+
+  -- from the nugget of the first byte to that of the last
+  pub nuggets-some : {first last : Spot} {r : Answer} → 0 < len → first ≡ spotAt (shapeOf d) o → last ≡ spotAt (shapeOf d) (o + (len - 1))
+      → r ≡ nuggetsUp d v o len (last .nugget + 1 - first .nugget) (first .nugget) → r ≡ nuggetsOf d v o len
+  unfolding nuggetsOf
+  nuggets-some h ef el e = e ∙ rw (ef, el) (ap (λ (k : ℕ). nuggetsUp d v o len k (spotAt (shapeOf d) o .nugget)) (count-is h))
+
+  pub nuggets-none : len ≡ 0 → A.Accepted ≡ nuggetsOf d v o len
+  unfolding nuggetsOf nuggetsIn nuggetsUp
+  nuggets-none e = rw e
+
+  pub answer-tests : {s : Shape} {r : Answer} → accepts (openingOf d v) ≡ true → s ≡ shapeOf d → fitsIn s o len ≡ true → r ≡ nuggetsOf d v o len → r ≡ readAnswer d v o len
+  unfolding readAnswer
+  answer-tests h es f e = e ∙ sym (yes _ h (yes _ (ap (λ (x : Shape). fitsIn x o len) (sym es) ∙ f) refl))
+
+  pub answer-past : {s : Shape} → accepts (openingOf d v) ≡ true → s ≡ shapeOf d → fitsIn s o len ≡ false → A.PastEnd ≡ readAnswer d v o len
+  unfolding readAnswer
+  answer-past h es f = sym (yes _ h (no _ (ap (λ (x : Shape). fitsIn x o len) (sym es) ∙ f) refl))
+
+  pub answer-opening : accepts (openingOf d v) ≡ false → openingOf d v ≡ readAnswer d v o len
+  unfolding readAnswer
+  answer-opening h = sym (no _ h refl)
+
+-- a drive whose opening is accepted is in limits, and its volume is as long as its shape asks
+pub opening-lent : (d : Drive) (v : List ℕ) → accepts (openingOf d v) ≡ true → Lent (shapeOf d) v
+unfolding openingOf
+opening-lent d v e =
+    ⊎-elim
+    (λ form.
+    ⊎-elim (λ long. record { limited = form-limits d form; size = eqb-true (length v) (lengthOf (shapeOf d)) long })
+    (λ other. absurd (clash e (ap accepts (yes {r = A.Length} A.Limits form (no _ other refl)))))
+    (told (eqb (length v) (lengthOf (shapeOf d)))))
+    (λ bad. absurd (clash e (ap accepts (no {r = A.Limits} _ bad refl))))
+    (told (inForm d))
+
+-- what an accepted read says
+pub read-lent : (d : Drive) (v : List ℕ) (o len : ℕ) → accepts (readAnswer d v o len) ≡ true → Lent (shapeOf d) v × (o + len ≤ capacity (shapeOf d))
+read-lent d v o len e =
+    ⊎-elim
+    (λ opened.
+    ⊎-elim (λ inside. (opening-lent d v opened, fits-within d o len refl inside))
+    (λ past. absurd (clash e (ap accepts (sym (answer-past d v o len opened refl past)))))
+    (told (fitsIn (shapeOf d) o len)))
+    (λ shut. absurd (clash e (ap accepts (sym (answer-opening d v o len shut)) ∙ shut)))
+    (told (accepts (openingOf d v)))
+
+-- the answer and the buffer that it leaves
+pub met : (d : Drive) (v : List ℕ) (o : ℕ) (b : List ℕ) {a : Answer} → a ≡ readAnswer d v o (length b) → bufferAt a d v o b ≡ readBuffer d v o b
+unfolding readBuffer
+met d v o b e = ap (λ (x : Answer). bufferAt x d v o b) e
+
+pub filled : (d : Drive) (v : List ℕ) (o : ℕ) (b : List ℕ) (a : Answer) {w : List ℕ} → accepts a ≡ true → w ≡ tab (length b) (λ i. byteOf d v (o + i)) → w ≡ bufferAt a d v o b
+filled d v o b a h e = e ∙ sym (yes _ h refl)
+
+pub left-alone : (d : Drive) (v : List ℕ) (o : ℕ) (b : List ℕ) (a : Answer) → accepts a ≡ false → b ≡ bufferAt a d v o b
+left-alone d v o b a h = sym (no _ h refl)

@@ -1,0 +1,4 @@
+pub mod FillLaws
+pub mod AnswerLaws
+pub mod Refused
+pub mod Outcomes
