@@ -26,7 +26,7 @@ use Rattle.records.proofs.RecordLaws.{read-stored}
 use Rattle.nodes.specs.Lent.{Lent}
 use Rattle.nodes.specs.Nodes.{nodeIn}
 use Rattle.nodes.specs.Alike.{Alike}
-use Rattle.nodes.proofs.Bounds.{lent-small, node-above}
+use Rattle.nodes.proofs.Bounds.{node-above}
 use Rattle.nodes.proofs.MadeLaws.{made-alike}
 use Rattle.nodes.proofs.StoreLaws.{outside-alike}
 use Rattle.tree.specs.Path.{formed}
@@ -119,8 +119,11 @@ module _ (s : Shape) (limited : inLimits s ≡ true) where
         let e = sym (record-alike (recordAt n) (planted s) (sets (planted s) 0 head) (headed-alike n .records)) ∙ planted-fresh n h in
         rw e (both-on (lt-ltb 0 (2 ^ s .p) (pow-pos (s .p))) refl)
 
+    headed-lent : Lent s (sets (planted s) 0 head)
+    headed-lent = record { limited = limited; size = length-sets (planted s) 0 head ∙ length-planted s }
+
     pub headed-whole : wholeOf s 1 false (sets (planted s) 0 head) ≡ A.Accepted
-    headed-whole = good-whole s 1 false (sets (planted s) 0 head) (lent-small bare-lent) headed-good headed-formed
+    headed-whole = good-whole s 1 false (sets (planted s) 0 head) headed-lent headed-good headed-formed
 
 module _ (s : Shape) (salt secret : List ℕ) (outside : ℕ) (salted : length salt ≡ 16) (limited : inLimits s ≡ true) where
   head-long : length (headOf (freshDrive s salt secret outside)) ≡ 104
