@@ -5,6 +5,7 @@ command -v rt >/dev/null || { echo "the Rattle toolchain (rt) is not here"; exit
 missing=()
 command -v gcc >/dev/null || missing+=(gcc libc6-dev)
 command -v python3 >/dev/null || missing+=(python3)
+[ "$(uname -m)" = x86_64 ] || command -v qemu-x86_64 >/dev/null || missing+=(qemu-user)
 [ ${#missing[@]} -eq 0 ] && exit 0
 as_root=()
 [ "$(id -u)" -eq 0 ] || as_root=(sudo)

@@ -1,12 +1,12 @@
 -- The pieces of the input, and how long the line can be.
-use mathlib.Core.Path.{_≡_, sym, _∙_}
+use mathlib.Core.Path.{_≡_, sym, ap, _∙_}
 use mathlib.Core.Bool.{Bool, true, false}
 use mathlib.Core.List.{List}
 use Prim.Native.Nat.{ℕ, _+_, _-_, _≤_}
 use native.Mathlib.Omega.{arith}
 use native.Mathlib.Nat.{le-refl}
 use lib.ListN.{length, take, drop, length-append, length-drop}
-use lib.Seq.{sets, take-all}
+use lib.Seq.{sets, take-all, length-sets, length-take-le}
 use Rattle.base.specs.Pick.{pick}
 use Rattle.base.specs.Lists.{part}
 use Rattle.base.proofs.PartLaws.{length-part, sets-full}
@@ -14,7 +14,7 @@ use Rattle.answers.specs.declared.Answer.{Answer}
 use Rattle.answers.specs.declared.Answer.the-variants as A
 use Rattle.answers.specs.Numbers.{numberOf, carriedOf, accepts}
 use Rattle.answers.specs.Classes.{classOf}
-use Rattle.line.specs.Lines.{reportLine, refusalLine}
+use Rattle.line.specs.Lines.{Put, reportLine, refusalLine}
 use Rattle.line.proofs.PutLaws.{decimal-le, share-le, class-le, carried-le}
 use Rattle.drive.specs.declared.Done.{Done}
 use Rattle.opening.specs.Mount.{mountDone}
@@ -66,3 +66,10 @@ pub sheet-short : (i : List ℕ) → length (sheetLine i) ≤ 90
 unfolding sheetLine
 sheet-short i =
     pick-short (sized i) (mountedText (mountedBy i) (volumeIn i)) (refusalLine A.Length) 90 (mounted-short (mountedBy i) (volumeIn i)) (refusal-short A.Length)
+
+-- so it stands whole in 128 bytes
+pub line-fits : (i : List ℕ) {s x : List ℕ} {k : ℕ} → 128 ≤ length s → Put s 0 (sheetLine i) k x → (k ≤ length x) × (k ≡ length (take k x))
+line-fits i {s} {x} {k} h f =
+    let long : length x ≡ length s = ap length (f .stored) ∙ length-sets s 0 (sheetLine i) in
+    let fits : k ≤ length x = omega (arith, f .behind, sheet-short i) in
+    (fits, sym (length-take-le k x fits))
