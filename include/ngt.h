@@ -21,6 +21,10 @@ uint32_t ngt_format(uint8_t *vol, size_t vol_len, uint32_t n, uint32_t p, uint32
 uint32_t ngt_mount(const uint8_t *vol, size_t vol_len, const uint8_t present[32], const uint8_t old[32],
                    uint64_t outside, uint8_t drive[144], uint8_t answer[16]);
 
+/* The buffer is filled only if the call is accepted. */
+uint32_t ngt_read(const uint8_t drive[144], const uint8_t *vol, size_t vol_len, uint64_t offset,
+                  uint8_t *buf, size_t buf_len, uint8_t answer[16]);
+
 /* report: N, moved, left, flakes, share in hundredths of a percent, 4 bytes each; all zero if refused. */
 uint32_t ngt_report(const uint8_t drive[144], const uint8_t *vol, size_t vol_len, uint8_t report[20], uint8_t answer[16]);
 

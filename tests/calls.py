@@ -58,6 +58,17 @@ class Case:
         want = calls.stored_flake(self.drive, self.volume, nugget, flake)
         self.same("stored flake", (said, left(answer), left(span)), (want.answer.number, want.answer.image(), struct.pack("<QQ", *want.span)))
 
+    def read(self, offset, buffer):
+        mine, answer = room(buffer), room(size=16)
+        said = self.proved.ngt_read(self.drive.image(), *slice_of(self.volume), U64(offset), mine, ctypes.c_size_t(len(buffer)), answer)
+        want = calls.read(self.drive, self.volume, offset, buffer)
+        self.same("read", (said, left(answer), left(mine)), (want.answer.number, want.answer.image(), want.buffer))
+
+
+def offset_of(source, drive):
+    capacity = drive.n * drive.p * drive.f
+    return source.choice((0, 1, 63, 64, capacity, TOP, source.randrange(capacity + 1), source.getrandbits(64))) % 2**64
+
 
 def every(source, case):
     drive = case.drive
@@ -70,6 +81,8 @@ def every(source, case):
     case.mount(*swapped, counter)
     case.report()
     case.stored_flake(source.choice((0, drive.n - 1, drive.n, number)) % 2**32, source.choice((0, drive.p - 1, drive.p, other)) % 2**32)
+    for length in (0, source.choice((1, 10, 64, 65, 200, 700))):
+        case.read(offset_of(source, drive), source.randbytes(length))
 
 
 def lived(source, shape):

@@ -5,7 +5,7 @@ use Prim.Native.Nat.{ℕ}
 use Rattle.answers.specs.declared.Answer.{Answer}
 use Rattle.layout.specs.declared.Shape.{Shape}
 use Rattle.drive.specs.declared.Drive.{Drive}
-use Rattle.ngt.specs.Calls.{Tells, Formatted, Mounted, Reported, Shown}
+use Rattle.ngt.specs.Calls.{Tells, Formatted, Mounted, Filled, Reported, Shown}
 
 pub one-answer : {a : Answer} {k l : ℕ} {x y : List ℕ} → Tells a k x → Tells a l y → (k ≡ l) × (x ≡ y)
 one-answer p q = (p .told ∙ sym (q .told), p .shown ∙ sym (q .shown))
@@ -17,6 +17,10 @@ one-format p q = (one-answer (p .tells) (q .tells), (p .volume ∙ sym (q .volum
 pub one-mount : {v present old : List ℕ} {outside k l : ℕ} {i j x y : List ℕ} → Mounted v present old outside k i x → Mounted v present old outside l j y
     → ((k ≡ l) × (x ≡ y)) × (i ≡ j)
 one-mount p q = (one-answer (p .tells) (q .tells), p .drive ∙ sym (q .drive))
+
+pub one-read : {d : Drive} {v given : List ℕ} {offset k l : ℕ} {a b x y : List ℕ} → Filled d v offset given k a x → Filled d v offset given l b y
+    → ((k ≡ l) × (x ≡ y)) × (a ≡ b)
+one-read p q = (one-answer (p .tells) (q .tells), p .bytes ∙ sym (q .bytes))
 
 pub one-report : {d : Drive} {v : List ℕ} {k l : ℕ} {r t x y : List ℕ} → Reported d v k r x → Reported d v l t y → ((k ≡ l) × (x ≡ y)) × (r ≡ t)
 one-report p q = (one-answer (p .tells) (q .tells), p .numbers ∙ sym (q .numbers))

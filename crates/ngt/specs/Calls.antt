@@ -15,6 +15,8 @@ use Rattle.drive.specs.Drive.{shapeOf, zeros}
 use Rattle.packed.specs.Image.{driveImage}
 use Rattle.opening.specs.Format.{formatDone, formatVolume}
 use Rattle.opening.specs.Mount.{mountDone}
+use lib.ListN.{length}
+use Rattle.reading.specs.Read.{readAnswer, readBuffer}
 use Rattle.reports.specs.declared.told.Report.{Report}
 use Rattle.reports.specs.Report.{reportOf}
 use Rattle.reports.specs.Stored.{storedAnswer}
@@ -32,6 +34,10 @@ pub record Formatted (s : Shape) (salt secret : List ℕ) (outside : ℕ) (v : L
 pub record Mounted (v present old : List ℕ) (outside number : ℕ) (image answer : List ℕ) : Type 0 where
   pub tells : Tells (mountDone v present old outside .answer) number answer
   pub drive : image ≡ driveImage (mountDone v present old outside .drive)
+
+pub record Filled (d : Drive) (v : List ℕ) (offset : ℕ) (given : List ℕ) (number : ℕ) (buffer answer : List ℕ) : Type 0 where
+  pub tells : Tells (readAnswer d v offset (length given)) number answer
+  pub bytes : buffer ≡ readBuffer d v offset given
 
 -- "N, moved, left, flakes, share in hundredths of a percent, 4 bytes each"
 abbrev pub reportImage : Report → List ℕ

@@ -6,7 +6,7 @@ ghost use mathlib.Core.List.{_++_};
 ghost use Rattle.words.specs.Le.{le};
 ghost use Rattle.layout.specs.Shape.{shape};
 ghost use Rattle.packed.specs.Image.{driveIn};
-ghost use Rattle.ngt.specs.Calls.{Formatted, Mounted, Reported, Shown, spanOf};
+ghost use Rattle.ngt.specs.Calls.{Formatted, Mounted, Filled, Reported, Shown, spanOf};
 
 // Format, with the image of the drive that it hands back.
 #[no_mangle]
@@ -68,6 +68,23 @@ fn opened(image: [u8; 144]) -> Drive
     ensures { λ r. ⌜ r ≡ driveIn image ⌝ }
 {
     packed::unpack(&image)
+}
+
+// Read into a lent buffer.
+#[no_mangle]
+pub extern "C" fn ngt_read(
+    image: &[u8; 144],
+    vol: &[u8],
+    offset: u64,
+    buf: &mut [u8],
+    answer: &mut [u8; 16],
+) -> u32
+    ensures { λ r. ⌜ Filled (driveIn (now (image .entry))) (now (vol .entry)) offset (now (buf .entry)) r (now (buf .exit)) (now (answer .exit)) ⌝ }
+{
+    let d = opened(*image);
+    let a = reading::read(d, vol, offset, buf);
+    *answer = images::answer_image(a);
+    answers::number(a)
 }
 
 // Report, "N, moved, left, flakes, share in hundredths of a percent, 4 bytes each; all zero if refused".
