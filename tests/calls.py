@@ -1,7 +1,8 @@
-"""The calls through the C interface: the proved library against the second program, to the byte.
+"""The calls through the C interface: the proved library beside the second program, equal to the byte.
 
-Sealed volumes over garbage records, damaged ones, garbage drives and volumes, and volumes with a history. NGT_SEED sets
-the seed; a failure prints it with the case.
+Each call that is made of the second program here is made of the proved library too: random volumes with a history, garbage,
+and all that the second program's own checks make (each refusal alone and in pairs, one flipped bit in every byte, the tree's
+places, histories). NGT_SEED sets the seed; a failure prints it with the smallest case.
 """
 import ctypes
 import random
@@ -12,77 +13,73 @@ from proved import ROOT, SEED, Tally, left, library, room, slice_of
 
 sys.path.insert(0, str(ROOT / "second"))
 import calls  # noqa: E402
-from checks.garbage import WORDS, sealed, wild  # noqa: E402
+import checks.tally  # noqa: E402
+from checks import edges, figures, flips, garbage, histories, places, refusals  # noqa: E402
 from checks.make import SALT, flipped  # noqa: E402
-from drive import BLANK  # noqa: E402
 from layout import layout  # noqa: E402
 
-U32, U64 = ctypes.c_uint32, ctypes.c_uint64
+U32, U64, SIZE = ctypes.c_uint32, ctypes.c_uint64, ctypes.c_size_t
 TOP = 2**64 - 1
 SHAPES = [(n, p, f) for n in (1, 2, 3, 4, 5, 6, 33) for p, f in ((1, 64), (2, 64), (3, 128), (4, 256), (64, 64))]
 
 
-class Case:
-    """One drive and volume; each method makes a call on both sides and holds the results together."""
+class Beside:
+    """The proved library's calls, each held against the result that the second program gave."""
 
-    def __init__(self, tally, proved, name, drive, volume):
-        self.tally, self.proved, self.name = tally, proved, name
-        self.drive, self.volume = drive, bytes(volume)
+    def __init__(self, proved, tally):
+        self.proved, self.tally = proved, tally
+        for name in ("format", "mount", "read", "report", "stored_flake"):
+            setattr(calls, name, self.both(name, getattr(calls, name), getattr(self, name)))
 
-    def same(self, call, got, wanted):
-        self.tally.same(call, self.name, got, wanted)
+    def both(self, name, second, mine):
+        def call(*words):
+            want = second(*words)
+            got, wanted = mine(want, *words)
+            answer = (want.answer.number, want.answer.image())
+            self.tally.same(name, words, got, answer + wanted, sum(len(word) for word in words if isinstance(word, bytes)))
+            return want
+        return call
 
-    def format(self, shape, salt, secret, outside):
-        vol, image, answer = room(self.volume), room(size=144), room(size=16)
-        n, p, f = shape
-        said = self.proved.ngt_format(vol, ctypes.c_size_t(len(self.volume)), U32(n), U32(p), U32(f), salt, secret, U64(outside), image, answer)
-        want = calls.format(self.volume, n, p, f, salt, secret, outside)
-        self.same("format", (said, left(answer), left(image), left(vol)),
-                  (want.answer.number, want.answer.image(), want.drive.image(), want.volume))
+    def format(self, want, volume, n, p, f, salt, secret, outside):
+        vol, image, answer = room(volume), room(size=144), room(size=16)
+        said = self.proved.ngt_format(vol, SIZE(len(volume)), U32(n), U32(p), U32(f), salt, secret, U64(outside), image, answer)
+        return (said, left(answer), left(image), left(vol)), (want.drive.image(), want.volume)
 
-    def mount(self, present, old, outside):
+    def mount(self, want, volume, present, old, outside):
         image, answer = room(size=144), room(size=16)
-        said = self.proved.ngt_mount(*slice_of(self.volume), present, old, U64(outside), image, answer)
-        want = calls.mount(self.volume, present, old, outside)
-        self.same("mount", (said, left(answer), left(image)), (want.answer.number, want.answer.image(), want.drive.image()))
+        said = self.proved.ngt_mount(*slice_of(bytes(volume)), present, old, U64(outside), image, answer)
+        return (said, left(answer), left(image)), (want.drive.image(),)
 
-    def report(self):
-        report, answer = room(size=20), room(size=16)
-        said = self.proved.ngt_report(self.drive.image(), *slice_of(self.volume), report, answer)
-        want = calls.report(self.drive, self.volume)
-        self.same("report", (said, left(answer), left(report)), (want.answer.number, want.answer.image(), struct.pack("<5I", *want.report)))
-
-    def stored_flake(self, nugget, flake):
-        span, answer = room(size=16), room(size=16)
-        said = self.proved.ngt_stored_flake(self.drive.image(), *slice_of(self.volume), U32(nugget), U32(flake), span, answer)
-        want = calls.stored_flake(self.drive, self.volume, nugget, flake)
-        self.same("stored flake", (said, left(answer), left(span)), (want.answer.number, want.answer.image(), struct.pack("<QQ", *want.span)))
-
-    def read(self, offset, buffer):
+    def read(self, want, drive, volume, offset, buffer):
         mine, answer = room(buffer), room(size=16)
-        said = self.proved.ngt_read(self.drive.image(), *slice_of(self.volume), U64(offset), mine, ctypes.c_size_t(len(buffer)), answer)
-        want = calls.read(self.drive, self.volume, offset, buffer)
-        self.same("read", (said, left(answer), left(mine)), (want.answer.number, want.answer.image(), want.buffer))
+        said = self.proved.ngt_read(drive.image(), *slice_of(bytes(volume)), U64(offset), mine, SIZE(len(buffer)), answer)
+        return (said, left(answer), left(mine)), (want.buffer,)
+
+    def report(self, want, drive, volume):
+        report, answer = room(size=20), room(size=16)
+        said = self.proved.ngt_report(drive.image(), *slice_of(bytes(volume)), report, answer)
+        return (said, left(answer), left(report)), (struct.pack("<5I", *want.report),)
+
+    def stored_flake(self, want, drive, volume, nugget, flake):
+        span, answer = room(size=16), room(size=16)
+        said = self.proved.ngt_stored_flake(drive.image(), *slice_of(bytes(volume)), U32(nugget), U32(flake), span, answer)
+        return (said, left(answer), left(span)), (struct.pack("<QQ", *want.span),)
 
 
-def offset_of(source, drive):
-    capacity = drive.n * drive.p * drive.f
-    return source.choice((0, 1, 63, 64, capacity, TOP, source.randrange(capacity + 1), source.getrandbits(64))) % 2**64
-
-
-def every(source, case):
-    drive = case.drive
-    number, other = source.choice(WORDS), source.choice(WORDS)
+def every(source, drive, volume):
+    """All five calls, with arguments at the edges and past them."""
+    number, other = source.choice(garbage.WORDS), source.choice(garbage.WORDS)
     counter = source.choice((drive.counter, drive.counter, 0, TOP))
     shape = source.choice(((drive.n, drive.p, drive.f), (number, other, 64), (number, 2, other)))
-    case.format(shape, source.randbytes(16), source.randbytes(32), source.choice((counter, source.getrandbits(64))))
-    swapped = source.choice(((drive.present, drive.old), (drive.old, drive.present), (drive.present, drive.present)))
-    case.mount(drive.present, drive.old, counter)
-    case.mount(*swapped, counter)
-    case.report()
-    case.stored_flake(source.choice((0, drive.n - 1, drive.n, number)) % 2**32, source.choice((0, drive.p - 1, drive.p, other)) % 2**32)
+    calls.format(volume, *shape, source.randbytes(16), source.randbytes(32), source.choice((counter, source.getrandbits(64))))
+    calls.mount(volume, drive.present, drive.old, counter)
+    calls.mount(volume, *source.choice(((drive.old, drive.present), (drive.present, drive.present))), counter)
+    calls.report(drive, volume)
+    calls.stored_flake(drive, volume, source.choice((0, drive.n - 1, drive.n, number)) % 2**32, source.choice((0, drive.p - 1, drive.p, other)) % 2**32)
+    capacity = drive.n * drive.p * drive.f
     for length in (0, source.choice((1, 10, 64, 65, 200, 700))):
-        case.read(offset_of(source, drive), source.randbytes(length))
+        at = (0, 1, 63, 64, capacity, capacity - length, TOP, source.randrange(capacity + 1), source.getrandbits(64))
+        calls.read(drive, volume, source.choice(at) % 2**64, source.randbytes(length))
 
 
 def lived(source, shape):
@@ -91,9 +88,8 @@ def lived(source, shape):
     result = calls.format(bytes(layout(n, p, f).length), n, p, f, SALT, source.randbytes(32), source.randrange(1000))
     drive, volume, before = result.drive, result.volume, result.drive
     for _ in range(source.randrange(1, 12)):
-        way = source.randrange(6)
+        way, o = source.randrange(6), source.randrange(n * p * f)
         if way < 3:
-            o = source.randrange(n * p * f)
             result = calls.write(drive, volume, o, source.randbytes(min(n * p * f - o, source.choice((1, 64, 130, 300)))))
         elif way == 3:
             result = calls.begin(drive, volume, source.randbytes(32))
@@ -108,15 +104,17 @@ def lived(source, shape):
 
 
 def main():
-    proved, tally = library("ngt"), Tally()
-    for i in range(500):
+    tally = Tally()
+    Beside(library("ngt"), tally)
+    for i in range(1000):
         source = random.Random(f"{SEED} garbage {i}")
-        every(source, Case(tally, proved, f"garbage {i}", *(sealed if i % 2 else wild)(source)))
+        every(source, *(garbage.sealed if i % 2 else garbage.wild)(source))
     for shape in SHAPES:
-        for i in range(6):
+        for i in range(20):
             source = random.Random(f"{SEED} {shape} {i}")
-            every(source, Case(tally, proved, f"{shape} {i}", *lived(source, shape)))
-    every(random.Random(SEED), Case(tally, proved, "blank", BLANK, b""))
+            every(source, *lived(source, shape))
+    for group in (figures, refusals, edges, flips, places, histories):
+        group.run(checks.tally.Tally(str(SEED)))
     return tally.close()
 
 

@@ -5,7 +5,10 @@ command -v rt >/dev/null || { echo "the Rattle toolchain (rt) is not here"; exit
 missing=()
 command -v gcc >/dev/null || missing+=(gcc libc6-dev)
 command -v python3 >/dev/null || missing+=(python3)
-[ "$(uname -m)" = x86_64 ] || command -v qemu-x86_64 >/dev/null || missing+=(qemu-user)
+if [ "$(uname -m)" != x86_64 ]; then
+    command -v qemu-x86_64 >/dev/null || missing+=(qemu-user)
+    command -v x86_64-linux-gnu-gcc >/dev/null || missing+=(gcc-x86-64-linux-gnu)
+fi
 [ ${#missing[@]} -eq 0 ] && exit 0
 as_root=()
 [ "$(id -u)" -eq 0 ] || as_root=(sudo)

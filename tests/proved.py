@@ -38,18 +38,22 @@ def left(buffer):
 
 
 class Tally:
-    """Counts checks; a failure prints the seed and the case."""
+    """Counts checks. At the end it prints how many failed, the seed, and the smallest case that did."""
 
     def __init__(self):
         self.passed = self.failed = 0
+        self.smallest = None
 
-    def same(self, what, case, got, wanted):
+    def same(self, what, case, got, wanted, size=0):
         if got == wanted:
             self.passed += 1
-        else:
-            self.failed += 1
-            print(f"{what} differs: NGT_SEED={SEED}, case {case}: got {got!r:.200}, wanted {wanted!r:.200}")
+            return
+        self.failed += 1
+        if self.smallest is None or size < self.smallest[0]:
+            self.smallest = (size, f"{what} differs, case {case}: got {got!r:.400}, wanted {wanted!r:.400}")
 
     def close(self):
+        if self.smallest:
+            print(f"NGT_SEED={SEED}, the smallest of {self.failed}: {self.smallest[1]}")
         print(f"{self.passed} passed, {self.failed} failed")
         return 1 if self.failed else 0
