@@ -7,7 +7,7 @@ use Rattle.base.specs.Outcome.{Unique}
 use Rattle.base.proofs.OutcomeLaws.{only}
 use Rattle.words.specs.Xor.{xorl}
 use Rattle.keys.specs.Keys.{nuggetKey, tagKey, checkOf, sealOf}
-use Rattle.keys.specs.Pads.{padOf, under}
+use Rattle.keys.specs.Pads.{nonceOf, padOf, under}
 use Rattle.keys.specs.Tags.{tagOf, tagUnder}
 
 -- what `encipher` hands back, and what it leaves
@@ -26,6 +26,9 @@ one-check old salt epoch = only (checkOf old salt epoch)
 
 pub one-seal : (secret front node : List ℕ) → Unique (λ r. r ≡ sealOf secret front node)
 one-seal secret front node = only (sealOf secret front node)
+
+pub one-nonce : (k : ℕ) → Unique (λ r. r ≡ nonceOf k)
+one-nonce k = only (nonceOf k)
 
 pub one-laying : (flake key : List ℕ) (k f : ℕ) → Unique (λ last. last ≡ xorl flake (padOf key k f (length flake)))
 one-laying flake key k f = only (xorl flake (padOf key k f (length flake)))

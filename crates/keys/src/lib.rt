@@ -54,7 +54,8 @@ pub fn seal_of(secret: [u8; 32], front: &[u8], node: &[u8]) -> [u8; 32]
     lettered(secret, b'H', front, node)
 }
 
-fn nonce_of(k: u64) -> [u8; 12]
+// "nonce of four zero bytes then the keycount"
+pub fn nonce_of(k: u64) -> [u8; 12]
     ensures { λ r. ⌜ r ≡ nonceOf k ⌝ }
 {
     let mut r = [0u8; 12];

@@ -13,7 +13,7 @@ ghost use Rattle.words.specs.Xor.{xorl};
 ghost use Rattle.chacha20.specs.ChaCha20.{keystream, blocks};
 ghost use Rattle.layout.specs.Shape.{inLimits};
 ghost use Rattle.layout.specs.Spots.{capacity};
-ghost use Rattle.keys.specs.Pads.{nonceOf, firstBlock, padOf, Size};
+ghost use Rattle.keys.specs.Pads.{firstBlock, padOf, Size};
 ghost use Rattle.nodes.specs.Lent.{Lent};
 ghost use Rattle.drive.specs.Drive.{shapeOf};
 ghost use Rattle.nuggets.specs.Nugget.{secretFor, nuggetOf, contentsIn};
@@ -116,15 +116,6 @@ pub fn test_read(d: Drive, vol: &[u8], n: u32, touched: u64) -> Answer
     a
 }
 
-// "nonce of four zero bytes then the keycount"
-fn nonce_of(k: u64) -> [u8; 12]
-    ensures { λ r. ⌜ r ≡ nonceOf k ⌝ }
-{
-    let mut r = [0u8; 12];
-    words::store(&mut r, 4, 8, k);
-    r
-}
-
 // The block of the pad of flake f that byte b lies in.
 fn block_of(size: usize, f: u32, b: usize) -> u32
     requires { ⌜ (size ≤ 4096) × (f < 64) × (b ≤ size) ⌝ }
@@ -163,7 +154,7 @@ pub fn lay_from(d: &mut [u8], key: [u8; 32], k: u64, size: usize, f: u32, b: usi
     requires { ⌜ Size size × (f < 64) × (b + length (now d) ≤ size) ⌝ }
     ensures { λ _. ⌜ now (d .exit) ≡ xorl (now (d .entry)) (drop b (padOf key k f size)) ⌝ }
 {
-    let nonce = nonce_of(k);
+    let nonce = keys::nonce_of(k);
     let block = block_of(size, f, b);
     lay_stream(d, key, nonce, block, b % 64);
 }
