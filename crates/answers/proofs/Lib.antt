@@ -1,2 +1,3 @@
 pub mod ClassLaws
 pub mod Outcomes
+pub mod StageLaws

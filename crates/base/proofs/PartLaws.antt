@@ -1,12 +1,12 @@
 -- Laws of parts and of runs of stores.
 use mathlib.Core.Path.{_≡_, refl, ap, sym, _∙_}
 use mathlib.Core.List.{List, [], _∷_, _++_, append-assoc, append-nil}
-use Prim.Native.Nat.{ℕ, zero, suc, _+_, _-_, _<_, _≤_, min}
-use native.Mathlib.Nat.{suc-add, zero-add, add-suc, add-zero}
+use Prim.Native.Nat.{ℕ, zero, suc, _+_, _-_, _<_, _≤_}
+use native.Mathlib.Nat.{suc-add, zero-add, add-suc, add-zero, add-sub-cancel-left}
 use native.Mathlib.Numerals.{add-one}
 use native.Mathlib.Omega.{arith}
 use lib.ListN.{length, getD, take, drop, set, length-append, length-take, length-drop, drop-of-length-le}
-use lib.Seq.{sets, sets-eq, length-sets, take-at, drop-at, drop-drop, length-take-le, take-take, set-comm, take-set-le, drop-set-lt, getD-take, getD-drop, take-nil, take-add, drop-cons}
+use lib.Seq.{sets, sets-eq, take-at, drop-at, drop-drop, length-take-le, take-take, set-comm, take-set-le, drop-set-lt, getD-take, getD-drop, take-nil, take-add, drop-cons, ext-getD}
 use Rattle.base.specs.Lists.{part}
 
 pub length-part : {A : Type 0} (at n : ℕ) (l : List A) → at + n ≤ length l → length (part at n l) ≡ n
@@ -101,3 +101,25 @@ grows p out vs k m e f g h =
       drop-drop (length vs) k out,
       g,
     )
+
+-- equal bytes make equal parts
+pub part-equal : (at k : ℕ) (v w : List ℕ) → length w ≡ length v → at + k ≤ length v → ((j : ℕ) → at ≤ j → j < at + k → getD v j 0 ≡ getD w j 0)
+    → part at k v ≡ part at k w
+part-equal at k v w e h same =
+    let room : at + k ≤ length w = rw e h in
+    ext-getD 0 (part at k v) (part at k w) (length-part at k v h ∙ sym (length-part at k w room))
+    (λ i l. let m : i < k = rw (length-part at k v h) at l in
+    getD-part at k v i 0 m ∙ same (at + i) (omega arith) (omega arith) ∙ sym (getD-part at k w i 0 m))
+
+-- the part from `at` to `at + k`
+pub part-to : (at k : ℕ) (v : List ℕ) → part at (at + k - at) v ≡ part at k v
+part-to at k v = let e : at + k - at ≡ k = omega arith in rw e
+
+-- a part of what stands below the tree
+pub part-below : (at n m : ℕ) (v w : List ℕ) → at + n ≤ m → take m w ≡ take m v → part at n v ≡ part at n w
+part-below at n m v w h e =
+    rw (part-front at n v, part-front at n w, ← take-take (at + n) m v h, ← take-take (at + n) m w h, e)
+
+-- n bytes from a place on, copied over all of z
+pub copied : (z v : List ℕ) (at n : ℕ) → length z ≡ n → at + n ≤ length v → sets z 0 (take (at + n - at) (drop at v)) ≡ part at n v
+copied z v at n e h = rw (add-sub-cancel-left at n) (sets-full z (part at n v) (length-part at n v h ∙ sym e))

@@ -3,18 +3,18 @@ use mathlib.Core.Path.{_≡_, refl, ap, sym, _∙_}
 use mathlib.Core.List.{List, [], _∷_, _++_, append-assoc, append-nil}
 use Prim.Native.Nat.{ℕ, zero, suc, _+_, _<_, _≤_}
 use native.Mathlib.Numerals.{add-one}
-use native.Mathlib.Nat.{add-zero, add-suc, lt-of-lt-of-le, le-refl, le-of-lt}
+use native.Mathlib.Nat.{add-zero, add-suc}
 use native.Mathlib.Omega.{arith}
 use lib.ListN.{length, getD, take, drop, set, length-append, drop-of-length-le}
-use lib.Seq.{drop-cons, set-at, getD-at, take-at, drop-at, drop-drop, sets}
-use Rattle.base.proofs.PartLaws.{sets-append}
+use lib.Seq.{drop-cons, set-at, getD-at, take-at, drop-at, drop-drop, sets, ext-getD}
+use Rattle.base.proofs.PartLaws.{sets-append, length-part, getD-part}
 use lib.ListN.{List·getD-append, replicate, replicate-append-replicate}
 use lib.Dec.{ltb}
 use mathlib.Core.Bool.{true, false}
 use mathlib.Core.Logic.{_⊎_, inl, inr}
 use borrow.Author.Tests.{ltb-true, ltb-false}
 use Rattle.base.proofs.PickLaws.{told}
-use Rattle.base.specs.Lists.{tab}
+use Rattle.base.specs.Lists.{tab, part}
 
 pub length-tab : {A : Type 0} (n : ℕ) (f : ℕ → A) → length (tab n f) ≡ n
 unfolding tab
@@ -90,3 +90,11 @@ tab-part f d m n e q =
     let front : length (tab m f) ≡ m = length-tab m f in
     rw (e, q, take-at (tab m f) (drop m d) m front, ← drop-drop n m (tab m f ++ drop m d), drop-at (tab m f) (drop m d) m front, drop-drop n m d, tab-add m n f)
     (sym (append-assoc (tab m f) (tab n (λ j. f (m + j))) (drop (m + n) d)))
+
+-- a part by its places
+pub part-tab : (b n : ℕ) (l : List ℕ) → b + n ≤ length l → part b n l ≡ tab n (λ j. getD l (b + j) 0)
+part-tab b n l h =
+    let long : length (part b n l) ≡ n = length-part b n l h in
+    ext-getD 0 (part b n l) (tab n (λ j. getD l (b + j) 0)) (long ∙ sym (length-tab n (λ j. getD l (b + j) 0))) (λ i q.
+    let low : i < n = omega (arith, q, long) in
+    getD-part b n l i 0 low ∙ sym (getD-tab n (λ j. getD l (b + j) 0) i 0 low))

@@ -1,5 +1,5 @@
 -- Document 01: "The open drive is one record that the calls change where it stands".
-use Prim.Native.Nat.{ℕ}
+use Prim.Native.Nat.{ℕ, _-_, _^_}
 use mathlib.Core.Bool.{Bool, true, false}
 use mathlib.Core.List.{List}
 use lib.ListN.{replicate}
@@ -34,3 +34,12 @@ blankDrive =
       present = zeros 32;
       old = zeros 32;
     }
+
+-- "Keycount and counter: 0 to 2^64 - 1."
+abbrev pub counterTop : ℕ
+counterTop = 2 ^ 64 - 1
+
+-- "an accepted change or mount leaves zeros there": the old secret that a state keeps
+abbrev pub keptOld : State → List ℕ → List ℕ
+keptOld Steady old = zeros 32
+keptOld (Changing left) old = old

@@ -1,4 +1,3 @@
-pub mod Laws
 pub mod HashLaws
 pub mod KeyLaws
 pub mod PadLaws

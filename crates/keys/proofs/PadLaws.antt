@@ -7,11 +7,10 @@ use lib.ListN.{length}
 use lib.Seq.{length-take-le}
 use Rattle.words.specs.Le.{Bytes}
 use Rattle.words.proofs.LeLaws.{bytes-part}
-use Rattle.words.proofs.XorLaws.{length-xorl, xorl-back}
+use Rattle.words.proofs.XorLaws.{length-xorl, xorl-back, xorl-take}
 use Rattle.chacha20.specs.ChaCha20.{keystream, blocks, encrypted}
 use Rattle.chacha20.proofs.KeystreamLaws.{length-keystream, keystream-bytes}
 use Rattle.keys.specs.Pads.{nonceOf, firstBlock, padOf, under}
-use Rattle.keys.proofs.Laws.{xorl-take}
 
 module _ (key : List ℕ) (k f size : ℕ) where
   -- the keystream reaches as far as the flake

@@ -2,14 +2,15 @@
 use mathlib.Core.Path.{_≡_, refl}
 use mathlib.Core.Bool.{true, false}
 use Prim.Native.Nat.{ℕ, _*_, _%_, _≤_}
-use native.Mathlib.Nat.{mul-le-mul}
-use lib.Dec.{leb, eqb, lit≤}
+use native.Mathlib.Nat.{mul-le-mul, le-trans}
+use lib.Dec.{leb, lit≤}
 use borrow.Author.Tests.{leb-true, eqb-true}
-use Rattle.base.specs.Pick.{both, pick}
 use Rattle.base.proofs.PickLaws.{both-left, both-right}
 use Rattle.layout.specs.Shape.{inLimits, within, leaves}
-use Rattle.layout.proofs.Height.{leaves-least}
+use Rattle.layout.proofs.Height.{leaves-least, leaves-enough, leaves-some}
 use Rattle.layout.specs.declared.Shape.{Shape}
+use mathlib.Core.List.{List}
+use Rattle.layout.specs.Lent.{Lent}
 
 pub record Limits (s : Shape) : Type 0 where
   pub some : 1 ≤ s .n
@@ -55,3 +56,26 @@ module _ (s : Shape) (l : Limits s) where
 
   pub leaves-le : leaves (s .n) ≤ 16384
   leaves-le = leaves-least 14 (s .n) (lit≤ tt) (l .few)
+
+-- numbers of a shape: all that the code's arithmetic has to know
+pub record Small (s : Shape) : Type 0 where
+  pub some-leaves : 1 ≤ leaves (s .n)
+  pub few-leaves : leaves (s .n) ≤ 16384
+  pub enough-leaves : s .n ≤ leaves (s .n)
+  pub few-nuggets : s .n ≤ 16384
+  pub few-flakes : s .p ≤ 64
+  pub few-tags : s .n * s .p ≤ 1048576
+
+pub small : (s : Shape) → Limits s → Small s
+small s l =
+    record {
+      some-leaves = leaves-some (s .n);
+      few-leaves = leaves-le s l;
+      enough-leaves = leaves-enough (s .n) (le-trans (l .few) (lit≤ tt));
+      few-nuggets = l .few;
+      few-flakes = l .narrow;
+      few-tags = count-le s l;
+    }
+
+pub lent-small : {s : Shape} {v : List ℕ} → Lent s v → Small s
+lent-small {s} l = small s (limits s (l .limited))

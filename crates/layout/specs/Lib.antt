@@ -1,3 +1,4 @@
 pub mod Shape
 pub mod Parts
 pub mod Spots
+pub mod Lent

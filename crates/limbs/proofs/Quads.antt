@@ -1,28 +1,16 @@
 -- A number of four 32-bit words: from bytes, to limbs, and back to bytes.
 use mathlib.Core.Path.{_≡_, refl, ap, sym, _∙_}
-use mathlib.Core.List.{List, [], _∷_, _++_}
+use mathlib.Core.List.{List, _++_}
 use Prim.Native.Nat.{ℕ, zero, suc, _+_, _*_, _/_, _%_, _^_, _<_, _≤_}
 use native.Mathlib.Nat.{pow-suc, suc-add, zero-add, add-assoc, add-comm}
 use native.Mathlib.Omega.{arith}
-use lib.ListN.{length, getD, drop, replicate}
+use lib.ListN.{length, getD, replicate}
 use lib.Bits.{bitOr, or-shifted-r}
-use lib.Seq.{take-add, drop-drop, sets}
+use lib.Seq.{sets}
 use Rattle.base.specs.Lists.{part}
-use Rattle.base.proofs.PartLaws.{length-part}
 use Rattle.words.specs.Le.{num, le}
-use Rattle.words.proofs.LeLaws.{num-part}
+use Rattle.words.proofs.LeLaws.{num-part, num-split}
 use Rattle.limbs.specs.Limbs.{at, quad, p}
-
--- the number of joined bytes
-pub num-append : (a b : List ℕ) → num (a ++ b) ≡ num a + 256 ^ length a * num b
-unfolding num
-num-append [] b = omega arith
-num-append (x ∷ a) b = rw (num-append a b, pow-suc 256 (length a)) (omega arith)
-
--- a part in two pieces
-pub num-split : (l : List ℕ) (from k n : ℕ) → from + k ≤ length l → num (part from (k + n) l) ≡ num (part from k l) + 256 ^ k * num (part (from + k) n l)
-num-split l from k n h =
-    rw (take-add k n (drop from l), num-append (part from k l) (part k n (drop from l)), length-part from k l h, drop-drop k from l)
 
 -- the four bytes of a word
 pub four-num : (l : List ℕ) (k : ℕ) → k + 4 ≤ length l

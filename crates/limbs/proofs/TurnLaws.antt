@@ -15,7 +15,7 @@ use Rattle.limbs.specs.Bounds.{Below, stepBy, stepsBy}
 use Rattle.limbs.specs.Turns.{turn, turns}
 use Rattle.limbs.proofs.Field.{mod-in}
 use Rattle.limbs.proofs.Digits.{wraps}
-use Rattle.limbs.proofs.Quads.{num-append}
+use Rattle.words.proofs.LeLaws.{num-append}
 
 pub wider : {x : Limbs} → Below (2 ^ 26) x → Below (2 ^ 26 + 2 ^ 20) x
 wider b = record { b0 = omega arith; b1 = omega arith; b2 = omega arith; b3 = omega arith; b4 = omega arith }

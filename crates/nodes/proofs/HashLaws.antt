@@ -3,7 +3,6 @@ use mathlib.Core.Path.{_≡_, refl, ap, _∙_}
 use mathlib.Core.List.{List, [], _∷_, _++_}
 use mathlib.Core.Bool.{Bool}
 use Prim.Native.Nat.{ℕ, _+_, _-_, _*_}
-use native.Mathlib.Omega.{arith}
 use lib.ListN.{set, replicate}
 use lib.Seq.{sets}
 use Rattle.base.specs.Lists.{part, same}
@@ -16,14 +15,11 @@ use Rattle.blake2s.specs.declared.State.{State}
 use Rattle.blake2s.proofs.FaceLaws.{absorbed-join, absorbed-hash}
 use Rattle.nodes.specs.Nodes.{nodeIn, leafOf, innerOf}
 use Rattle.nodes.specs.Made.{madeOf, goodNode, storeNode}
+use Rattle.base.proofs.PartLaws.{part-to}
 
 pieces : (x y z : List ℕ) → finished (absorbed (absorbed (absorbed started x) y) z) ≡ blake2s [] (x ++ (y ++ z))
 pieces x y z =
     ap finished (absorbed-join (absorbed started x) y z ∙ absorbed-join started x (y ++ z)) ∙ absorbed-hash (x ++ (y ++ z))
-
--- the part from `at` to `at + k`
-pub part-to : (at k : ℕ) (v : List ℕ) → part at (at + k - at) v ≡ part at k v
-part-to at k v = let e : at + k - at ≡ k = omega arith in rw e
 
 pub letter-nugget : (n : ℕ) → sets (set (replicate 5 0) 0 0x4C) 1 (le 4 n) ≡ 0x4C ∷ le 4 n
 unfolding le

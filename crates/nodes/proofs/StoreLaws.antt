@@ -6,22 +6,22 @@ use mathlib.Core.List.{List}
 use Prim.Native.Nat.{ℕ, _+_, _-_, _*_, _<_, _≤_}
 use native.Mathlib.Omega.{arith}
 use lib.Dec.{ltb}
-use lib.ListN.{length, take}
-use lib.Seq.{length-sets, take-take}
+use lib.ListN.{length}
+use lib.Seq.{length-sets}
 use borrow.Author.Tests.{ltb-true, ltb-false}
 use Rattle.base.specs.Lists.{part}
 use Rattle.base.proofs.PickLaws.{told}
-use Rattle.base.proofs.PartLaws.{part-sets, part-sets-above, part-sets-below, take-sets, drop-sets, part-front}
+use Rattle.base.proofs.PartLaws.{part-sets, part-sets-above, part-sets-below, take-sets, drop-sets, part-below}
 use Rattle.layout.specs.Shape.{leaves}
 use Rattle.layout.specs.Parts.{treeAt, flakesAt, recordAt, tagAt, nodeAt}
 use Rattle.layout.specs.declared.Shape.{Shape}
 use Rattle.layout.proofs.Places.{record-inside}
-use Rattle.nodes.specs.Lent.{Lent}
 use Rattle.nodes.specs.Alike.{Alike, Outside}
 use Rattle.nodes.specs.Nodes.{nodeIn}
 use Rattle.nodes.specs.Made.{madeOf, Good, storeNode}
 use Rattle.nodes.proofs.Bounds.{nodes-apart, node-above, node-below, node-fits, tags-inside}
 use Rattle.nodes.proofs.MadeLaws.{made-alike, length-made}
+use Rattle.layout.specs.Lent.{Lent}
 
 pub outside-refl : (s : Shape) (v : List ℕ) → Outside s v v
 outside-refl s v = record { long = refl; below = refl; above = refl }
@@ -31,11 +31,6 @@ outside-trans a b = record { long = b .long ∙ a .long; below = b .below ∙ a 
 
 pub outside-lent : {s : Shape} {v w : List ℕ} → Outside s v w → Lent s v → Lent s w
 outside-lent o l = record { limited = l .limited; size = o .long ∙ l .size }
-
--- a part of what stands below the tree
-part-below : (at n m : ℕ) (v w : List ℕ) → at + n ≤ m → take m w ≡ take m v → part at n v ≡ part at n w
-part-below at n m v w h e =
-    rw (part-front at n v, part-front at n w, ← take-take (at + n) m v h, ← take-take (at + n) m w h, e)
 
 pub outside-alike : {s : Shape} {v w : List ℕ} (n : ℕ) → Outside s v w → n < s .n → Alike s v w n
 outside-alike {s} {v} {w} n o h =

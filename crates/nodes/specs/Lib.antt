@@ -1,4 +1,3 @@
-pub mod Lent
 pub mod Nodes
 pub mod Made
 pub mod Alike

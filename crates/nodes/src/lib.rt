@@ -4,9 +4,9 @@ use layout::Shape;
 ghost use mathlib.Core.Path.{_≡_};
 ghost use Prim.Native.Nat.{_+_, _*_, _<_, _≤_};
 ghost use Rattle.layout.specs.Shape.{leaves};
-ghost use Rattle.nodes.specs.Lent.{Lent};
 ghost use Rattle.nodes.specs.Nodes.{nodeIn, leafOf, innerOf};
 ghost use Rattle.nodes.specs.Made.{madeOf, goodNode, storeNode};
+ghost use Rattle.layout.specs.Lent.{Lent};
 
 // "no key, `L`, nugget (4), the 18 record bytes, the nugget's P tags"
 fn leaf(vol: &[u8], s: Shape, n: u32) -> [u8; 32]

@@ -1,4 +1,3 @@
-pub mod Laws
 pub mod PieceLaws
 pub mod TestLaws
 pub mod TouchLaws

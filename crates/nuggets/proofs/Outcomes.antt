@@ -13,7 +13,7 @@ use Rattle.drive.specs.declared.Drive.{Drive}
 use Rattle.nuggets.specs.declared.Nugget.{Nugget}
 use Rattle.nuggets.specs.Nugget.{secretFor, nuggetOf, contentsIn}
 use Rattle.nuggets.specs.Tests.{flakesIn, nuggetRead}
-use Rattle.nuggets.specs.Touched.{touchedOf}
+use Rattle.nuggets.specs.Touched.{touchedOf, fitsIn}
 
 pub secret-for : (d : Drive) (epoch : ℕ) → Unique (λ r. r ≡ secretFor d epoch)
 secret-for d epoch = only (secretFor d epoch)
@@ -38,3 +38,6 @@ piece s v g f b n = only (part b n (contentsIn s v g f))
 
 pub touched : (s : Shape) (o len n : ℕ) → Unique (λ r. r ≡ touchedOf s o len n)
 touched s o len n = only (touchedOf s o len n)
+
+pub fits : (s : Shape) (o len : ℕ) → Unique (λ r. r ≡ fitsIn s o len)
+fits s o len = only (fitsIn s o len)

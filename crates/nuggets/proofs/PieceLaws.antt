@@ -16,7 +16,7 @@ use Rattle.base.proofs.PickLaws.{told}
 use Rattle.base.proofs.PartLaws.{sets-full, length-part, part-part, getD-part}
 use Rattle.words.specs.Word.{add32}
 use Rattle.words.specs.Xor.{xorl}
-use Rattle.words.proofs.XorLaws.{xorl-append, xorl-front, length-xorl}
+use Rattle.words.proofs.XorLaws.{xorl-append, xorl-front, length-xorl, xorl-ext, xorl-part}
 use Rattle.chacha20.specs.ChaCha20.{blockOf, keystream, blocks, encrypted}
 use Rattle.chacha20.proofs.BlockLaws.{length-block}
 use Rattle.chacha20.proofs.KeystreamLaws.{length-keystream, keystream-add, keystream-front, encrypted-by, encrypted-none}
@@ -26,11 +26,10 @@ use Rattle.layout.proofs.Places.{flake-inside}
 use Rattle.records.specs.Journal.{bit}
 use Rattle.keys.specs.Pads.{nonceOf, firstBlock, padOf}
 use Rattle.keys.proofs.PadLaws.{length-under}
-use Rattle.nodes.specs.Lent.{Lent}
 use Rattle.drive.specs.Drive.{zeros}
 use Rattle.nuggets.specs.declared.Nugget.{Nugget}
 use Rattle.nuggets.specs.Nugget.{contentsIn, storedIn}
-use Rattle.nuggets.proofs.Laws.{xorl-ext, xorl-part}
+use Rattle.layout.specs.Lent.{Lent}
 
 module _ (key nonce : List ℕ) (c : ℕ) where
   -- a byte of the keystream is the same in all that reach it

@@ -1,21 +1,23 @@
 -- The flakes that a range touches are those from the first to the last of them.
-use mathlib.Core.Path.{_≡_, sym, _∙_}
+use mathlib.Core.Path.{_≡_, sym, _∙_, ap}
 use mathlib.Core.Bool.{Bool, true, false}
 use Prim.Native.Nat.{ℕ, _+_, _-_, _*_, _/_, _<_, _≤_, max, min}
 use native.Mathlib.Nat.{le-div-iff-mul-le, div-lt-iff-lt-mul}
 use native.Mathlib.Omega.{arith}
-use borrow.Author.Tests.{lt-ltb, le-leb, ltb-true, leb-true}
+use borrow.Author.Tests.{lt-ltb, le-leb, ltb-true, leb-true, lt-leb, leb-false}
 use lib.Dec.{ltb, leb}
 use Rattle.base.specs.Pick.{both}
-use Rattle.base.proofs.PickLaws.{both-left, both-right, both-on}
+use Rattle.base.proofs.PickLaws.{both-left, both-right, both-on, alike, yes, no, told}
 use Rattle.layout.specs.declared.Shape.{Shape}
-use Rattle.layout.specs.Spots.{offsetAt}
+use Rattle.layout.specs.Spots.{offsetAt, capacity}
 use Rattle.layout.proofs.Limits.{Limits}
 use Rattle.records.specs.Journal.{flakesFrom}
 use Rattle.records.proofs.MaskLaws.{bit-with, bit-from}
 use Rattle.records.proofs.BitLaws.{same-bits, bit-empty}
-use Rattle.nuggets.specs.Touched.{meets, touchedOf}
-use Rattle.nuggets.proofs.Laws.{alike}
+use Rattle.nuggets.specs.Touched.{meets, touchedOf, fitsIn}
+use mathlib.Core.Logic.{_⊎_, ⊎-elim}
+use Rattle.drive.specs.declared.Drive.{Drive}
+use Rattle.drive.specs.Drive.{shapeOf}
 
 -- flake f of nugget n holds a byte of the range exactly if it lies between the flakes of the first and the last byte
 module _ (s : Shape) (o len n : ℕ) (l : Limits s) (some : 0 < len) where
@@ -67,3 +69,23 @@ module _ (s : Shape) (o len n : ℕ) (l : Limits s) (some : 0 < len) where
     where
       off : _≡_ {A = Bool} false true → ⊥
       off e = let w : _≡_ {A = ℕ} 0 1 = cc in omega arith
+
+-- the sum compared without being made
+pub fits-is : (s : Shape) (o len size : ℕ) → size ≡ capacity s → len ≤ size → leb o (size - len) ≡ fitsIn s o len
+unfolding fitsIn
+fits-is s o len size e h =
+    ⊎-elim
+    (λ yes. yes ∙ sym (le-leb (o + len) (capacity s) (omega (arith, leb-true o (size - len) yes, e, h))))
+    (λ no. no ∙ sym (lt-leb (o + len) (capacity s) (omega (arith, leb-false o (size - len) no, e, h))))
+    (told (leb o (size - len)))
+
+pub fits-not : (s : Shape) (o len size : ℕ) → size ≡ capacity s → size < len → false ≡ fitsIn s o len
+unfolding fitsIn
+fits-not s o len size e h = sym (lt-leb (o + len) (capacity s) (omega (arith, e, h)))
+
+pub fits-leb : (s : Shape) (o len : ℕ) → fitsIn s o len ≡ true → leb (o + len) (capacity s) ≡ true
+unfolding fitsIn
+fits-leb s o len e = e
+
+pub fits-within : (d : Drive) (o len : ℕ) {s : Shape} → s ≡ shapeOf d → fitsIn s o len ≡ true → o + len ≤ capacity (shapeOf d)
+fits-within d o len es e = leb-true (o + len) (capacity (shapeOf d)) (fits-leb (shapeOf d) o len (ap (λ (x : Shape). fitsIn x o len) (sym es) ∙ e))

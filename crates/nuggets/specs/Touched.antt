@@ -1,9 +1,9 @@
 -- "let T be the flakes touched": those of a nugget that a range of offsets meets.
 use Prim.Native.Nat.{ℕ, _+_, max, min}
 use mathlib.Core.Bool.{Bool}
-use lib.Dec.{ltb}
+use lib.Dec.{ltb, leb}
 use Rattle.layout.specs.declared.Shape.{Shape}
-use Rattle.layout.specs.Spots.{offsetAt}
+use Rattle.layout.specs.Spots.{offsetAt, capacity}
 use Rattle.records.specs.Journal.{flakesWith}
 
 -- flake f of nugget n has a byte of the range: the later of the two starts lies before the earlier of the two ends
@@ -12,3 +12,7 @@ meets s o len n f = ltb (max o (offsetAt s n f 0)) (min (o + len) (offsetAt s n 
 
 unfoldable pub touchedOf : Shape → ℕ → ℕ → ℕ → ℕ
 touchedOf s o len n = flakesWith (s .p) (meets s o len n)
+
+-- 8: "offset, length [..] past the end". "An offset equal to N P F is allowed with length 0 only."
+unfoldable pub fitsIn : Shape → ℕ → ℕ → Bool
+fitsIn s o len = leb (o + len) (capacity s)

@@ -14,11 +14,11 @@ ghost use Rattle.chacha20.specs.ChaCha20.{keystream, blocks};
 ghost use Rattle.layout.specs.Shape.{inLimits};
 ghost use Rattle.layout.specs.Spots.{capacity};
 ghost use Rattle.keys.specs.Pads.{firstBlock, padOf, Size};
-ghost use Rattle.nodes.specs.Lent.{Lent};
 ghost use Rattle.drive.specs.Drive.{shapeOf};
 ghost use Rattle.nuggets.specs.Nugget.{secretFor, nuggetOf, contentsIn};
 ghost use Rattle.nuggets.specs.Tests.{goodFlake, passes, flakesIn, nuggetRead};
-ghost use Rattle.nuggets.specs.Touched.{touchedOf};
+ghost use Rattle.nuggets.specs.Touched.{touchedOf, fitsIn};
+ghost use Rattle.layout.specs.Lent.{Lent};
 
 // What the tests and the contents of one nugget rest on.
 pub struct Nugget {
@@ -190,4 +190,16 @@ pub fn touched(s: Shape, o: usize, len: usize, n: u32) -> u64
     let from = less(o / size, base);
     let to = smaller(last - base, count - 1);
     records::range(from as u32, to as u32)
+}
+
+// 8: "offset, length [..] past the end". The sum isn't made, so nothing rolls over.
+pub fn fits(s: Shape, offset: u64, len: usize) -> bool
+    requires { ⌜ inLimits s ≡ true ⌝ }
+    ensures { λ r. ⌜ r ≡ fitsIn s offset len ⌝ }
+{
+    let size = layout::capacity_of(s);
+    if size < len {
+        return false;
+    }
+    offset <= (size - len) as u64
 }

@@ -17,14 +17,14 @@ use Rattle.layout.specs.Shape.{inLimits}
 use Rattle.layout.specs.Parts.{lengthOf, recordAt}
 use Rattle.layout.proofs.Places.{record-inside, parts-inside}
 use Rattle.records.specs.Record.{recordBytes}
-use Rattle.nodes.specs.Lent.{Lent}
 use Rattle.tree.proofs.BuildLaws.{built-outside}
 use Rattle.drive.specs.declared.Drive.{Drive}
 use Rattle.drive.specs.declared.Done.{Done}
-use Rattle.drive.specs.Drive.{zeros, blankDrive}
+use Rattle.drive.specs.Drive.{zeros, blankDrive, counterTop}
 use Rattle.drive.specs.Head.{headOf}
-use Rattle.opening.specs.Format.{counterTop, formatAnswer, freshRecord, freshFrom, bare, planted, freshDrive, freshVolume, formatDone, formatVolume}
-use Rattle.opening.proofs.Laws.{passed, missed}
+use Rattle.opening.specs.Format.{formatAnswer, freshRecord, freshFrom, bare, planted, freshDrive, freshVolume, formatDone, formatVolume}
+use Rattle.answers.proofs.StageLaws.{passed, missed}
+use Rattle.layout.specs.Lent.{Lent}
 
 -- the loop that lays the records: its start, its turn and its end
 pub fresh-none : (v : List ℕ) (count : ℕ) → freshFrom (count - 0) 0 v ≡ freshFrom count 0 v

@@ -23,7 +23,6 @@ use Rattle.layout.specs.Parts.{recordAt, tagAt, nodeAt, lengthOf}
 use Rattle.layout.proofs.Places.{record-inside, parts-inside}
 use Rattle.records.specs.Record.{recordBytes, recordIn, wellFormed, Widths}
 use Rattle.records.proofs.RecordLaws.{read-stored}
-use Rattle.nodes.specs.Lent.{Lent}
 use Rattle.nodes.specs.Nodes.{nodeIn}
 use Rattle.nodes.specs.Alike.{Alike}
 use Rattle.nodes.proofs.Bounds.{node-above}
@@ -34,13 +33,14 @@ use Rattle.tree.specs.Whole.{wholeOf}
 use Rattle.tree.specs.Good.{AllGood}
 use Rattle.tree.proofs.BuildLaws.{built-outside, built-good}
 use Rattle.tree.proofs.WholeLaws.{good-whole}
-use Rattle.drive.specs.Drive.{zeros}
+use Rattle.drive.specs.Drive.{zeros, counterTop}
 use Rattle.drive.specs.Head.{headOf}
 use Rattle.drive.specs.Opening.{inForm, headStands, openingOf}
-use Rattle.opening.specs.Format.{counterTop, formatAnswer, freshRecord, freshFrom, bare, planted, freshDrive, freshVolume, formatVolume}
+use Rattle.opening.specs.Format.{formatAnswer, freshRecord, freshFrom, bare, planted, freshDrive, freshVolume, formatVolume}
 use Rattle.opening.specs.Mount.{wholeIn, mountDone}
 use Rattle.opening.proofs.FormatLaws.{format-lent, length-bare, length-planted}
 use Rattle.opening.proofs.Reopens.{Handed, length-head, mounts-back}
+use Rattle.layout.specs.Lent.{Lent}
 
 -- the 18 bytes decide the record
 record-alike : (at : ℕ) (v w : List ℕ) → part at 18 v ≡ part at 18 w → recordIn at v ≡ recordIn at w

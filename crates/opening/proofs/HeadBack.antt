@@ -21,7 +21,7 @@ use Rattle.drive.specs.declared.Drive.{Drive}
 use Rattle.drive.specs.Head.{mark, version, stateByte, numbersOf, checkIn, frontIn, headOf}
 use Rattle.drive.specs.Opening.{inForm, headStands, openingOf}
 use Rattle.opening.specs.Mount.{shapeIn, stateByteIn, stateIn, epochIn, saltIn, counterIn, marked, headFits, lengthFits, sealed, checked, wholeIn, openedDrive, mountAnswer}
-use Rattle.opening.proofs.Laws.{granted}
+use Rattle.answers.proofs.StageLaws.{granted}
 
 -- what the tests of an accepted mount tell
 pub record Opened (v : List ℕ) (d : Drive) (outside : ℕ) : Type 0 where

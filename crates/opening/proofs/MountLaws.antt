@@ -13,13 +13,14 @@ use Rattle.answers.specs.declared.Answer.the-variants as A
 use Rattle.answers.specs.Numbers.{accepts}
 use Rattle.layout.specs.Shape.{inLimits}
 use Rattle.layout.specs.Parts.{lengthOf}
-use Rattle.nodes.specs.Lent.{Lent}
 use Rattle.drive.specs.declared.Drive.{Drive}
 use Rattle.drive.specs.declared.Done.{Done}
 use Rattle.drive.specs.Drive.{blankDrive}
 use Rattle.opening.specs.Mount.{shapeIn, marked, headFits, lengthFits, sealed, checked, wholeIn, openedDrive, mountAnswer, mountDone}
-use Rattle.opening.specs.Stages.{andThen, formOf, keysOf, restOf}
-use Rattle.opening.proofs.Laws.{goes-on, past, passed}
+use Rattle.opening.specs.Stages.{formOf, keysOf, restOf}
+use Rattle.answers.specs.Stages.{andThen}
+use Rattle.answers.proofs.StageLaws.{goes-on, past, passed}
+use Rattle.layout.specs.Lent.{Lent}
 
 -- 4, 5, 6, and what follows
 rest-picks : (d : Drive) (v : List ℕ) (outside : ℕ) → restOf d v outside

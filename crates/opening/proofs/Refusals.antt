@@ -14,9 +14,9 @@ use Rattle.drive.specs.Drive.{blankDrive}
 use Rattle.drive.specs.Head.{headOf}
 use Rattle.opening.specs.Format.{formatAnswer, planted, freshDrive, freshVolume, formatDone, formatVolume}
 use Rattle.opening.specs.Mount.{mountAnswer, mountDone}
-use Rattle.opening.proofs.Laws.{refuses}
 use Rattle.opening.proofs.FormatLaws.{format-lent, format-off, length-planted}
 use Rattle.opening.proofs.MountLaws.{mount-off}
+use Rattle.answers.proofs.StageLaws.{refuses}
 
 module _ (s : Shape) (salt secret : List ℕ) (outside : ℕ) (v : List ℕ) where
   pub format-refused : (formatAnswer s outside v ≡ A.Accepted → ⊥)

@@ -26,12 +26,12 @@ use Rattle.keys.specs.Keys.{checkOf, sealOf}
 use Rattle.drive.specs.declared.Drive.{Drive}
 use Rattle.drive.specs.declared.State.{State}
 use Rattle.drive.specs.declared.State.the-variants.{Steady, Changing}
-use Rattle.drive.specs.Drive.{shapeOf}
+use Rattle.drive.specs.Drive.{shapeOf, keptOld}
 use Rattle.drive.specs.Head.{mark, version, stateByte, numbersOf, checkFor, checkIn, frontIn, headOf}
 use Rattle.drive.specs.Opening.{epochFits, inForm, headStands, openingOf}
-use Rattle.opening.specs.Mount.{shapeIn, stateByteIn, stateIn, epochIn, keptOld, marked, headFits, lengthFits, sealed, checked, wholeIn, openedDrive, mountAnswer, mountDone}
-use Rattle.opening.proofs.Laws.{granted}
+use Rattle.opening.specs.Mount.{shapeIn, stateByteIn, stateIn, epochIn, marked, headFits, lengthFits, sealed, checked, wholeIn, openedDrive, mountAnswer, mountDone}
 use Rattle.opening.proofs.MountLaws.{mount-on}
+use Rattle.answers.proofs.StageLaws.{granted}
 
 -- lengths of the head's pieces
 pub length-numbers : (n p f state epoch : ℕ) → length (numbersOf n p f state epoch) ≡ 16

@@ -1,6 +1,6 @@
 -- Document 01: "Format takes N, P, F, salt, secret and the outside counter. Everything is zero but the head and tree;
 -- epochs are 1; the counter is the outside value plus 1." "Format: 1, 2, 13."
-use Prim.Native.Nat.{ℕ, zero, suc, _+_, _-_, _^_}
+use Prim.Native.Nat.{ℕ, zero, suc, _+_}
 use mathlib.Core.List.{List}
 use lib.Dec.{eqb}
 use lib.ListN.{length}
@@ -19,12 +19,8 @@ use Rattle.tree.specs.Renewed.{built}
 use Rattle.drive.specs.declared.Drive.{Drive}
 use Rattle.drive.specs.declared.Done.{Done}
 use Rattle.drive.specs.declared.State.the-variants.{Steady}
-use Rattle.drive.specs.Drive.{zeros, blankDrive}
+use Rattle.drive.specs.Drive.{zeros, blankDrive, counterTop}
 use Rattle.drive.specs.Head.{headOf}
-
--- "Keycount and counter: 0 to 2^64 - 1."
-abbrev pub counterTop : ℕ
-counterTop = 2 ^ 64 - 1
 
 -- 1: N, P, F; 2: the length; 13: "counter at its top"
 unfoldable pub formatAnswer : Shape → ℕ → List ℕ → Answer

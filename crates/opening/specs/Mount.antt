@@ -21,7 +21,7 @@ use Rattle.drive.specs.declared.Drive.{Drive}
 use Rattle.drive.specs.declared.Done.{Done}
 use Rattle.drive.specs.declared.State.{State}
 use Rattle.drive.specs.declared.State.the-variants.{Steady, Changing}
-use Rattle.drive.specs.Drive.{shapeOf, isChanging, zeros, blankDrive}
+use Rattle.drive.specs.Drive.{shapeOf, isChanging, blankDrive, keptOld}
 use Rattle.drive.specs.Head.{mark, version, checkIn}
 use Rattle.drive.specs.Opening.{epochFits}
 
@@ -57,11 +57,6 @@ sealBytes v = part 72 32 v
 -- "changing carries the epoch being left", "one below the drive's"
 abbrev pub stateIn : List ℕ → State
 stateIn v = pick (eqb (stateByteIn v) 0) Steady (Changing (epochIn v - 1))
-
--- "an accepted change or mount leaves zeros there": the old secret that a state keeps
-abbrev pub keptOld : State → List ℕ → List ℕ
-keptOld Steady old = zeros 32
-keptOld (Changing left) old = old
 
 -- the drive that the head's bytes, node 1 and the brought secrets make
 unfoldable pub openedDrive : List ℕ → List ℕ → List ℕ → Drive

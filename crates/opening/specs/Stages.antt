@@ -6,13 +6,9 @@ use lib.ListN.{length}
 use Rattle.base.specs.Pick.{pick}
 use Rattle.answers.specs.declared.Answer.{Answer}
 use Rattle.answers.specs.declared.Answer.the-variants as A
-use Rattle.answers.specs.Numbers.{accepts}
 use Rattle.drive.specs.declared.Drive.{Drive}
 use Rattle.opening.specs.Mount.{marked, headFits, lengthFits, sealed, checked, wholeIn}
-
--- a stage that accepts goes on to the next
-unfoldable pub andThen : Answer → Answer → Answer
-andThen a next = pick (accepts a) next a
+use Rattle.answers.specs.Stages.{andThen}
 
 -- 2 (under 104 bytes), 3, 1, 2
 unfoldable pub formOf : List ℕ → Answer

@@ -13,12 +13,12 @@ ghost use Prim.Native.Nat.{_+_, _<_, _≤_};
 ghost use lib.ListN.{length};
 ghost use Rattle.base.specs.Lists.{part};
 ghost use Rattle.layout.specs.Shape.{shape};
-ghost use Rattle.nodes.specs.Lent.{Lent};
 ghost use Rattle.nodes.specs.Nodes.{nodeIn};
-ghost use Rattle.drive.specs.Drive.{shapeOf};
-ghost use Rattle.opening.specs.Format.{counterTop, formatAnswer, bare, planted, freshDrive, formatDone, formatVolume};
-ghost use Rattle.opening.specs.Mount.{sealed, checked, shapeIn, keptOld, openedDrive, mountDone};
+ghost use Rattle.drive.specs.Drive.{shapeOf, counterTop, keptOld};
+ghost use Rattle.opening.specs.Format.{formatAnswer, bare, planted, freshDrive, formatDone, formatVolume};
+ghost use Rattle.opening.specs.Mount.{sealed, checked, shapeIn, openedDrive, mountDone};
 ghost use Rattle.opening.specs.Stages.{keysOf, restOf};
+ghost use Rattle.layout.specs.Lent.{Lent};
 
 // The 16 bytes at `at`.
 fn sixteen(vol: &[u8], at: usize) -> [u8; 16]

@@ -1,13 +1,11 @@
 -- Pieces of an image stored one behind the other, and a part copied out.
-use mathlib.Core.Path.{_≡_, refl, sym, _∙_}
+use mathlib.Core.Path.{_≡_, sym, _∙_}
 use mathlib.Core.List.{List, _++_}
-use Prim.Native.Nat.{ℕ, _+_, _-_, _≤_}
-use native.Mathlib.Nat.{add-sub-cancel-left}
+use Prim.Native.Nat.{ℕ, _+_, _-_}
 use native.Mathlib.Omega.{arith}
-use lib.ListN.{length, length-append, take, drop}
+use lib.ListN.{length, length-append}
 use lib.Seq.{sets}
-use Rattle.base.specs.Lists.{part}
-use Rattle.base.proofs.PartLaws.{sets-append, sets-full, length-part}
+use Rattle.base.proofs.PartLaws.{sets-append, sets-full}
 
 -- three pieces over all of z
 pub three-pieces : (z a b c : List ℕ) → length a ≡ 24 → length b ≡ 16 → length c ≡ 8 → length z ≡ 48
@@ -24,7 +22,3 @@ four-pieces z a b c d ha hb hc hd hz =
     ∙ sets-append (sets z 0 a) 48 b (c ++ d) 80 (omega arith)
     ∙ sets-append (sets (sets z 0 a) 48 b) 80 c d 112 (omega arith))
     ∙ sets-full z (a ++ (b ++ (c ++ d))) (simp length-append (omega arith))
-
--- n bytes from a place on, copied over all of z
-pub copied : (z v : List ℕ) (at n : ℕ) → length z ≡ n → at + n ≤ length v → sets z 0 (take (at + n - at) (drop at v)) ≡ part at n v
-copied z v at n e h = rw (add-sub-cancel-left at n) (sets-full z (part at n v) (length-part at n v h ∙ sym e))

@@ -11,9 +11,9 @@ use lib.Seq.{sets, drop-cons, set-at}
 use Rattle.base.proofs.PartLaws.{sets-front}
 use Rattle.words.specs.Le.{num}
 use Rattle.limbs.specs.Limbs.{quad, p}
-use Rattle.limbs.proofs.Quads.{num-append}
 use Rattle.poly1305.specs.Poly1305.{clamp}
 use Rattle.poly1305.specs.State.{zeros}
+use Rattle.words.proofs.LeLaws.{num-append}
 
 -- masks act word by word
 and-up : (w v y z : ℕ) → w < 2 ^ 32 → v < 2 ^ 32 → bitAnd (w + 2 ^ 32 * y) (v + 2 ^ 32 * z) ≡ bitAnd w v + 2 ^ 32 * bitAnd y z

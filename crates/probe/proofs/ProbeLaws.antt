@@ -16,8 +16,8 @@ use Rattle.answers.specs.Numbers.{accepts}
 use Rattle.layout.specs.declared.Shape.{Shape}
 use Rattle.layout.specs.Shape.{inLimits}
 use Rattle.layout.specs.Parts.{lengthOf}
-use Rattle.nodes.specs.Lent.{Lent}
 use Rattle.probe.specs.Probes.{lentAnswer, renewAnswer}
+use Rattle.layout.specs.Lent.{Lent}
 
 never : {A : Type 0} → _≡_ {A = Bool} false true → A
 never e = absurd (let z : _≡_ {A = ℕ} 0 1 = cc in omega arith)

@@ -6,50 +6,27 @@ use mathlib.Core.List.{List}
 use Prim.Native.Nat.{ℕ, zero, suc, _+_, _-_, _<_, _≤_}
 use native.Mathlib.Numerals.{add-one}
 use native.Mathlib.Omega.{arith}
-use borrow.Author.Tests.{le-leb, lt-leb, leb-true, leb-false, eqb-true}
-use lib.Dec.{leb, eqb}
 use lib.ListN.{length}
 use Rattle.base.specs.Pick.{pick}
 use Rattle.base.specs.Lists.{tab}
-use Rattle.base.proofs.PickLaws.{yes, no, told}
+use Rattle.base.proofs.PickLaws.{yes, no, told, clash}
 use Rattle.layout.specs.declared.Shape.{Shape}
 use Rattle.layout.specs.declared.Spot.{Spot}
 use Rattle.layout.specs.Shape.{inLimits}
-use Rattle.layout.specs.Parts.{lengthOf}
 use Rattle.layout.specs.Spots.{spotAt, nowhere, capacity}
 use Rattle.answers.specs.declared.Answer.{Answer}
 use Rattle.answers.specs.declared.Answer.the-variants as A
 use Rattle.answers.specs.Numbers.{accepts}
-use Rattle.nodes.specs.Lent.{Lent}
-use Rattle.tree.proofs.Laws.{clash}
 use Rattle.drive.specs.declared.Drive.{Drive}
 use Rattle.drive.specs.Drive.{shapeOf}
-use Rattle.drive.specs.Opening.{inForm, openingOf}
-use Rattle.drive.proofs.HeadLaws.{form-limits}
+use Rattle.drive.specs.Opening.{openingOf}
 use Rattle.nuggets.specs.Nugget.{byteOf}
 use Rattle.nuggets.specs.Tests.{nuggetRead}
-use Rattle.nuggets.specs.Touched.{touchedOf}
-use Rattle.reading.specs.Read.{fitsIn, nuggetsUp, nuggetsIn, nuggetsOf, readAnswer, readBuffer, bufferAt}
-
--- the sum compared without being made
-pub fits-is : (s : Shape) (o len size : ℕ) → size ≡ capacity s → len ≤ size → leb o (size - len) ≡ fitsIn s o len
-unfolding fitsIn
-fits-is s o len size e h =
-    ⊎-elim
-    (λ yes. yes ∙ sym (le-leb (o + len) (capacity s) (omega (arith, leb-true o (size - len) yes, e, h))))
-    (λ no. no ∙ sym (lt-leb (o + len) (capacity s) (omega (arith, leb-false o (size - len) no, e, h))))
-    (told (leb o (size - len)))
-
-pub fits-not : (s : Shape) (o len size : ℕ) → size ≡ capacity s → size < len → false ≡ fitsIn s o len
-unfolding fitsIn
-fits-not s o len size e h = sym (lt-leb (o + len) (capacity s) (omega (arith, e, h)))
-
-fits-leb : (s : Shape) (o len : ℕ) → fitsIn s o len ≡ true → leb (o + len) (capacity s) ≡ true
-unfolding fitsIn
-fits-leb s o len e = e
-
-pub fits-within : (d : Drive) (o len : ℕ) {s : Shape} → s ≡ shapeOf d → fitsIn s o len ≡ true → o + len ≤ capacity (shapeOf d)
-fits-within d o len es e = leb-true (o + len) (capacity (shapeOf d)) (fits-leb (shapeOf d) o len (ap (λ (x : Shape). fitsIn x o len) (sym es) ∙ e))
+use Rattle.nuggets.specs.Touched.{touchedOf, fitsIn}
+use Rattle.reading.specs.Read.{nuggetsUp, nuggetsIn, nuggetsOf, readAnswer, readBuffer, bufferAt}
+use Rattle.layout.specs.Lent.{Lent}
+use Rattle.drive.proofs.OpeningLaws.{opening-lent}
+use Rattle.nuggets.proofs.TouchLaws.{fits-within}
 
 -- the spot of an offset, in a shape within limits
 pub spot-is : (d : Drive) (o : ℕ) {s : Shape} {t : Spot} → t ≡ pick (inLimits s) (spotAt s o) nowhere → s ≡ shapeOf d → inLimits (shapeOf d) ≡ true → t ≡ spotAt (shapeOf d) o
@@ -102,18 +79,6 @@ module _ (d : Drive) (v : List ℕ) (o len : ℕ) where
   pub answer-opening : accepts (openingOf d v) ≡ false → openingOf d v ≡ readAnswer d v o len
   unfolding readAnswer
   answer-opening h = sym (no _ h refl)
-
--- a drive whose opening is accepted is in limits, and its volume is as long as its shape asks
-pub opening-lent : (d : Drive) (v : List ℕ) → accepts (openingOf d v) ≡ true → Lent (shapeOf d) v
-unfolding openingOf
-opening-lent d v e =
-    ⊎-elim
-    (λ form.
-    ⊎-elim (λ long. record { limited = form-limits d form; size = eqb-true (length v) (lengthOf (shapeOf d)) long })
-    (λ other. absurd (clash e (ap accepts (yes {r = A.Length} A.Limits form (no _ other refl)))))
-    (told (eqb (length v) (lengthOf (shapeOf d)))))
-    (λ bad. absurd (clash e (ap accepts (no {r = A.Limits} _ bad refl))))
-    (told (inForm d))
 
 -- what an accepted read says
 pub read-lent : (d : Drive) (v : List ℕ) (o len : ℕ) → accepts (readAnswer d v o len) ≡ true → Lent (shapeOf d) v × (o + len ≤ capacity (shapeOf d))

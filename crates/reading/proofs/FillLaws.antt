@@ -8,19 +8,18 @@ use borrow.Rule.Slice.PartMut.{putMid, post-is}
 use lib.Arith.{digits-div, digits-mod}
 use lib.ListN.{getD, take, drop}
 use Rattle.base.specs.Lists.{part, tab}
-use Rattle.base.proofs.TabLaws.{tab-ext, tab-part}
+use Rattle.base.proofs.TabLaws.{tab-ext, tab-part, part-tab}
 use Rattle.layout.specs.declared.Shape.{Shape}
 use Rattle.layout.specs.declared.Spot.{Spot}
 use Rattle.layout.specs.Spots.{offsetAt}
 use Rattle.layout.proofs.Places.{spot-offset}
-use Rattle.nodes.specs.Lent.{Lent}
 use Rattle.drive.specs.declared.Drive.{Drive}
 use Rattle.drive.specs.Drive.{shapeOf}
 use Rattle.nuggets.specs.declared.Nugget.{Nugget}
 use Rattle.nuggets.specs.Nugget.{nuggetOf, contentsIn, contentsOf, byteOf}
-use Rattle.nuggets.proofs.Laws.{part-tab}
 use Rattle.nuggets.proofs.PieceLaws.{length-contents}
 use Rattle.reading.specs.Read.{byteIn}
+use Rattle.layout.specs.Lent.{Lent}
 
 -- n more entries, laid from place m on
 pub chunk : (f : ℕ → ℕ) (d : List ℕ) (m n : ℕ) {r z : List ℕ} → r ≡ tab m f ++ drop m d → z ≡ tab n (λ j. f (m + j))

@@ -9,8 +9,9 @@ use Rattle.answers.specs.declared.Answer.the-variants as A
 use Rattle.drive.specs.declared.Drive.{Drive}
 use Rattle.drive.specs.Drive.{shapeOf}
 use Rattle.drive.specs.Opening.{openingOf}
-use Rattle.reading.specs.Read.{fitsIn, readAnswer, readBuffer}
+use Rattle.reading.specs.Read.{readAnswer, readBuffer}
 use Rattle.reading.proofs.AnswerLaws.{met, left-alone, answer-tests, nuggets-none}
+use Rattle.nuggets.specs.Touched.{fitsIn}
 
 pub read-refused : (d : Drive) (v : List ℕ) (o : ℕ) (buffer : List ℕ) → accepts (readAnswer d v o (length buffer)) ≡ false → readBuffer d v o buffer ≡ buffer
 read-refused d v o buffer h = sym (left-alone d v o buffer (readAnswer d v o (length buffer)) h ∙ met d v o buffer refl)

@@ -1,13 +1,11 @@
 -- Document 01, "Read fills the buffer. Absent flakes give zeros." All others start 1, 2, 7 head; "Then read: 8, nuggets."
 use Prim.Native.Nat.{ℕ, zero, suc, _+_, _-_, _/_, _%_}
-use mathlib.Core.Bool.{Bool}
 use mathlib.Core.List.{List}
-use lib.Dec.{leb}
 use lib.ListN.{length, getD}
 use Rattle.base.specs.Pick.{pick}
 use Rattle.base.specs.Lists.{tab}
 use Rattle.layout.specs.declared.Shape.{Shape}
-use Rattle.layout.specs.Spots.{spotAt, capacity}
+use Rattle.layout.specs.Spots.{spotAt}
 use Rattle.answers.specs.declared.Answer.{Answer}
 use Rattle.answers.specs.declared.Answer.the-variants as A
 use Rattle.answers.specs.Numbers.{accepts}
@@ -17,11 +15,7 @@ use Rattle.drive.specs.Opening.{openingOf}
 use Rattle.nuggets.specs.declared.Nugget.{Nugget}
 use Rattle.nuggets.specs.Nugget.{contentsIn, byteOf}
 use Rattle.nuggets.specs.Tests.{nuggetRead}
-use Rattle.nuggets.specs.Touched.{touchedOf}
-
--- 8: "offset, length [..] past the end". "An offset equal to N P F is allowed with length 0 only."
-unfoldable pub fitsIn : Shape → ℕ → ℕ → Bool
-fitsIn s o len = leb (o + len) (capacity s)
+use Rattle.nuggets.specs.Touched.{touchedOf, fitsIn}
 
 -- "ascending, each: path; [..] flakes": the k nuggets from n on
 unfoldable pub nuggetsUp : Drive → List ℕ → ℕ → ℕ → ℕ → ℕ → Answer

@@ -11,22 +11,10 @@ ghost use lib.ListN.{length};
 ghost use Rattle.base.specs.Lists.{tab};
 ghost use Rattle.layout.specs.Shape.{inLimits};
 ghost use Rattle.layout.specs.Spots.{capacity};
-ghost use Rattle.nodes.specs.Lent.{Lent};
 ghost use Rattle.drive.specs.Drive.{shapeOf};
 ghost use Rattle.nuggets.specs.Nugget.{byteOf};
-ghost use Rattle.reading.specs.Read.{fitsIn, nuggetsUp, nuggetsOf, readAnswer, readBuffer, byteIn};
-
-// 8: "offset, length [..] past the end". The sum isn't made, so nothing rolls over.
-fn fits(s: Shape, offset: u64, len: usize) -> bool
-    requires { ⌜ inLimits s ≡ true ⌝ }
-    ensures { λ r. ⌜ r ≡ fitsIn s offset len ⌝ }
-{
-    let size = layout::capacity_of(s);
-    if size < len {
-        return false;
-    }
-    offset <= (size - len) as u64
-}
+ghost use Rattle.reading.specs.Read.{nuggetsUp, nuggetsOf, readAnswer, readBuffer, byteIn};
+ghost use Rattle.layout.specs.Lent.{Lent};
 
 // "ascending, each: path; [..] flakes": the nuggets from the first up to the end.
 fn test_span(d: Drive, vol: &[u8], o: usize, len: usize, first: u32, end: u32) -> Answer
@@ -73,7 +61,7 @@ fn admit(d: Drive, vol: &[u8], offset: u64, len: usize) -> Answer
 {
     let a = drive::opening(d, vol);
     if answers::accepted(a) {
-        if fits(drive::shape_of(d), offset, len) {
+        if nuggets::fits(drive::shape_of(d), offset, len) {
             return test_nuggets(d, vol, offset as usize, len);
         }
         return Answer::PastEnd;

@@ -26,3 +26,8 @@ padsOf n k s g (suc p) = padsOf n k s g p ++ pick (g p) (entry n k p s ∷ []) [
 -- what a way lists: the flakes it enciphers, under the keycount after it
 unfoldable pub padsBy : ℕ → Way → ℕ → Record → List ℕ → List Entry
 padsBy p way n r s = padsOf n (keycountAfter way r) s (bit (enciphered way r)) p
+
+-- the encipherings of a call: of the nuggets below n, ascending, each in its way
+unfoldable pub padsTo : ℕ → (ℕ → Way) → (ℕ → Record) → List ℕ → ℕ → List Entry
+padsTo p way records s zero = []
+padsTo p way records s (suc n) = padsTo p way records s n ++ padsBy p (way n) n (records n) s

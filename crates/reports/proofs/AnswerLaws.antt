@@ -10,42 +10,24 @@ use lib.ListN.{length, take, drop}
 use borrow.Author.Tests.{eqb-true, ltb-true}
 use Rattle.base.specs.Pick.{pick}
 use Rattle.base.specs.Lists.{part}
-use Rattle.base.proofs.PickLaws.{yes, no, told, both-left, both-right}
+use Rattle.base.proofs.PickLaws.{yes, no, told, both-left, both-right, clash}
 use Rattle.layout.specs.Parts.{lengthOf}
 use Rattle.answers.specs.declared.Answer.{Answer}
 use Rattle.answers.specs.declared.Answer.the-variants as A
 use Rattle.answers.specs.Numbers.{accepts}
 use Rattle.records.specs.Record.{wellFormed}
-use Rattle.nodes.specs.Lent.{Lent}
 use Rattle.tree.specs.Whole.{wholeOf}
-use Rattle.tree.proofs.Laws.{clash}
 use Rattle.tree.proofs.WholeLaws.{whole-formed}
 use Rattle.drive.specs.declared.Drive.{Drive}
 use Rattle.drive.specs.Drive.{shapeOf, isChanging}
 use Rattle.drive.specs.Opening.{inForm, openingOf}
 use Rattle.drive.proofs.HeadLaws.{form-limits}
+use Rattle.drive.proofs.OpeningLaws.{opening-lent}
 use Rattle.reports.specs.Counts.{recordOf}
 use Rattle.reports.specs.Report.{reportAnswer}
 use Rattle.reports.specs.Stored.{isFlake, storedAnswer}
-
--- 0 is acceptance's number alone
-pub accepted-is : (a : Answer) → accepts a ≡ true → a ≡ A.Accepted
-accepted-is A.Accepted e = refl
-accepted-is A.Limits e = absurd (clash e refl)
-accepted-is A.Length e = absurd (clash e refl)
-accepted-is A.Mark e = absurd (clash e refl)
-accepted-is A.Seal e = absurd (clash e refl)
-accepted-is A.OldSecret e = absurd (clash e refl)
-accepted-is A.Counter e = absurd (clash e refl)
-accepted-is (A.Altered p) e = absurd (clash e refl)
-accepted-is A.PastEnd e = absurd (clash e refl)
-accepted-is A.State e = absurd (clash e refl)
-accepted-is A.SameSecret e = absurd (clash e refl)
-accepted-is (A.Left k) e = absurd (clash e refl)
-accepted-is A.Moved e = absurd (clash e refl)
-accepted-is A.CounterTop e = absurd (clash e refl)
-accepted-is A.KeycountTop e = absurd (clash e refl)
-accepted-is A.EpochTop e = absurd (clash e refl)
+use Rattle.answers.proofs.StageLaws.{accepted-is}
+use Rattle.layout.specs.Lent.{Lent}
 
 -- two stages are accepted only if each is
 pub both-stages : (a b : Answer) → accepts (pick (accepts a) b a) ≡ true → (accepts a ≡ true) × (accepts b ≡ true)
@@ -65,10 +47,6 @@ lent-if d v x h = go (told (inForm d)) (told (eqb (length v) (lengthOf (shapeOf 
     go (inl f) (inl e) = (record { limited = form-limits d f; size = eqb-true (length v) (lengthOf (shapeOf d)) e }, rw (f, e) at h)
     go (inl f) (inr e) = absurd (clash (rw (f, e) at h) refl)
     go (inr f) e = absurd (clash (rw f at h) refl)
-
-pub opening-lent : (d : Drive) (v : List ℕ) → accepts (openingOf d v) ≡ true → Lent (shapeOf d) v
-unfolding openingOf
-opening-lent d v h = lent-if d v _ h .0
 
 -- an accepted report
 pub record Told (d : Drive) (v : List ℕ) : Type 0 where

@@ -11,12 +11,12 @@ use Rattle.base.proofs.PickLaws.{told}
 use Rattle.layout.specs.Shape.{leaves}
 use Rattle.layout.specs.declared.Shape.{Shape}
 use Rattle.layout.proofs.Height.{leaves-some}
-use Rattle.nodes.specs.Lent.{Lent}
 use Rattle.nodes.specs.Alike.{Outside}
 use Rattle.nodes.specs.Made.{Good, storeNode}
 use Rattle.nodes.proofs.StoreLaws.{outside-refl, outside-trans, outside-lent, store-outside, store-other, store-good, made-outside}
 use Rattle.tree.specs.Renewed.{storedDown, built}
 use Rattle.tree.specs.Good.{AllGood}
+use Rattle.layout.specs.Lent.{Lent}
 
 down-outside : (s : Shape) (k : ℕ) (v : List ℕ) → k < 2 * leaves (s .n) → Outside s v (storedDown s k v)
 unfolding storedDown

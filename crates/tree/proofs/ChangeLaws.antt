@@ -8,19 +8,19 @@ use native.Mathlib.Omega.{arith}
 use lib.Dec.{ltb}
 use borrow.Author.Tests.{ltb-true, ltb-false}
 use Rattle.base.specs.Lists.{part}
-use Rattle.base.proofs.PickLaws.{told}
+use Rattle.base.proofs.PickLaws.{told, clash}
 use Rattle.layout.specs.Shape.{leaves}
 use Rattle.layout.specs.Parts.{recordAt, tagAt, nodeAt}
 use Rattle.layout.specs.declared.Shape.{Shape}
 use Rattle.layout.proofs.Places.{apart, record-inside}
-use Rattle.nodes.specs.Lent.{Lent}
 use Rattle.nodes.specs.Alike.{Alike}
 use Rattle.nodes.proofs.Bounds.{tags-inside, node-below, node-above}
 use Rattle.nodes.proofs.MadeLaws.{made-alike}
 use Rattle.tree.specs.Good.{AllGood, GoodBut, Beside, Agrees}
-use Rattle.tree.proofs.Laws.{clash, part-equal}
 use Rattle.tree.proofs.UpwardLaws.{path-leaf}
 use Rattle.tree.proofs.RenewLaws.{all-but, but-more}
+use Rattle.base.proofs.PartLaws.{part-equal}
+use Rattle.layout.specs.Lent.{Lent}
 
 -- the nuggets of E join those left to renew
 pub changed-but : (s : Shape) (v w : List ℕ) (D E : ℕ → Type 0) → Beside s E v w → GoodBut s D v → GoodBut s (λ m. D m ⊎ E m) w

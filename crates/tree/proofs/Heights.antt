@@ -7,9 +7,8 @@ use lib.Pow.{pow-pos}
 use lib.Dec.{lit≤}
 use Rattle.layout.specs.Shape.{heightOf, leaves}
 use Rattle.layout.specs.declared.Shape.{Shape}
-use Rattle.layout.proofs.Limits.{Limits}
+use Rattle.layout.proofs.Limits.{Limits, Small}
 use Rattle.layout.proofs.Height.{height-least}
-use Rattle.nodes.proofs.Bounds.{Small}
 use Rattle.tree.specs.Path.{Rises}
 use Rattle.tree.specs.Whole.{Stands}
 

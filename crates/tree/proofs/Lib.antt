@@ -1,4 +1,3 @@
-pub mod Laws
 pub mod Heights
 pub mod Steps
 pub mod UpwardLaws

@@ -8,7 +8,7 @@ use native.Mathlib.Omega.{arith}
 use lib.Dec.{eqb}
 use borrow.Author.Tests.{eqb-true}
 use Rattle.base.specs.Pick.{pick}
-use Rattle.base.proofs.PickLaws.{yes, both-left, both-right, both-on}
+use Rattle.base.proofs.PickLaws.{yes, both-left, both-right, both-on, clash, either-told}
 use Rattle.layout.specs.Shape.{heightOf, leaves}
 use Rattle.layout.specs.declared.Shape.{Shape}
 use Rattle.answers.specs.declared.Answer.{Answer}
@@ -18,14 +18,13 @@ use Rattle.answers.specs.declared.Place.the-variants as P
 use Rattle.answers.specs.Numbers.{numberOf}
 use Rattle.nodes.specs.Nodes.{nodeIn, leafOf, innerOf}
 use Rattle.nodes.specs.Made.{goodNode}
-use Rattle.nodes.specs.Lent.{Lent}
-use Rattle.nodes.proofs.Bounds.{lent-small}
 use Rattle.nodes.proofs.MadeLaws.{made-leaf, made-inner, good-true, true-good}
 use Rattle.tree.specs.Path.{formed, goodRecord, climbed, pathOf, Rises}
 use Rattle.tree.specs.Good.{AllGood, upward}
 use Rattle.tree.proofs.Heights.{rises-some, rises-half, rises-leaf}
-use Rattle.tree.proofs.Laws.{clash, either-told}
 use Rattle.tree.proofs.UpwardLaws.{upward-le}
+use Rattle.layout.specs.Lent.{Lent}
+use Rattle.layout.proofs.Limits.{lent-small}
 
 -- an altered place is no acceptance
 pub altered : (p : Place) → A.Altered p ≡ A.Accepted → ⊥

@@ -7,21 +7,20 @@ use Prim.Native.Nat.{ℕ, zero, suc, _+_, _*_, _/_, _<_, _≤_}
 use native.Mathlib.Omega.{arith}
 use lib.Dec.{eqb}
 use borrow.Author.Tests.{eqb-true, eqb-false}
-use Rattle.base.proofs.PickLaws.{told}
+use Rattle.base.proofs.PickLaws.{told, clash, either-off, either-told}
 use Rattle.layout.specs.Shape.{heightOf, leaves}
 use Rattle.layout.specs.declared.Shape.{Shape}
-use Rattle.nodes.specs.Lent.{Lent}
 use Rattle.nodes.specs.Nodes.{nodeIn}
 use Rattle.nodes.specs.Alike.{Outside}
 use Rattle.nodes.specs.Made.{Good, storeNode}
-use Rattle.nodes.proofs.Bounds.{lent-small}
 use Rattle.nodes.proofs.StoreLaws.{outside-refl, outside-trans, outside-lent, store-outside, store-other, store-good, made-outside}
 use Rattle.tree.specs.Path.{Rises}
 use Rattle.tree.specs.Renewed.{storedUp, renewed}
 use Rattle.tree.specs.Good.{AllGood, upward, onPath, GoodBut}
 use Rattle.tree.proofs.Heights.{rises-some, rises-half, rises-leaf}
-use Rattle.tree.proofs.Laws.{clash, either-off, either-told}
 use Rattle.tree.proofs.UpwardLaws.{upward-below, path-off}
+use Rattle.layout.specs.Lent.{Lent}
+use Rattle.layout.proofs.Limits.{lent-small}
 
 -- the stores keep all that is outside the tree
 stored-outside : (s : Shape) (k j : ℕ) (v : List ℕ) → Rises k j → j < 2 * leaves (s .n) → Outside s v (storedUp s k j v)

@@ -17,13 +17,13 @@ use Rattle.answers.specs.declared.Place.the-variants as P
 use Rattle.answers.specs.Numbers.{accepts}
 use Rattle.records.specs.Record.{recordIn, wellFormed}
 use Rattle.records.specs.declared.Record.{Record}
-use Rattle.nodes.specs.Lent.{Lent}
 use Rattle.nodes.specs.Made.{goodNode, storeNode}
-use Rattle.nodes.proofs.Bounds.{lent-small}
 use Rattle.tree.specs.Path.{goodRecord, climbed, pathOf, Rises}
 use Rattle.tree.specs.Whole.{recordsFrom, nuggetLeaf, badOf, worst, atNode, wholeOf}
 use Rattle.tree.specs.Renewed.{storedUp, renewed, storedDown}
 use Rattle.tree.proofs.Heights.{rises-leaf}
+use Rattle.layout.specs.Lent.{Lent}
+use Rattle.layout.proofs.Limits.{lent-small}
 
 module _ (s : Shape) (v : List ℕ) where
   pub climbed-on : (k i : ℕ) → 0 < k → goodNode s v i ≡ true → climbed s v (k - 1) (i / 2) ≡ climbed s v k i

@@ -6,14 +6,13 @@ use Prim.Native.Nat.{ℕ, zero, suc, _+_, _/_, _^_, _<_, _≤_}
 use native.Mathlib.Omega.{arith}
 use lib.Dec.{eqb}
 use borrow.Author.Tests.{eqb-true, eq-eqb}
-use Rattle.base.proofs.PickLaws.{told}
+use Rattle.base.proofs.PickLaws.{told, clash, either-left, either-right, either-told}
 use Rattle.layout.specs.Shape.{heightOf, leaves}
 use Rattle.layout.specs.declared.Shape.{Shape}
-use Rattle.nodes.proofs.Bounds.{Small}
 use Rattle.tree.specs.Path.{Rises}
 use Rattle.tree.specs.Good.{upward, onPath}
-use Rattle.tree.proofs.Laws.{clash, either-left, either-right, either-told}
 use Rattle.tree.proofs.Heights.{rises-half, rises-leaf}
+use Rattle.layout.proofs.Limits.{Small}
 
 pub upward-le : (k j i : ℕ) → upward k j i ≡ true → i ≤ j
 unfolding upward

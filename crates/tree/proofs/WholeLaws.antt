@@ -8,7 +8,7 @@ use native.Mathlib.Omega.{arith}
 use lib.Dec.{eqb, leb}
 use borrow.Author.Tests.{eqb-true, eqb-false, leb-true, ltb-true}
 use Rattle.base.specs.Pick.{pick}
-use Rattle.base.proofs.PickLaws.{yes, no, told, both-left, both-right, both-on}
+use Rattle.base.proofs.PickLaws.{yes, no, told, both-left, both-right, both-on, clash}
 use Rattle.layout.specs.Shape.{heightOf, leaves}
 use Rattle.layout.specs.declared.Shape.{Shape}
 use Rattle.answers.specs.declared.Answer.{Answer}
@@ -16,15 +16,14 @@ use Rattle.answers.specs.declared.Answer.the-variants as A
 use Rattle.answers.specs.declared.Place.the-variants as P
 use Rattle.answers.specs.Numbers.{accepts}
 use Rattle.nodes.specs.Made.{goodNode}
-use Rattle.nodes.specs.Lent.{Lent}
-use Rattle.nodes.proofs.Bounds.{Small, lent-small}
 use Rattle.nodes.proofs.MadeLaws.{good-true, true-good}
 use Rattle.tree.specs.Path.{formed, goodRecord, pathOf}
 use Rattle.tree.specs.Whole.{recordsFrom, nuggetLeaf, worst, atNode, wholeOf}
 use Rattle.tree.specs.Good.{AllGood}
-use Rattle.tree.proofs.Laws.{clash}
 use Rattle.tree.proofs.PathLaws.{accepted-pick, good-path}
 use Rattle.tree.proofs.WorstLaws.{Bad, under-root, root-some, worst-most, worst-bad}
+use Rattle.layout.specs.Lent.{Lent}
+use Rattle.layout.proofs.Limits.{Small, lent-small}
 
 -- the node's answer is acceptance for no node
 at-accepted : (w : ℕ) → atNode w ≡ A.Accepted → w ≡ 0

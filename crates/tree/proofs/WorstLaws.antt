@@ -9,11 +9,10 @@ use native.Mathlib.Omega.{arith}
 use lib.Dec.{ltb}
 use lib.Pow.{pow-pos, pow-mono}
 use borrow.Author.Tests.{ltb-true, ltb-false}
-use Rattle.base.proofs.PickLaws.{told}
+use Rattle.base.proofs.PickLaws.{told, max-case}
 use Rattle.layout.specs.declared.Shape.{Shape}
 use Rattle.nodes.specs.Made.{goodNode}
 use Rattle.tree.specs.Whole.{nuggetLeaf, badOf, worst}
-use Rattle.tree.proofs.Laws.{max-case}
 use Rattle.tree.proofs.Steps.{bad-nugget, bad-good, bad-bad}
 
 -- node j stands in the subtree of height h under node i

@@ -7,10 +7,10 @@ ghost use mathlib.Core.Path.{_≡_};
 ghost use mathlib.Core.Bool.{true};
 ghost use Prim.Native.Nat.{_*_, _<_, _≤_, max};
 ghost use Rattle.layout.specs.Shape.{inLimits, leaves};
-ghost use Rattle.nodes.specs.Lent.{Lent};
 ghost use Rattle.tree.specs.Path.{goodRecord, climbed, pathOf, Rises};
 ghost use Rattle.tree.specs.Whole.{recordsFrom, nuggetLeaf, badOf, worst, atNode, wholeOf, Stands};
 ghost use Rattle.tree.specs.Renewed.{renewed, built};
+ghost use Rattle.layout.specs.Lent.{Lent};
 
 // Whether record n is well formed and its leaf is node L + n.
 fn good_record(vol: &[u8], s: Shape, epoch: u16, changing: bool, n: u32) -> bool

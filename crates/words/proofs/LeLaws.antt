@@ -1,5 +1,5 @@
 -- Laws of little-endian numbers: a number read back, bytes read back, and one more byte.
-use mathlib.Core.Path.{_≡_, refl, ap, sym, _∙_}
+use mathlib.Core.Path.{_≡_, refl, ap}
 use mathlib.Core.List.{List, [], _∷_, _++_}
 use Prim.Native.Nat.{ℕ, zero, suc, _+_, _-_, _*_, _/_, _%_, _^_, _<_, _≤_}
 use native.Mathlib.Nat.{pow-suc, pow-le-pow-right, add-suc, lt-of-lt-of-le}
@@ -7,9 +7,9 @@ use native.Mathlib.Numerals.{add-one}
 use lib.Dec.{lit≤}
 use native.Mathlib.Omega.{arith}
 use lib.ListN.{length, getD, set, take, drop, length-append}
-use lib.Seq.{drop-cons, getD-drop, sets}
+use lib.Seq.{drop-cons, getD-drop, sets, take-add, drop-drop}
 use Rattle.base.specs.Lists.{part}
-use Rattle.base.proofs.PartLaws.{part-sets}
+use Rattle.base.proofs.PartLaws.{part-sets, length-part}
 use Rattle.words.specs.Le.{num, le, serialised, Bytes}
 
 pub length-le : (k x : ℕ) → length (le k x) ≡ k
@@ -120,3 +120,14 @@ sets-le-done s at k i y h = let e : k - i ≡ 0 = omega arith in rw e
 -- a number stored is loaded
 pub load-store : (l : List ℕ) (at k x : ℕ) → x < 256 ^ k → at + k ≤ length l → num (part at k (sets l at (le k x))) ≡ x
 load-store l at k x h room = rw (part-sets l at k (le k x) (length-le k x) room) (num-le k x h)
+
+-- the number of joined bytes
+pub num-append : (a b : List ℕ) → num (a ++ b) ≡ num a + 256 ^ length a * num b
+unfolding num
+num-append [] b = omega arith
+num-append (x ∷ a) b = rw (num-append a b, pow-suc 256 (length a)) (omega arith)
+
+-- a part in two pieces
+pub num-split : (l : List ℕ) (from k n : ℕ) → from + k ≤ length l → num (part from (k + n) l) ≡ num (part from k l) + 256 ^ k * num (part (from + k) n l)
+num-split l from k n h =
+    rw (take-add k n (drop from l), num-append (part from k l) (part k n (drop from l)), length-part from k l h, drop-drop k from l)

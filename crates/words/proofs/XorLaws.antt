@@ -1,16 +1,17 @@
 -- Laws of the xor of byte lists.
 use mathlib.Core.Path.{_≡_, refl, ap, ap₂, sym, _∙_}
 use mathlib.Core.List.{List, [], _∷_, _++_}
-use Prim.Native.Nat.{ℕ, zero, suc, _+_, _*_, _/_, _%_, _^_, _<_, _≤_}
+use Prim.Native.Nat.{ℕ, zero, suc, _+_, _*_, _/_, _%_, _<_, _≤_}
 use native.Mathlib.Nat.{le-of-suc-le-suc}
 use native.Mathlib.Omega.{arith}
-use lib.ListN.{length, getD, take, drop}
-use lib.Seq.{ext-getD}
+use lib.ListN.{length, getD, drop, take, take-append-drop}
+use lib.Seq.{ext-getD, getD-drop, length-take-le}
 use lib.Bits.{bitXor, xor-step, xor-self, differ, xor-zero-r}
 use lib.Arith.{bin-ind}
-use Rattle.base.specs.Lists.{tab}
-use Rattle.base.proofs.TabLaws.{length-tab, getD-tab}
+use Rattle.base.specs.Lists.{tab, part}
+use Rattle.base.proofs.TabLaws.{length-tab, getD-tab, tab-ext}
 use Rattle.words.specs.Xor.{xorl}
+use Rattle.base.proofs.PartLaws.{length-part, getD-part}
 
 pub length-xorl : (d k : List ℕ) → length (xorl d k) ≡ length d
 unfolding xorl
@@ -92,3 +93,28 @@ unfolding xorl
 xorl-back [] k = refl
 xorl-back (a ∷ d) [] = refl
 xorl-back (a ∷ d) (b ∷ k) = rw (xor-back a b, xorl-back d k)
+
+-- what is laid over d matters as far as d reaches
+pub xorl-ext : (d k l : List ℕ) → ((i : ℕ) → i < length d → getD k i 0 ≡ getD l i 0) → xorl d k ≡ xorl d l
+xorl-ext d k l h =
+    xorl-tab d k
+    ∙ tab-ext (length d) (λ i. bitXor (getD d i 0) (getD k i 0)) (λ i. bitXor (getD d i 0) (getD l i 0)) (λ i q. ap (λ (x : ℕ). bitXor (getD d i 0) x) (h i q))
+    ∙ sym (xorl-tab d l)
+
+-- a part of what is laid is the part with its own piece laid over it
+pub xorl-part : (b n : ℕ) (d k : List ℕ) → b + n ≤ length d → part b n (xorl d k) ≡ xorl (part b n d) (drop b k)
+xorl-part b n d k h =
+    let room : b + n ≤ length (xorl d k) = rw (length-xorl d k) h in
+    let long : length (part b n (xorl d k)) ≡ n = length-part b n (xorl d k) room in
+    let longer : length (part b n d) ≡ n = length-part b n d h in
+    ext-getD 0 (part b n (xorl d k)) (xorl (part b n d) (drop b k)) (long ∙ sym (length-xorl (part b n d) (drop b k) ∙ longer)) (λ i q.
+    let low : i < n = omega (arith, q, long) in
+    getD-part b n (xorl d k) i 0 low
+    ∙ getD-xorl d k (b + i) (omega (arith, low, h))
+    ∙ sym (getD-xorl (part b n d) (drop b k) i (rw longer low) ∙ rw (getD-part b n d i 0 low, getD-drop b k i 0)))
+
+-- of what is laid over d as many bytes as d has will do
+pub xorl-take : (d k : List ℕ) → length d ≤ length k → xorl d (take (length d) k) ≡ xorl d k
+xorl-take d k h =
+    sym (xorl-front d (take (length d) k) (drop (length d) k) (rw (length-take-le (length d) k h) (omega arith)))
+    ∙ ap (λ (l : List ℕ). xorl d l) (take-append-drop (length d) k)

@@ -1,9 +1,8 @@
 use mathlib.Core.Path.{_∙_}
 use native.Mathlib.Omega.{arith}
 use borrow.Author.Needs.{needs}
-use Rattle.layout.proofs.Limits.{inside}
+use Rattle.layout.proofs.Limits.{inside, lent-small}
 use Rattle.nodes.proofs.HashLaws.{tested}
-use Rattle.nodes.proofs.Bounds.{lent-small}
 use Rattle.nodes.proofs.good.Statement.{statement}
 use Rattle.nodes.proofs.good.Tie as tie
 

@@ -4,8 +4,7 @@ use Prim.Native.Nat.{_+_, _*_, _≤_}
 use native.Mathlib.Omega.{arith}
 use lib.ListN.{length}
 use borrow.Author.Needs.{needs}
-use Rattle.layout.proofs.Limits.{inside}
-use Rattle.nodes.proofs.Bounds.{lent-small}
+use Rattle.layout.proofs.Limits.{inside, lent-small}
 use Rattle.nodes.proofs.HashLaws.{hashed, inner-is}
 use Rattle.nodes.proofs.inner.Statement.{statement}
 use Rattle.nodes.proofs.inner.Tie as tie

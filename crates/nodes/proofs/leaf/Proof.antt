@@ -3,8 +3,8 @@ use Prim.Native.Nat.{_+_, _*_, _≤_}
 use native.Mathlib.Omega.{arith}
 use lib.ListN.{length}
 use borrow.Author.Needs.{needs}
-use Rattle.layout.proofs.Limits.{inside}
-use Rattle.nodes.proofs.Bounds.{lent-small, tags-inside}
+use Rattle.layout.proofs.Limits.{inside, lent-small}
+use Rattle.nodes.proofs.Bounds.{tags-inside}
 use Rattle.nodes.proofs.HashLaws.{letter-nugget, hashed, leaf-is}
 use Rattle.nodes.proofs.leaf.Statement.{statement}
 use Rattle.nodes.proofs.leaf.Tie as tie

@@ -3,10 +3,10 @@ use Prim.Native.Nat.{ℕ, _-_}
 use native.Mathlib.Omega.{arith}
 use borrow.Author.Needs.{needs}
 use Rattle.nodes.specs.Nodes.{leafOf, zeroLeaf}
-use Rattle.nodes.proofs.Bounds.{lent-small}
 use Rattle.nodes.proofs.MadeLaws.{made-inner, made-bottom, bottom-leaf, bottom-zero}
 use Rattle.nodes.proofs.made.Statement.{statement}
 use Rattle.nodes.proofs.made.Tie as tie
+use Rattle.layout.proofs.Limits.{lent-small}
 
 leaves-of-requires : tie.Need-leaves-of-requires
 leaves-of-requires c κs = search needs

@@ -1,8 +1,7 @@
 use Rattle.nuggets.proofs.TestLaws.{good-is}
 use native.Mathlib.Nat.{mul-le-mul}
-use Rattle.nodes.proofs.Bounds.{lent-small}
 use Rattle.layout.proofs.Places.{flake-inside, tag-inside, parts-inside}
-use Rattle.layout.proofs.Limits.{inside, limits}
+use Rattle.layout.proofs.Limits.{inside, limits, lent-small}
 use Rattle.layout.specs.Parts.{flakeAt, tagAt}
 use native.Mathlib.Omega.{arith}
 use mathlib.Core.Path.{_≡_, _∙_}

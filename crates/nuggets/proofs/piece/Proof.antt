@@ -3,9 +3,8 @@ use Prim.Native.Nat.{ℕ}
 use mathlib.Core.List.{List}
 use Rattle.keys.specs.Pads.{padOf}
 use Rattle.words.specs.Xor.{xorl}
-use Rattle.nodes.proofs.Bounds.{lent-small}
 use Rattle.layout.proofs.Places.{flake-inside}
-use Rattle.layout.proofs.Limits.{inside, limits}
+use Rattle.layout.proofs.Limits.{inside, limits, lent-small}
 use Rattle.layout.specs.Parts.{flakeAt}
 use lib.ListN.{length, drop}
 use native.Mathlib.Nat.{mul-le-mul}

@@ -1,4 +1,3 @@
-use Rattle.opening.proofs.Laws.{goes-on, stops}
 use Rattle.opening.proofs.MountLaws.{in-stages, form-lent, mount-on, mount-off}
 use Rattle.opening.specs.Stages.{restOf}
 use Rattle.opening.specs.Mount.{openedDrive, mountAnswer}
@@ -9,6 +8,7 @@ use mathlib.Core.Path.{_≡_, sym, _∙_, ap}
 use borrow.Author.Needs.{needs}
 use Rattle.opening.proofs.mount.Statement.{statement}
 use Rattle.opening.proofs.mount.Tie as tie
+use Rattle.answers.proofs.StageLaws.{goes-on, stops}
 
 form-requires : tie.Need-form-requires
 form-requires c κs = search needs

@@ -1,4 +1,3 @@
-use Rattle.opening.proofs.Laws.{goes-on, stops}
 use Rattle.opening.specs.Stages.{restOf}
 use Rattle.tree.specs.Whole.{wholeOf}
 use Rattle.answers.specs.Numbers.{accepts}
@@ -9,6 +8,7 @@ use mathlib.Core.Path.{sym, _∙_, ap, ap₂}
 use borrow.Author.Needs.{needs}
 use Rattle.opening.proofs.rest.Statement.{statement}
 use Rattle.opening.proofs.rest.Tie as tie
+use Rattle.answers.proofs.StageLaws.{goes-on, stops}
 
 keys-fit-requires : tie.Need-keys-fit-requires
 keys-fit-requires c κs = search needs

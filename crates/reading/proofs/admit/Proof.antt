@@ -1,4 +1,4 @@
-use Rattle.reading.proofs.AnswerLaws.{answer-tests, answer-past, answer-opening, opening-lent, fits-within}
+use Rattle.reading.proofs.AnswerLaws.{answer-tests, answer-past, answer-opening}
 use Rattle.drive.specs.Opening.{openingOf}
 use Rattle.answers.specs.Numbers.{accepts}
 use mathlib.Core.Bool.{true}
@@ -6,6 +6,8 @@ use mathlib.Core.Path.{_≡_, sym, _∙_, ap}
 use borrow.Author.Needs.{needs}
 use Rattle.reading.proofs.admit.Statement.{statement}
 use Rattle.reading.proofs.admit.Tie as tie
+use Rattle.drive.proofs.OpeningLaws.{opening-lent}
+use Rattle.nuggets.proofs.TouchLaws.{fits-within}
 
 opening-requires : tie.Need-opening-requires
 opening-requires c κs = search needs

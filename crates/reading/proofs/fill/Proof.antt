@@ -1,8 +1,7 @@
 use Rattle.reading.proofs.FillLaws.{chunk, nugget-bytes}
 use Rattle.nuggets.specs.Nugget.{byteOf}
 use Rattle.drive.specs.Drive.{shapeOf}
-use Rattle.nodes.proofs.Bounds.{lent-small}
-use Rattle.layout.proofs.Limits.{limits}
+use Rattle.layout.proofs.Limits.{limits, lent-small}
 use Rattle.base.proofs.TabLaws.{tab-none, tab-all, length-tab}
 use Rattle.base.specs.Lists.{tab}
 use lib.ListN.{length, drop}

@@ -1,4 +1,4 @@
-use Rattle.reports.proofs.AnswerLaws.{opening-lent}
+use Rattle.drive.proofs.OpeningLaws.{opening-lent}
 use Rattle.reports.specs.Report.{reportAnswer}
 use Rattle.answers.specs.Numbers.{accepts}
 use Rattle.base.proofs.PickLaws.{yes, no}

@@ -5,7 +5,6 @@ use native.Mathlib.Nat.{pos-of-ne-zero}
 use borrow.Author.Needs.{needs}
 use borrow.Fn.Kinds.{In}
 use borrow.Fn.PlainCycle.{Measures, is, falls, and}
-use Rattle.nodes.proofs.Bounds.{lent-small}
 use Rattle.tree.proofs.Heights.{stands-some, stands-last, stands-down}
 use Rattle.tree.proofs.Steps.{worst-is, worst-end}
 use Rattle.tree.proofs.worst_under.Reads as worst-under
@@ -15,6 +14,7 @@ use Rattle.tree.proofs.bad.Reads as bad-reads
 use Rattle.tree.proofs.greater.Reads as greater-reads
 use Rattle.tree.proofs.+worst_under.{statement}
 use Rattle.tree.proofs.+worst_under.Tie.{close}
+use Rattle.layout.proofs.Limits.{lent-small}
 
 abbrev μ-worst-under : Measures 1 worst-under-kinds.ps ℕ
 μ-worst-under κs a = a .1 .1 .0

@@ -5,12 +5,12 @@ use native.Mathlib.Omega.{arith}
 use lib.ListN.{length}
 use borrow.Author.Needs.{needs}
 use Rattle.layout.specs.Shape.{leaves}
-use Rattle.nodes.specs.Lent.{Lent}
-use Rattle.nodes.proofs.Bounds.{lent-small}
 use Rattle.tree.specs.Renewed.{built, storedDown}
 use Rattle.tree.proofs.Steps.{storedDown-on, storedDown-end}
 use Rattle.tree.proofs.build.Statement.{statement}
 use Rattle.tree.proofs.build.Tie as tie
+use Rattle.layout.specs.Lent.{Lent}
+use Rattle.layout.proofs.Limits.{lent-small}
 
 abbrev Inv-loop : tie.InvT-loop
 Inv-loop vol₀ s k₀ vol k = (k < 2 * leaves (s .n)) × Lent s vol × (length vol ≡ length vol₀) × (storedDown s k vol ≡ built s vol₀)

@@ -1,10 +1,10 @@
 use mathlib.Core.Path.{sym, _∙_}
 use native.Mathlib.Omega.{arith}
 use borrow.Author.Needs.{needs}
-use Rattle.nodes.proofs.Bounds.{lent-small}
 use Rattle.tree.proofs.Steps.{record-on, record-off}
 use Rattle.tree.proofs.good_record.Statement.{statement}
 use Rattle.tree.proofs.good_record.Tie as tie
+use Rattle.layout.proofs.Limits.{lent-small}
 
 record-at-requires : tie.Need-record-at-requires
 record-at-requires c κs = search needs

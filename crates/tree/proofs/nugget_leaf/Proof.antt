@@ -1,8 +1,7 @@
 use mathlib.Core.Path.{sym}
 use native.Mathlib.Omega.{arith}
 use borrow.Author.Needs.{needs}
-use Rattle.layout.proofs.Limits.{limits}
-use Rattle.nodes.proofs.Bounds.{small}
+use Rattle.layout.proofs.Limits.{limits, small}
 use Rattle.tree.proofs.Steps.{nugget-yes, nugget-below, nugget-above}
 use Rattle.tree.proofs.nugget_leaf.Statement.{statement}
 use Rattle.tree.proofs.nugget_leaf.Tie as tie

@@ -2,11 +2,11 @@ use mathlib.Core.Path.{sym, _∙_}
 use native.Mathlib.Omega.{arith}
 use borrow.Author.Needs.{needs}
 use Rattle.layout.specs.Shape.{heightOf}
-use Rattle.nodes.proofs.Bounds.{lent-small}
 use Rattle.tree.proofs.Heights.{rises-leaf, rises-half}
 use Rattle.tree.proofs.Steps.{path-on, path-off}
 use Rattle.tree.proofs.path.Statement.{statement}
 use Rattle.tree.proofs.path.Tie as tie
+use Rattle.layout.proofs.Limits.{lent-small}
 
 good-record-requires : tie.Need-good-record-requires
 good-record-requires c κs = search needs

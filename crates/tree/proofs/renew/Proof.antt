@@ -5,15 +5,14 @@ use native.Mathlib.Omega.{arith}
 use lib.ListN.{length}
 use borrow.Author.Needs.{needs}
 use Rattle.layout.specs.Shape.{leaves}
-use Rattle.layout.proofs.Limits.{limits}
-use Rattle.nodes.specs.Lent.{Lent}
-use Rattle.nodes.proofs.Bounds.{lent-small}
+use Rattle.layout.proofs.Limits.{limits, lent-small}
 use Rattle.tree.specs.Path.{Rises}
 use Rattle.tree.specs.Renewed.{renewed, storedUp}
 use Rattle.tree.proofs.Heights.{rises-some, rises-next, height-few}
 use Rattle.tree.proofs.Steps.{storedUp-on, storedUp-end, renew-starts}
 use Rattle.tree.proofs.renew.Statement.{statement}
 use Rattle.tree.proofs.renew.Tie as tie
+use Rattle.layout.specs.Lent.{Lent}
 
 abbrev Inv-loop : tie.InvT-loop
 Inv-loop vol₀ s n k₀ i₀ vol k i = Rises k i × (i < 2 * leaves (s .n)) × Lent s vol × (length vol ≡ length vol₀) × (storedUp s k i vol ≡ renewed s n vol₀)

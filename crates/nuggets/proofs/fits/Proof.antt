@@ -1,9 +1,9 @@
-use Rattle.reading.proofs.AnswerLaws.{fits-is, fits-not}
 use Rattle.layout.proofs.Limits.{inside}
 use mathlib.Core.Path.{_∙_}
 use borrow.Author.Needs.{needs}
-use Rattle.reading.proofs.fits.Statement.{statement}
-use Rattle.reading.proofs.fits.Tie as tie
+use Rattle.nuggets.proofs.fits.Statement.{statement}
+use Rattle.nuggets.proofs.fits.Tie as tie
+use Rattle.nuggets.proofs.TouchLaws.{fits-is, fits-not}
 
 capacity-of-requires : tie.Need-capacity-of-requires
 capacity-of-requires c κs = search needs

@@ -1,0 +1,4 @@
+pub mod Laid
+pub mod Change
+pub mod Write
+pub mod Rekey
