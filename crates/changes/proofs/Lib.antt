@@ -1,0 +1,4 @@
+pub mod Each
+pub mod CellLaws
+pub mod LaidLaws
+pub mod PadsLaws

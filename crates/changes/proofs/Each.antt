@@ -1,0 +1,63 @@
+-- A fact that holds of each entry of a list, and what the listings' entries say.
+use mathlib.Core.Path.{_≡_, refl}
+use mathlib.Core.Bool.{Bool, true, false}
+use mathlib.Core.List.{List, [], _∷_, _++_}
+use Prim.Native.Nat.{ℕ, zero, suc, _<_}
+use native.Mathlib.Omega.{arith}
+use Rattle.base.specs.Pick.{pick}
+use Rattle.records.specs.declared.Record.{Record}
+use Rattle.records.specs.declared.Way.{Way}
+use Rattle.records.specs.Journal.{bit}
+use Rattle.records.specs.Rule.{enciphered, keycountAfter}
+use Rattle.records.specs.Listing.{Entry, entry, padsOf, padsBy, padsTo}
+
+-- the fact holds of each entry
+abbrev pub Each : (Entry → Type 0) → List Entry → Type 0
+Each P [] = Unit {0}
+Each P (e ∷ es) = P e × Each P es
+
+pub each-append : (P : Entry → Type 0) (a b : List Entry) → Each P a → Each P b → Each P (a ++ b)
+each-append P [] b x y = y
+each-append P (e ∷ a) b x y = (x .0, each-append P a b (x .1) y)
+
+pub each-map : (P Q : Entry → Type 0) (es : List Entry) → ((e : Entry) → P e → Q e) → Each P es → Each Q es
+each-map P Q [] h x = tt
+each-map P Q (e ∷ es) h x = (h e (x .0), each-map P Q es h (x .1))
+
+-- what an entry of one nugget at one keycount says
+pub record Of (n k : ℕ) (s : List ℕ) (p : ℕ) (e : Entry) : Type 0 where
+  pub own : e .nugget ≡ n
+  pub few : e .flake < p
+
+of-next : (n k : ℕ) (s : List ℕ) (p : ℕ) (e : Entry) → Of n k s p e → Of n k s (suc p) e
+of-next n k s p e x = record { own = x .own; few = omega (arith, x .few) }
+
+pub each-pads : (n k : ℕ) (s : List ℕ) (g : ℕ → Bool) (p : ℕ) → Each (Of n k s p) (padsOf n k s g p)
+unfolding padsOf
+each-pads n k s g zero = tt
+each-pads n k s g (suc p) =
+    each-append (Of n k s (suc p)) (padsOf n k s g p) (pick (g p) (entry n k p s ∷ []) [])
+    (each-map (Of n k s p) (Of n k s (suc p)) (padsOf n k s g p) (of-next n k s p) (each-pads n k s g p))
+    (go (g p))
+  where
+    go : (b : Bool) → Each (Of n k s (suc p)) (pick b (entry n k p s ∷ []) [])
+    go true = (record { own = refl; few = omega arith }, tt)
+    go false = tt
+
+-- and one of the nuggets below m
+pub record Below (m p : ℕ) (e : Entry) : Type 0 where
+  pub under : e .nugget < m
+  pub few : e .flake < p
+
+below-next : (m p : ℕ) (e : Entry) → Below m p e → Below (suc m) p e
+below-next m p e x = record { under = omega (arith, x .under); few = x .few }
+
+pub each-to : (p : ℕ) (way : ℕ → Way) (records : ℕ → Record) (s : List ℕ) (m : ℕ) → Each (Below m p) (padsTo p way records s m)
+unfolding padsTo padsBy
+each-to p way records s zero = tt
+each-to p way records s (suc m) =
+    let k = keycountAfter (way m) (records m) in
+    let g = bit (enciphered (way m) (records m)) in
+    each-append (Below (suc m) p) (padsTo p way records s m) (padsOf m k s g p)
+    (each-map (Below m p) (Below (suc m) p) (padsTo p way records s m) (below-next m p) (each-to p way records s m))
+    (each-map (Of m k s p) (Below (suc m) p) (padsOf m k s g p) (λ e x. record { under = let q = x .own in omega (arith, q); few = x .few }) (each-pads m k s g p))

@@ -1,0 +1,99 @@
+-- A nugget's encipherings and a call's, laid: which flakes and tags they put, and what they leave.
+use mathlib.Core.Path.{_≡_, refl, ap, sym, _∙_}
+use mathlib.Core.Logic.{_⊎_, inl, inr, ⊎-elim}
+use mathlib.Core.Bool.{Bool, true, false}
+use mathlib.Core.List.{List, [], _∷_, _++_}
+use Prim.Native.Nat.{ℕ, zero, suc, _+_, _-_, _*_, _<_, _≤_}
+use native.Mathlib.Omega.{arith}
+use lib.ListN.{length}
+use Rattle.base.specs.Pick.{pick}
+use Rattle.base.specs.Lists.{part}
+use Rattle.base.proofs.PickLaws.{told, clash}
+use Rattle.base.proofs.PartLaws.{part-part}
+use Rattle.words.specs.Le.{num}
+use Rattle.layout.specs.declared.Shape.{Shape}
+use Rattle.layout.specs.Shape.{leaves}
+use Rattle.layout.specs.Lent.{Lent}
+use Rattle.layout.specs.Parts.{recordAt, tagsAt, tagAt, flakeAt, nodeAt}
+use Rattle.layout.proofs.Places.{record-inside}
+use Rattle.records.specs.declared.Record.{Record}
+use Rattle.records.specs.declared.Way.{Way}
+use Rattle.records.specs.Record.{recordIn}
+use Rattle.records.specs.Journal.{bit}
+use Rattle.records.specs.Rule.{enciphered, keycountAfter}
+use Rattle.records.specs.Listing.{Entry, entry, padsOf, padsBy, padsTo}
+use Rattle.nodes.specs.Nodes.{nodeIn}
+use Rattle.keys.specs.Keys.{nuggetKey}
+use Rattle.keys.specs.Pads.{under}
+use Rattle.keys.specs.Tags.{tagOf}
+use Rattle.nuggets.specs.Nugget.{recordOf, storedIn}
+use Rattle.changes.specs.Laid.{laidFlake, laidEntry, laid}
+use Rattle.changes.proofs.Each.{Each, each-map, Of, each-pads, Below, each-to}
+use Rattle.changes.proofs.CellLaws.{Other, differ}
+use Rattle.changes.proofs.LaidLaws.{laid-append, length-laid, laid-lent, laid-leaves, flake-put, tag-put, Long, Clear, Stands, clear-below, clear-node, clear-flake, clear-tag}
+
+-- a record is told by its 18 bytes
+pub record-told : (at : ℕ) (v w : List ℕ) → part at 18 v ≡ part at 18 w → recordIn at v ≡ recordIn at w
+unfolding recordIn
+record-told at v w e =
+    let k : num (part at 8 v) ≡ num (part at 8 w) = ap num (piece 0 8 (omega arith) at (omega arith)) in
+    let j : num (part (at + 8) 8 v) ≡ num (part (at + 8) 8 w) = ap num (piece 8 8 (omega arith) (at + 8) (omega arith)) in
+    let h : num (part (at + 16) 2 v) ≡ num (part (at + 16) 2 w) = ap num (piece 16 2 (omega arith) (at + 16) (omega arith)) in
+    λ i. record { keycount = k i; journal = j i; epoch = h i }
+  where
+    piece : (a n : ℕ) → a + n ≤ 18 → (b : ℕ) → at + a ≡ b → part b n v ≡ part b n w
+    piece a n h b q =
+        ap (λ (x : ℕ). part x n v) (sym q) ∙ sym (part-part a n at 18 v h) ∙ ap (λ (x : List ℕ). part a n x) e ∙ part-part a n at 18 w h ∙ ap (λ (x : ℕ). part x n w) q
+
+-- entries of one nugget, and of all below m, are the volume's
+pub of-stands : (s : Shape) (n k : ℕ) (x : List ℕ) (g : ℕ → Bool) (p : ℕ) → n < s .n → p ≤ s .p → Each (Stands s) (padsOf n k x g p)
+of-stands s n k x g p a b =
+    each-map (Of n k x p) (Stands s) (padsOf n k x g p)
+    (λ e o. let own = o .own in let few = o .few in record { nugget = omega (arith, own, a); flake = omega (arith, few, b) }) (each-pads n k x g p)
+
+pub to-stands : (s : Shape) (way : ℕ → Way) (records : ℕ → Record) (x : List ℕ) (m : ℕ) → m ≤ s .n → Each (Stands s) (padsTo (s .p) way records x m)
+to-stands s way records x m h =
+    each-map (Below m (s .p)) (Stands s) (padsTo (s .p) way records x m)
+    (λ e o. let low = o .under in record { nugget = omega (arith, low, h); flake = o .few }) (each-to (s .p) way records x m)
+
+module _ (s : Shape) (salt : List ℕ) (new : ℕ → ℕ → List ℕ) (long : Long s new) where
+  -- head, records and tree stay under any entries of the volume's
+  pub laid-below : (at m : ℕ) (es : List Entry) (v : List ℕ) → Each (Stands s) es → at + m ≤ tagsAt s → part at m (laid s salt new es v) ≡ part at m v
+  laid-below at m es v x h = laid-leaves s salt new long at m es v (each-map (Stands s) (Clear s at m) es (clear-below s at m h) x)
+
+  pub laid-record : (n : ℕ) (es : List Entry) (v : List ℕ) → Each (Stands s) es → n < s .n → recordOf (laid s salt new es v) n ≡ recordOf v n
+  laid-record n es v x h = record-told (recordAt n) (laid s salt new es v) v (laid-below (recordAt n) 18 es v x (record-inside s n h))
+
+  pub laid-node : (i : ℕ) (es : List Entry) (v : List ℕ) → Each (Stands s) es → 1 ≤ i → i < 2 * leaves (s .n) → nodeIn s (laid s salt new es v) i ≡ nodeIn s v i
+  laid-node i es v x a b = laid-leaves s salt new long (nodeAt s i) 32 es v (each-map (Stands s) (Clear s (nodeAt s i) 32) es (clear-node s i a b) x)
+
+  -- a flake and its tag stay under entries of others
+  module _ (n f : ℕ) (a : n < s .n) (b : f < s .p) where
+    abbrev Far : Entry → Type 0
+    Far e = Stands s e × Other n f (e .nugget) (e .flake)
+
+    pub laid-stored : (es : List Entry) (v : List ℕ) → Each Far es → storedIn s (laid s salt new es v) n f ≡ storedIn s v n f
+    laid-stored es v x =
+        laid-leaves s salt new long (flakeAt s n f) (s .f) es v (each-map Far (Clear s (flakeAt s n f) (s .f)) es (λ e q. clear-flake s n f a b e (q .0) (q .1)) x)
+
+    pub laid-tag : (es : List Entry) (v : List ℕ) → Each Far es → part (tagAt s n f) 16 (laid s salt new es v) ≡ part (tagAt s n f) 16 v
+    laid-tag es v x =
+        laid-leaves s salt new long (tagAt s n f) 16 es v (each-map Far (Clear s (tagAt s n f) 16) es (λ e q. clear-tag s n f a b e (q .0) (q .1)) x)
+
+    -- entries of the nugget's flakes before f
+    pub before-far : (k : ℕ) (x : List ℕ) (g : ℕ → Bool) → Each Far (padsOf n k x g f)
+    before-far k x g =
+        each-map (Of n k x f) Far (padsOf n k x g f)
+        (λ e o. let own = o .own in let few = o .few in (record { nugget = omega (arith, own, a); flake = omega (arith, few, b) }, λ p q. omega (arith, few, q))) (each-pads n k x g f)
+
+    -- entries of nuggets before n
+    pub below-far : (way : ℕ → Way) (records : ℕ → Record) (x : List ℕ) (m : ℕ) → m ≤ n → Each Far (padsTo (s .p) way records x m)
+    below-far way records x m h =
+        each-map (Below m (s .p)) Far (padsTo (s .p) way records x m)
+        (λ e o. let low = o .under in (record { nugget = omega (arith, low, h, a); flake = o .few }, λ p q. omega (arith, low, h, p))) (each-to (s .p) way records x m)
+
+    -- entries of another nugget
+    pub of-far : (m k : ℕ) (x : List ℕ) (g : ℕ → Bool) → m < s .n → (n ≡ m → ⊥) → Each Far (padsOf m k x g (s .p))
+    of-far m k x g c h =
+        each-map (Of m k x (s .p)) Far (padsOf m k x g (s .p))
+        (λ e o. let own = o .own in (record { nugget = omega (arith, own, c); flake = o .few }, λ p q. h (p ∙ own))) (each-pads m k x g (s .p))
