@@ -25,10 +25,12 @@ pub part-apart : (at n : ℕ) (l : List ℕ) (a m : ℕ) (vs : List ℕ) → len
 part-apart at n l a m vs e h =
     ⊎-elim (λ low. part-sets-below at n l a vs low) (λ high. part-sets-above at n l a vs (omega (arith, e, high))) h
 
--- two numbers that differ
+-- two numbers in their order
+pub ordered : (i j : ℕ) → (i < j) ⊎ (j ≤ i)
+ordered i j = ⊎-elim (λ e. inl (ltb-true i j e)) (λ e. inr (ltb-false i j e)) (told (ltb i j))
+
 pub differ : (i j : ℕ) → (i ≡ j → ⊥) → (i < j) ⊎ (j < i)
-differ i j h =
-    ⊎-elim (λ e. inl (ltb-true i j e)) (λ e. let ge = ltb-false i j e in inr (⊎-elim (λ q. ltb-true j i q) (λ q. absurd (h (omega (arith, ge, ltb-false j i q)))) (told (ltb j i)))) (told (ltb i j))
+differ i j h = ⊎-elim inl (λ high. ⊎-elim (λ low. inr low) (λ e. absurd (h (omega (arith, high, e)))) (ordered j i)) (ordered i j)
 
 -- flakes at two places, by their numbers over all nuggets
 cells-apart : (at w i j : ℕ) → (i ≡ j → ⊥) → Apart (at + i * w) w (at + j * w) w

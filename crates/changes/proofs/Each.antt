@@ -24,25 +24,26 @@ pub each-map : (P Q : Entry → Type 0) (es : List Entry) → ((e : Entry) → P
 each-map P Q [] h x = tt
 each-map P Q (e ∷ es) h x = (h e (x .0), each-map P Q es h (x .1))
 
--- what an entry of one nugget at one keycount says
-pub record Of (n k : ℕ) (s : List ℕ) (p : ℕ) (e : Entry) : Type 0 where
+-- what an entry of one nugget says: its flake is in the set
+pub record Of (n : ℕ) (g : ℕ → Bool) (p : ℕ) (e : Entry) : Type 0 where
   pub own : e .nugget ≡ n
   pub few : e .flake < p
+  pub on : g (e .flake) ≡ true
 
-of-next : (n k : ℕ) (s : List ℕ) (p : ℕ) (e : Entry) → Of n k s p e → Of n k s (suc p) e
-of-next n k s p e x = record { own = x .own; few = omega (arith, x .few) }
+of-next : (n : ℕ) (g : ℕ → Bool) (p : ℕ) (e : Entry) → Of n g p e → Of n g (suc p) e
+of-next n g p e x = record { own = x .own; few = omega (arith, x .few); on = x .on }
 
-pub each-pads : (n k : ℕ) (s : List ℕ) (g : ℕ → Bool) (p : ℕ) → Each (Of n k s p) (padsOf n k s g p)
+pub each-pads : (n k : ℕ) (s : List ℕ) (g : ℕ → Bool) (p : ℕ) → Each (Of n g p) (padsOf n k s g p)
 unfolding padsOf
 each-pads n k s g zero = tt
 each-pads n k s g (suc p) =
-    each-append (Of n k s (suc p)) (padsOf n k s g p) (pick (g p) (entry n k p s ∷ []) [])
-    (each-map (Of n k s p) (Of n k s (suc p)) (padsOf n k s g p) (of-next n k s p) (each-pads n k s g p))
-    (go (g p))
+    each-append (Of n g (suc p)) (padsOf n k s g p) (pick (g p) (entry n k p s ∷ []) [])
+    (each-map (Of n g p) (Of n g (suc p)) (padsOf n k s g p) (of-next n g p) (each-pads n k s g p))
+    (go (g p) refl)
   where
-    go : (b : Bool) → Each (Of n k s (suc p)) (pick b (entry n k p s ∷ []) [])
-    go true = (record { own = refl; few = omega arith }, tt)
-    go false = tt
+    go : (b : Bool) → g p ≡ b → Each (Of n g (suc p)) (pick b (entry n k p s ∷ []) [])
+    go true h = (record { own = refl; few = omega arith; on = h }, tt)
+    go false h = tt
 
 -- and one of the nuggets below m
 pub record Below (m p : ℕ) (e : Entry) : Type 0 where
@@ -60,4 +61,4 @@ each-to p way records s (suc m) =
     let g = bit (enciphered (way m) (records m)) in
     each-append (Below (suc m) p) (padsTo p way records s m) (padsOf m k s g p)
     (each-map (Below m p) (Below (suc m) p) (padsTo p way records s m) (below-next m p) (each-to p way records s m))
-    (each-map (Of m k s p) (Below (suc m) p) (padsOf m k s g p) (λ e x. record { under = let q = x .own in omega (arith, q); few = x .few }) (each-pads m k s g p))
+    (each-map (Of m g p) (Below (suc m) p) (padsOf m k s g p) (λ e x. record { under = let q = x .own in omega (arith, q); few = x .few }) (each-pads m k s g p))

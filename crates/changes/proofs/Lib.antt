@@ -2,3 +2,4 @@ pub mod Each
 pub mod CellLaws
 pub mod LaidLaws
 pub mod PadsLaws
+pub mod PutLaws

@@ -48,13 +48,36 @@ record-told at v w e =
 -- entries of one nugget, and of all below m, are the volume's
 pub of-stands : (s : Shape) (n k : ℕ) (x : List ℕ) (g : ℕ → Bool) (p : ℕ) → n < s .n → p ≤ s .p → Each (Stands s) (padsOf n k x g p)
 of-stands s n k x g p a b =
-    each-map (Of n k x p) (Stands s) (padsOf n k x g p)
+    each-map (Of n g p) (Stands s) (padsOf n k x g p)
     (λ e o. let own = o .own in let few = o .few in record { nugget = omega (arith, own, a); flake = omega (arith, few, b) }) (each-pads n k x g p)
 
 pub to-stands : (s : Shape) (way : ℕ → Way) (records : ℕ → Record) (x : List ℕ) (m : ℕ) → m ≤ s .n → Each (Stands s) (padsTo (s .p) way records x m)
 to-stands s way records x m h =
     each-map (Below m (s .p)) (Stands s) (padsTo (s .p) way records x m)
     (λ e o. let low = o .under in record { nugget = omega (arith, low, h); flake = o .few }) (each-to (s .p) way records x m)
+
+-- an entry of the volume's that is another flake's
+abbrev pub Far : Shape → ℕ → ℕ → Entry → Type 0
+Far s n f e = Stands s e × Other n f (e .nugget) (e .flake)
+
+module _ (s : Shape) (n f : ℕ) (a : n < s .n) (b : f < s .p) where
+  -- entries of the nugget's flakes before f
+  pub before-far : (k : ℕ) (x : List ℕ) (g : ℕ → Bool) → Each (Far s n f) (padsOf n k x g f)
+  before-far k x g =
+      each-map (Of n g f) (Far s n f) (padsOf n k x g f)
+      (λ e o. let own = o .own in let few = o .few in (record { nugget = omega (arith, own, a); flake = omega (arith, few, b) }, λ p q. omega (arith, few, q))) (each-pads n k x g f)
+
+  -- entries of nuggets before n
+  pub below-far : (way : ℕ → Way) (records : ℕ → Record) (x : List ℕ) (m : ℕ) → m ≤ n → Each (Far s n f) (padsTo (s .p) way records x m)
+  below-far way records x m h =
+      each-map (Below m (s .p)) (Far s n f) (padsTo (s .p) way records x m)
+      (λ e o. let low = o .under in (record { nugget = omega (arith, low, h, a); flake = o .few }, λ p q. omega (arith, low, h, p))) (each-to (s .p) way records x m)
+
+  -- entries of another nugget
+  pub of-far : (m k : ℕ) (x : List ℕ) (g : ℕ → Bool) → m < s .n → (n ≡ m → ⊥) → Each (Far s n f) (padsOf m k x g (s .p))
+  of-far m k x g c h =
+      each-map (Of m g (s .p)) (Far s n f) (padsOf m k x g (s .p))
+      (λ e o. let own = o .own in (record { nugget = omega (arith, own, c); flake = o .few }, λ p q. h (p ∙ own))) (each-pads m k x g (s .p))
 
 module _ (s : Shape) (salt : List ℕ) (new : ℕ → ℕ → List ℕ) (long : Long s new) where
   -- head, records and tree stay under any entries of the volume's
@@ -69,31 +92,10 @@ module _ (s : Shape) (salt : List ℕ) (new : ℕ → ℕ → List ℕ) (long : 
 
   -- a flake and its tag stay under entries of others
   module _ (n f : ℕ) (a : n < s .n) (b : f < s .p) where
-    abbrev Far : Entry → Type 0
-    Far e = Stands s e × Other n f (e .nugget) (e .flake)
-
-    pub laid-stored : (es : List Entry) (v : List ℕ) → Each Far es → storedIn s (laid s salt new es v) n f ≡ storedIn s v n f
+    pub laid-stored : (es : List Entry) (v : List ℕ) → Each (Far s n f) es → storedIn s (laid s salt new es v) n f ≡ storedIn s v n f
     laid-stored es v x =
-        laid-leaves s salt new long (flakeAt s n f) (s .f) es v (each-map Far (Clear s (flakeAt s n f) (s .f)) es (λ e q. clear-flake s n f a b e (q .0) (q .1)) x)
+        laid-leaves s salt new long (flakeAt s n f) (s .f) es v (each-map (Far s n f) (Clear s (flakeAt s n f) (s .f)) es (λ e q. clear-flake s n f a b e (q .0) (q .1)) x)
 
-    pub laid-tag : (es : List Entry) (v : List ℕ) → Each Far es → part (tagAt s n f) 16 (laid s salt new es v) ≡ part (tagAt s n f) 16 v
+    pub laid-tag : (es : List Entry) (v : List ℕ) → Each (Far s n f) es → part (tagAt s n f) 16 (laid s salt new es v) ≡ part (tagAt s n f) 16 v
     laid-tag es v x =
-        laid-leaves s salt new long (tagAt s n f) 16 es v (each-map Far (Clear s (tagAt s n f) 16) es (λ e q. clear-tag s n f a b e (q .0) (q .1)) x)
-
-    -- entries of the nugget's flakes before f
-    pub before-far : (k : ℕ) (x : List ℕ) (g : ℕ → Bool) → Each Far (padsOf n k x g f)
-    before-far k x g =
-        each-map (Of n k x f) Far (padsOf n k x g f)
-        (λ e o. let own = o .own in let few = o .few in (record { nugget = omega (arith, own, a); flake = omega (arith, few, b) }, λ p q. omega (arith, few, q))) (each-pads n k x g f)
-
-    -- entries of nuggets before n
-    pub below-far : (way : ℕ → Way) (records : ℕ → Record) (x : List ℕ) (m : ℕ) → m ≤ n → Each Far (padsTo (s .p) way records x m)
-    below-far way records x m h =
-        each-map (Below m (s .p)) Far (padsTo (s .p) way records x m)
-        (λ e o. let low = o .under in (record { nugget = omega (arith, low, h, a); flake = o .few }, λ p q. omega (arith, low, h, p))) (each-to (s .p) way records x m)
-
-    -- entries of another nugget
-    pub of-far : (m k : ℕ) (x : List ℕ) (g : ℕ → Bool) → m < s .n → (n ≡ m → ⊥) → Each Far (padsOf m k x g (s .p))
-    of-far m k x g c h =
-        each-map (Of m k x (s .p)) Far (padsOf m k x g (s .p))
-        (λ e o. let own = o .own in (record { nugget = omega (arith, own, c); flake = o .few }, λ p q. h (p ∙ own))) (each-pads m k x g (s .p))
+        laid-leaves s salt new long (tagAt s n f) 16 es v (each-map (Far s n f) (Clear s (tagAt s n f) 16) es (λ e q. clear-tag s n f a b e (q .0) (q .1)) x)
