@@ -1,5 +1,5 @@
 -- A fact that holds of each entry of a list, and what the listings' entries say.
-use mathlib.Core.Path.{_≡_, refl}
+use mathlib.Core.Path.{_≡_, refl, ap, _∙_}
 use mathlib.Core.Bool.{Bool, true, false}
 use mathlib.Core.List.{List, [], _∷_, _++_}
 use Prim.Native.Nat.{ℕ, zero, suc, _<_}
@@ -45,20 +45,30 @@ each-pads n k s g (suc p) =
     go true h = (record { own = refl; few = omega arith; on = h }, tt)
     go false h = tt
 
--- and one of the nuggets below m
-pub record Below (m p : ℕ) (e : Entry) : Type 0 where
+-- what a call enciphers: flake f of nugget n is in the set of its way
+abbrev pub chosen : (ℕ → Way) → (ℕ → Record) → ℕ → ℕ → Bool
+chosen way records n f = bit (enciphered (way n) (records n)) f
+
+-- what an entry of the nuggets below m says
+pub record Below (on : ℕ → ℕ → Bool) (m p : ℕ) (e : Entry) : Type 0 where
   pub under : e .nugget < m
   pub few : e .flake < p
+  pub holds : on (e .nugget) (e .flake) ≡ true
 
-below-next : (m p : ℕ) (e : Entry) → Below m p e → Below (suc m) p e
-below-next m p e x = record { under = omega (arith, x .under); few = x .few }
+below-next : (on : ℕ → ℕ → Bool) (m p : ℕ) (e : Entry) → Below on m p e → Below on (suc m) p e
+below-next on m p e x = record { under = omega (arith, x .under); few = x .few; holds = x .holds }
 
-pub each-to : (p : ℕ) (way : ℕ → Way) (records : ℕ → Record) (s : List ℕ) (m : ℕ) → Each (Below m p) (padsTo p way records s m)
+of-below : (on : ℕ → ℕ → Bool) (m p : ℕ) (e : Entry) → Of m (on m) p e → Below on (suc m) p e
+of-below on m p e x =
+    let q = x .own in
+    record { under = omega (arith, q); few = x .few; holds = ap (λ (n : ℕ). on n (e .flake)) q ∙ x .on }
+
+pub each-to : (p : ℕ) (way : ℕ → Way) (records : ℕ → Record) (s : List ℕ) (m : ℕ) → Each (Below (chosen way records) m p) (padsTo p way records s m)
 unfolding padsTo padsBy
 each-to p way records s zero = tt
 each-to p way records s (suc m) =
     let k = keycountAfter (way m) (records m) in
-    let g = bit (enciphered (way m) (records m)) in
-    each-append (Below (suc m) p) (padsTo p way records s m) (padsOf m k s g p)
-    (each-map (Below m p) (Below (suc m) p) (padsTo p way records s m) (below-next m p) (each-to p way records s m))
-    (each-map (Of m g p) (Below (suc m) p) (padsOf m k s g p) (λ e x. record { under = let q = x .own in omega (arith, q); few = x .few }) (each-pads m k s g p))
+    let on = chosen way records in
+    each-append (Below on (suc m) p) (padsTo p way records s m) (padsOf m k s (on m) p)
+    (each-map (Below on m p) (Below on (suc m) p) (padsTo p way records s m) (below-next on m p) (each-to p way records s m))
+    (each-map (Of m (on m) p) (Below on (suc m) p) (padsOf m k s (on m) p) (of-below on m p) (each-pads m k s (on m) p))

@@ -28,7 +28,7 @@ use Rattle.keys.specs.Pads.{under}
 use Rattle.keys.specs.Tags.{tagOf}
 use Rattle.nuggets.specs.Nugget.{recordOf, storedIn}
 use Rattle.changes.specs.Laid.{laidFlake, laidEntry, laid}
-use Rattle.changes.proofs.Each.{Each, each-map, Of, each-pads, Below, each-to}
+use Rattle.changes.proofs.Each.{Each, each-map, Of, each-pads, chosen, Below, each-to}
 use Rattle.changes.proofs.CellLaws.{Other, differ}
 use Rattle.changes.proofs.LaidLaws.{laid-append, length-laid, laid-lent, laid-leaves, flake-put, tag-put, Long, Clear, Stands, clear-below, clear-node, clear-flake, clear-tag}
 
@@ -53,7 +53,7 @@ of-stands s n k x g p a b =
 
 pub to-stands : (s : Shape) (way : ℕ → Way) (records : ℕ → Record) (x : List ℕ) (m : ℕ) → m ≤ s .n → Each (Stands s) (padsTo (s .p) way records x m)
 to-stands s way records x m h =
-    each-map (Below m (s .p)) (Stands s) (padsTo (s .p) way records x m)
+    each-map (Below (chosen way records) m (s .p)) (Stands s) (padsTo (s .p) way records x m)
     (λ e o. let low = o .under in record { nugget = omega (arith, low, h); flake = o .few }) (each-to (s .p) way records x m)
 
 -- an entry of the volume's that is another flake's
@@ -70,7 +70,7 @@ module _ (s : Shape) (n f : ℕ) (a : n < s .n) (b : f < s .p) where
   -- entries of nuggets before n
   pub below-far : (way : ℕ → Way) (records : ℕ → Record) (x : List ℕ) (m : ℕ) → m ≤ n → Each (Far s n f) (padsTo (s .p) way records x m)
   below-far way records x m h =
-      each-map (Below m (s .p)) (Far s n f) (padsTo (s .p) way records x m)
+      each-map (Below (chosen way records) m (s .p)) (Far s n f) (padsTo (s .p) way records x m)
       (λ e o. let low = o .under in (record { nugget = omega (arith, low, h, a); flake = o .few }, λ p q. omega (arith, low, h, p))) (each-to (s .p) way records x m)
 
   -- entries of another nugget

@@ -1,0 +1,115 @@
+-- Records stored one after another: what each nugget's record is then, and what they leave.
+use mathlib.Core.Path.{_≡_, refl, ap, sym, _∙_}
+use mathlib.Core.Logic.{_⊎_, inl, inr, ⊎-elim}
+use mathlib.Core.Bool.{Bool, true, false}
+use mathlib.Core.List.{List}
+use Prim.Native.Nat.{ℕ, zero, suc, _+_, _-_, _*_, _<_, _≤_}
+use native.Mathlib.Omega.{arith}
+use lib.ListN.{length}
+use lib.Seq.{sets, length-sets}
+use Rattle.base.specs.Pick.{pick}
+use Rattle.base.specs.Lists.{part}
+use Rattle.base.proofs.PickLaws.{yes, no, told, clash}
+use Rattle.layout.specs.declared.Shape.{Shape}
+use Rattle.layout.specs.Lent.{Lent}
+use Rattle.layout.specs.Parts.{recordAt, tagsAt, lengthOf}
+use Rattle.layout.proofs.Places.{record-inside, parts-inside}
+use Rattle.records.specs.declared.Record.{Record}
+use Rattle.records.specs.declared.Way.{Way}
+use Rattle.records.specs.declared.Way.the-variants.{Idle, Add, Rekey}
+use Rattle.records.specs.Record.{recordBytes, recordIn, Widths}
+use Rattle.records.specs.Rule.{turned}
+use Rattle.records.proofs.RecordLaws.{length-record, read-stored}
+use Rattle.records.proofs.RuleLaws.{turned-idle}
+use Rattle.nuggets.specs.Nugget.{recordOf}
+use Rattle.changes.specs.Change.{idles, marked, markedTo}
+use Rattle.changes.proofs.CellLaws.{Apart, part-apart, ordered}
+use Rattle.changes.proofs.PadsLaws.{record-told}
+
+-- an idle way is Idle
+pub idle-is : (way : Way) → idles way ≡ true → way ≡ Idle
+idle-is Idle e = refl
+idle-is (Add t) e = absurd (clash e refl)
+idle-is (Rekey t) e = absurd (clash e refl)
+
+module _ (head : ℕ) (way : Way) (r : Record) (n : ℕ) (w : List ℕ) where
+  pub mark-idle : idles way ≡ true → marked head way r n w ≡ w
+  unfolding marked
+  mark-idle e = yes _ e refl
+
+  pub mark-sets : idles way ≡ false → marked head way r n w ≡ sets w (recordAt n) (recordBytes (turned way head r))
+  unfolding marked
+  mark-sets e = no _ e refl
+
+  pub length-mark : length (marked head way r n w) ≡ length w
+  length-mark =
+      ⊎-elim (λ e. ap length (mark-idle e)) (λ e. ap length (mark-sets e) ∙ length-sets w (recordAt n) (recordBytes (turned way head r))) (told (idles way))
+
+  -- a part that doesn't meet the record stays
+  pub mark-leaves : (at k : ℕ) → (idles way ≡ false → Apart at k (recordAt n) 18) → part at k (marked head way r n w) ≡ part at k w
+  mark-leaves at k h =
+      ⊎-elim (λ e. ap (part at k) (mark-idle e))
+      (λ e. ap (part at k) (mark-sets e) ∙ part-apart at k w (recordAt n) 18 (recordBytes (turned way head r)) (length-record (turned way head r)) (h e))
+      (told (idles way))
+
+  -- the nugget's record is the one turned
+  pub mark-put : Widths (turned way head r) → recordAt n + 18 ≤ length w → recordOf w n ≡ r → recordOf (marked head way r n w) n ≡ turned way head r
+  mark-put wide room was =
+      ⊎-elim (λ e. ap (λ (x : List ℕ). recordOf x n) (mark-idle e) ∙ was ∙ turned-idle way head r (idle-is way e))
+      (λ e. ap (λ (x : List ℕ). recordOf x n) (mark-sets e) ∙ read-stored w (recordAt n) (turned way head r) wide room)
+      (told (idles way))
+
+-- records of two nuggets don't meet
+pub records-apart : (n m : ℕ) → (n ≡ m → ⊥) → Apart (recordAt n) 18 (recordAt m) 18
+records-apart n m h =
+    ⊎-elim (λ a. inl (omega (arith, a))) (λ a. ⊎-elim (λ b. inr (omega (arith, b))) (λ b. absurd (h (omega (arith, a, b)))) (ordered m n)) (ordered n m)
+
+module _ (head : ℕ) (way : ℕ → Way) (v : List ℕ) where
+  pub length-marks : (m : ℕ) (w : List ℕ) → length (markedTo head way v m w) ≡ length w
+  unfolding markedTo
+  length-marks zero w = refl
+  length-marks (suc m) w = length-mark head (way m) (recordOf v m) m (markedTo head way v m w) ∙ length-marks m w
+
+  pub marks-lent : (s : Shape) (m : ℕ) (w : List ℕ) → Lent s w → Lent s (markedTo head way v m w)
+  marks-lent s m w l = record { limited = l .limited; size = length-marks m w ∙ l .size }
+
+  pub marks-leave : (at k m : ℕ) (w : List ℕ) → ((n : ℕ) → n < m → idles (way n) ≡ false → Apart at k (recordAt n) 18) → part at k (markedTo head way v m w) ≡ part at k w
+  unfolding markedTo
+  marks-leave at k zero w h = refl
+  marks-leave at k (suc m) w h =
+      mark-leaves head (way m) (recordOf v m) m (markedTo head way v m w) at k (h m (omega arith)) ∙ marks-leave at k m w (λ n c. h n (omega (arith, c)))
+
+  -- all that stands before and behind the records
+  pub marks-above : (s : Shape) (at k m : ℕ) (w : List ℕ) → m ≤ s .n → tagsAt s ≤ at → part at k (markedTo head way v m w) ≡ part at k w
+  marks-above s at k m w h c = marks-leave at k m w (λ n low off. inr (omega (arith, low, h, c)))
+
+  pub marks-head : (m : ℕ) (w : List ℕ) → part 0 104 (markedTo head way v m w) ≡ part 0 104 w
+  marks-head m w = marks-leave 0 104 m w (λ n low off. inl (omega arith))
+
+  -- records not reached yet
+  pub marks-later : (n m : ℕ) (w : List ℕ) → m ≤ n → part (recordAt n) 18 (markedTo head way v m w) ≡ part (recordAt n) 18 w
+  marks-later n m w h = marks-leave (recordAt n) 18 m w (λ q low off. inr (omega (arith, low, h)))
+
+  -- an idle nugget's record
+  pub marks-idle : (n m : ℕ) (w : List ℕ) → idles (way n) ≡ true → part (recordAt n) 18 (markedTo head way v m w) ≡ part (recordAt n) 18 w
+  marks-idle n m w idle = marks-leave (recordAt n) 18 m w (λ q low off. records-apart n q (λ e. clash (ap (λ (x : ℕ). idles (way x)) (sym e) ∙ idle) off))
+
+  -- and each that was reached
+  pub marks-put : (n m : ℕ) (w : List ℕ) → n < m → Widths (turned (way n) head (recordOf v n)) → recordAt n + 18 ≤ length w → recordOf w n ≡ recordOf v n
+      → recordOf (markedTo head way v m w) n ≡ turned (way n) head (recordOf v n)
+  unfolding markedTo
+  marks-put n zero w c wide room was = absurd (omega (arith, c))
+  marks-put n (suc m) w c wide room was =
+      let u = markedTo head way v m w in
+      ⊎-elim
+      (λ low.
+      record-told (recordAt n) (marked head (way m) (recordOf v m) m u) u
+      (mark-leaves head (way m) (recordOf v m) m u (recordAt n) 18 (λ off. inl (omega (arith, low))))
+      ∙ marks-put n m w low wide room was)
+      (λ high.
+      mine m u (omega (arith, high, c)) (rw (length-marks m w) room)
+      (record-told (recordAt n) u w (marks-later n m w high) ∙ was))
+      (ordered n m)
+    where
+      mine : (q : ℕ) (u : List ℕ) → n ≡ q → recordAt n + 18 ≤ length u → recordOf u n ≡ recordOf v n → recordOf (marked head (way q) (recordOf v q) q u) n ≡ turned (way n) head (recordOf v n)
+      mine q u e space was = rw (← e) (mark-put head (way n) (recordOf v n) n u wide space was)
