@@ -5,3 +5,5 @@ pub mod PadsLaws
 pub mod PutLaws
 pub mod MarkLaws
 pub mod TendLaws
+pub mod ViewLaws
+pub mod SettleLaws
