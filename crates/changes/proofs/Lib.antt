@@ -7,3 +7,4 @@ pub mod MarkLaws
 pub mod TendLaws
 pub mod ViewLaws
 pub mod SettleLaws
+pub mod SpanLaws
