@@ -1,0 +1,4 @@
+pub mod DoneLaws
+pub mod AnswerLaws
+pub mod Refusals
+pub mod Outcomes

@@ -1,0 +1,46 @@
+use Rattle.changes.specs.Rekey.{finishAnswer}
+use Rattle.rekeying.specs.Stages.{finishTests}
+use Rattle.drive.proofs.OpeningLaws.{opening-lent}
+use Rattle.answers.specs.Numbers.{accepts}
+use Rattle.answers.proofs.StageLaws.{goes-on, stops}
+use Rattle.base.proofs.PickLaws.{yes, no}
+use mathlib.Core.Path.{refl, sym, _∙_, ap}
+use borrow.Author.Needs.{needs}
+use Rattle.rekeying.proofs.admit.finish.Statement.{statement}
+use Rattle.rekeying.proofs.admit.finish.Tie as tie
+
+opening-requires : tie.Need-opening-requires
+opening-requires c κs = search needs
+
+accepted-requires : tie.Need-accepted-requires
+accepted-requires c κs = search needs
+
+is-changing-requires : tie.Need-is-changing-requires
+is-changing-requires c κs = search needs
+
+finish-tests-requires : tie.Need-finish-tests-requires
+finish-tests-requires c κs = opening-lent (c .before .before .before .before .before .before .args .d) (c .before .before .before .before .before .before .args .vol .now) (ap accepts (sym (c .before .before .before .before .opening .ensures)) ∙ sym (c .before .before .before .accepted .ensures) ∙ c .before .before .if1 .taken)
+
+returns : tie.Need-returns
+unfolding finishAnswer finishTests
+returns c = c .finish-tests .ensures ∙ sym (goes-on _ _ (ap accepts (sym (c .before .before .before .before .before .opening .ensures)) ∙ sym (c .before .before .before .before .accepted .ensures) ∙ c .before .before .before .if1 .taken) ∙ yes _ (sym (c .before .before .is-changing .ensures) ∙ c .before .if2 .taken) refl)
+
+returns-2 : tie.Need-returns-2
+unfolding finishAnswer
+returns-2 c = sym (goes-on _ _ (ap accepts (sym (c .before .before .before .before .opening .ensures)) ∙ sym (c .before .before .before .accepted .ensures) ∙ c .before .before .if1 .taken) ∙ no _ (sym (c .before .is-changing .ensures) ∙ c .if2 .left) refl)
+
+returns-3 : tie.Need-returns-3
+unfolding finishAnswer
+returns-3 c = c .before .before .opening .ensures ∙ sym (stops _ _ (ap accepts (sym (c .before .before .opening .ensures)) ∙ sym (c .before .accepted .ensures) ∙ c .if1 .left))
+
+pub finish-spec : {M : Type 1} → statement M
+finish-spec =
+    tie.close
+    (tie.spec
+    opening-requires
+    accepted-requires
+    is-changing-requires
+    finish-tests-requires
+    returns
+    returns-2
+    returns-3)
