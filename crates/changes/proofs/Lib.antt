@@ -8,3 +8,4 @@ pub mod TendLaws
 pub mod ViewLaws
 pub mod SettleLaws
 pub mod SpanLaws
+pub mod SweepLaws

@@ -1,0 +1,120 @@
+-- A sweep changes one nugget: all others are idle, and each flake keeps its contents.
+use mathlib.Core.Path.{_≡_, refl, sym, _∙_, ap}
+use mathlib.Core.Bool.{Bool, true, false}
+use mathlib.Core.List.{List, [], _∷_}
+use Prim.Native.Nat.{ℕ, suc, _-_, _<_}
+use native.Mathlib.Omega.{arith}
+use borrow.Author.Tests.{eq-eqb, ne-eqb, le-ltb}
+use lib.Dec.{leb, ltb}
+use lib.ListN.{length, getD}
+use lib.Seq.{ext-getD}
+use Rattle.base.specs.Pick.{pick, both}
+use Rattle.base.proofs.PickLaws.{yes, no}
+use Rattle.base.proofs.TabLaws.{length-tab, getD-tab}
+use Rattle.layout.specs.declared.Shape.{Shape}
+use Rattle.layout.specs.Lent.{Lent}
+use Rattle.layout.specs.Spots.{offsetAt}
+use Rattle.records.specs.declared.Record.{Record}
+use Rattle.records.specs.declared.Way.the-variants.{Idle}
+use Rattle.records.specs.Rule.{sweepWay}
+use Rattle.records.specs.Listing.{Entry, padsBy, padsTo}
+use Rattle.drive.specs.declared.Drive.{Drive}
+use Rattle.drive.specs.Drive.{shapeOf}
+use Rattle.nuggets.specs.Nugget.{recordOf, nuggetOf, contentsOf}
+use Rattle.nuggets.proofs.PieceLaws.{length-contents}
+use Rattle.changes.specs.Laid.{over, written, laidEntry, laid}
+use Rattle.changes.specs.Change.{padsFor, marked, markedTo, tended, tendedTo, worked}
+use Rattle.changes.specs.Write.{newContents}
+use Rattle.changes.specs.Rekey.{sweepWays, sweepWork}
+use Rattle.changes.proofs.Each.{Each, each-map}
+use Rattle.changes.proofs.LaidLaws.{Stands}
+use Rattle.changes.proofs.PadsLaws.{to-stands, laid-record}
+use Rattle.changes.proofs.SpanLaws.{still-to, pads-idle-to, marked-idle, tended-idle}
+
+pub way-own : (n : ℕ) → sweepWays n n ≡ sweepWay
+way-own n = yes _ (eq-eqb n n refl) refl
+
+pub way-other : (n m : ℕ) → (m ≡ n → ⊥) → sweepWays n m ≡ Idle
+way-other n m h = no _ (ne-eqb m n h) refl
+
+-- an account that moves at n alone
+alone : {A : Type 0} (f : ℕ → A) (n k : ℕ) → n < k → ((m : ℕ) → (m ≡ n → ⊥) → f (suc m) ≡ f m) → (f k ≡ f (suc n)) × (f n ≡ f 0)
+alone f n k h g = (still-to f (suc n) k h (λ m a b. g m (λ e. omega (arith, a, e))), still-to f 0 n (omega arith) (λ m a b. g m (λ e. omega (arith, b, e))))
+
+-- what is listed, marked and tended is the nugget's own
+module _ (n k : ℕ) (h : n < k) where
+  pub sweep-pads : (p : ℕ) (records : ℕ → Record) (s : List ℕ) → padsTo p (sweepWays n) records s k ≡ padsBy p sweepWay n (records n) s
+  unfolding padsTo
+  sweep-pads p records s =
+      let (behind, before) = alone (padsTo p (sweepWays n) records s) n k h (λ m q. pads-idle-to (sweepWays n) m (way-other n m q) p records s) in
+      behind ∙ rw (before, way-own n)
+
+  pub sweep-marks : (head : ℕ) (v w : List ℕ) → markedTo head (sweepWays n) v k w ≡ marked head sweepWay (recordOf v n) n w
+  unfolding markedTo
+  sweep-marks head v w =
+      let (behind, before) = alone (λ m. markedTo head (sweepWays n) v m w) n k h (λ m q. marked-idle (sweepWays n) m (way-other n m q) head v w) in
+      behind ∙ rw (before, way-own n)
+
+  pub sweep-tends : (s : Shape) (w : List ℕ) → tendedTo s (sweepWays n) k w ≡ tended s sweepWay n w
+  unfolding tendedTo
+  sweep-tends s w =
+      let (behind, before) = alone (λ m. tendedTo s (sweepWays n) m w) n k h (λ m q. tended-idle (sweepWays n) m (way-other n m q) s w) in
+      behind ∙ rw (before, way-own n)
+
+-- no bytes written leave the contents
+none-over : (a was : ℕ) → over 0 [] a was ≡ was
+none-over a was = go (leb 0 a) (ltb a 0) (le-ltb a 0 (omega arith))
+  where
+    go : (x y : Bool) → y ≡ false → pick (both x y) (getD [] (a - 0) 0) was ≡ was
+    go true y e = rw e refl
+    go false y e = refl
+
+pub none-written : (s : Shape) (n f : ℕ) (was : List ℕ) → length was ≡ s .f → written s 0 [] n f was ≡ was
+unfolding written
+none-written s n f was e =
+    ext-getD 0 (written s 0 [] n f was) was (length-tab (s .f) _ ∙ sym e) (λ i q.
+    getD-tab (s .f) _ i 0 (omega (arith, q, length-tab (s .f) (λ b. over 0 [] (offsetAt s n f b) (getD was b 0)))) ∙ none-over (offsetAt s n f i) (getD was i 0))
+
+pub kept-contents : (d : Drive) (v : List ℕ) → Lent (shapeOf d) v → (n f : ℕ) → n < d .n → f < d .p → newContents d v 0 [] n f ≡ contentsOf d v n f
+kept-contents d v l n f a b = none-written (shapeOf d) n f (contentsOf d v n f) (length-contents (shapeOf d) v (nuggetOf d v n) f l a b)
+
+-- the same new contents of each entry are laid alike
+pub laid-alike : (s : Shape) (salt : List ℕ) (a b : ℕ → ℕ → List ℕ) (es : List Entry) (v : List ℕ) → Each (λ e. a (e .nugget) (e .flake) ≡ b (e .nugget) (e .flake)) es
+    → laid s salt a es v ≡ laid s salt b es v
+unfolding laid laidEntry
+laid-alike s salt a b [] v x = refl
+laid-alike s salt a b (e ∷ es) v x = rw (x .0) (laid-alike s salt a b es _ (x .1))
+
+module _ (d : Drive) (v : List ℕ) (n : ℕ) (l : Lent (shapeOf d) v) (h : n < d .n) where
+  -- the nugget's own flakes and tags, laid as a write of no bytes lays them
+  pub sweep-lays : laid (shapeOf d) (d .salt) (newContents d v 0 []) (padsBy (d .p) sweepWay n (recordOf v n) (d .present)) v
+      ≡ laid (shapeOf d) (d .salt) (contentsOf d v) (padsFor d v (sweepWays n)) v
+  sweep-lays =
+      let s = shapeOf d in
+      let own : padsFor d v (sweepWays n) ≡ padsBy (d .p) sweepWay n (recordOf v n) (d .present) = sweep-pads n (d .n) h (d .p) (recordOf v) (d .present) in
+      ap (λ (es : List Entry). laid s (d .salt) (newContents d v 0 []) es v) (sym own)
+      ∙ laid-alike s (d .salt) (newContents d v 0 []) (contentsOf d v) (padsFor d v (sweepWays n)) v
+      (each-map (Stands s) (λ e. newContents d v 0 [] (e .nugget) (e .flake) ≡ contentsOf d v (e .nugget) (e .flake)) (padsFor d v (sweepWays n))
+      (λ e o. kept-contents d v l (e .nugget) (e .flake) (o .nugget) (o .flake)) (to-stands s (sweepWays n) (recordOf v) (d .present) (d .n) (omega arith)))
+
+  -- its record stands through that
+  pub sweep-record : recordOf (laid (shapeOf d) (d .salt) (contentsOf d v) (padsFor d v (sweepWays n)) v) n ≡ recordOf v n
+  sweep-record =
+      let s = shapeOf d in
+      laid-record s (d .salt) (contentsOf d v) (λ m f a b. length-contents s v (nuggetOf d v m) f l a b) n (padsFor d v (sweepWays n)) v
+      (to-stands s (sweepWays n) (recordOf v) (d .present) (d .n) (omega arith)) h
+
+  -- record and path of the nugget, stored one after the other, are all that is left
+  pub sweep-works : {x y z : List ℕ} → x ≡ laid (shapeOf d) (d .salt) (newContents d v 0 []) (padsBy (d .p) sweepWay n (recordOf v n) (d .present)) v
+      → y ≡ marked (d .epoch) sweepWay (recordOf x n) n x → z ≡ tended (shapeOf d) sweepWay n y → z ≡ sweepWork d v n
+  unfolding worked
+  sweep-works ex ey ez =
+      let base = ex ∙ sweep-lays in
+      let w = laid (shapeOf d) (d .salt) (contentsOf d v) (padsFor d v (sweepWays n)) v in
+      ez
+      ∙ ap (λ (u : List ℕ). tended (shapeOf d) sweepWay n u)
+      (ey
+      ∙ ap (λ (u : List ℕ). marked (d .epoch) sweepWay (recordOf u n) n u) base
+      ∙ ap (λ (r : Record). marked (d .epoch) sweepWay r n w) sweep-record
+      ∙ sym (sweep-marks n (d .n) h (d .epoch) v w))
+      ∙ sym (sweep-tends n (d .n) h (shapeOf d) (markedTo (d .epoch) (sweepWays n) v (d .n) w))
