@@ -6,6 +6,7 @@ import tracemalloc
 
 import calls
 import sheet
+from answers import FLAKE, HEAD, NODE, RECORD
 from drive import BLANK, Drive, drive_of_image
 from layout import layout
 
@@ -22,6 +23,12 @@ POSSIBLE = {
     "write": {0, 1, 2, 7, 8, 13, 14}, "begin": {0, 1, 2, 7, 9, 10, 13, 15},
     "sweep": {0, 1, 2, 7, 8, 9, 12, 13, 14}, "finish": {0, 1, 2, 7, 9, 11, 13},
     "report": {0, 1, 2, 7}, "stored_flake": {0, 1, 2, 8},
+}
+# Which places each call's 7 may carry. Mount tests the head by its seal.
+PLACES = {
+    "mount": {RECORD, NODE}, "read": {HEAD, RECORD, NODE, FLAKE},
+    "write": {HEAD, RECORD, NODE, FLAKE}, "begin": {HEAD}, "sweep": {HEAD, RECORD, NODE, FLAKE},
+    "finish": {HEAD, RECORD, NODE}, "report": {HEAD, RECORD, NODE},
 }
 
 

@@ -1,28 +1,30 @@
-"""Random histories of calls: mixed with wrong secrets, damage, stale images and refusals."""
+"""Random histories of 40 calls.
+
+Clean ones begin with an accepted format, or with a volume sealed near the tops of its numbers;
+demands 2 and 3 are held against them after every call, and damaged copies, wrong secrets and
+stale images are tried beside them. Hostile ones go on from the damage itself.
+"""
 
 import random
 
 import calls
 from layout import layout
 
+from checks.choose import TOP, a_range, secret, shape
 from checks.history import History
-from checks.make import SALT, Spec, made, some_text
+from checks.hostile import Hostile
+from checks.make import Spec, made, some_text
 
-COUNT, STEPS = 600, 40
-TOP = 2**64 - 1
-
-
-def secret(chance):
-    return bytes(chance.randrange(256) for _ in range(32))
+COUNT, STEPS = 400, 40
 
 
 def fresh(tally, chance, words):
     """A history that begins with an accepted format."""
-    n, p, f = chance.randint(1, 5), chance.randint(1, 4), chance.choice((64, 64, 128))
-    outside = chance.choice((0, 7, 2**32 - 1, TOP - 20))
-    spec = Spec(n, p, f, 0, 1, outside + 1, [[0, 0, 1]] * n, secret(chance), bytes(32))
+    n, p, f = shape(chance)
+    outside, salt = chance.choice((0, 7, 2**32 - 1, TOP - 20)), chance.randbytes(16)
+    spec = Spec(n, p, f, 0, 1, outside + 1, [[0, 0, 1]] * n, secret(chance), bytes(32), salt=salt)
     old_bytes = bytes([chance.randrange(256)]) * layout(n, p, f).length
-    got = calls.format(old_bytes, n, p, f, SALT, spec.present, outside)
+    got = calls.format(old_bytes, n, p, f, salt, spec.present, outside)
     tally.same(f"{words}: format", (got.answer.number, got.drive, got.volume), (0,) + made(spec))
     return History(tally, words, spec)
 
@@ -38,15 +40,6 @@ def near_tops(tally, chance, words):
     old = secret(chance) if state else bytes(32)
     return History(tally, words, Spec(n, p, f, state, epoch, counter, records, secret(chance), old,
                                       some_text))
-
-
-def a_range(chance, size):
-    """Mostly within the drive, of all lengths, at times past its end."""
-    offset = chance.randint(0, size)
-    length = chance.choice((0, 1, 64, chance.randint(0, size), size - offset))
-    if chance.random() < 0.9:
-        length = min(length, size - offset)
-    return (TOP, length) if chance.random() < 0.02 else (offset, length)
 
 
 def a_change(chance, history):
@@ -77,14 +70,17 @@ def damage(chance, history):
 
 
 def step(chance, history):
-    kind = chance.choices(("change", "read", "report", "stale", "wrong", "damage"),
-                          (12, 4, 1, 2, 1, 5))[0]
+    kind = chance.choices(("change", "read", "report", "stored", "stale", "wrong", "damage"),
+                          (12, 4, 1, 1, 2, 1, 4))[0]
+    model = history.model
     if kind == "change":
         history.change(*a_change(chance, history))
     elif kind == "read":
-        history.read(*a_range(chance, history.model.size()))
+        history.read(*a_range(chance, model.size()))
     elif kind == "report":
         history.report()
+    elif kind == "stored":
+        history.stored_flake(chance.randint(0, model.n), chance.randint(0, model.p))
     elif kind == "stale":
         history.stale(chance)
     elif kind == "wrong":
@@ -93,16 +89,35 @@ def step(chance, history):
         damage(chance, history)
 
 
+def clean(tally, chance, words, begins):
+    """The numbers that its calls were answered."""
+    history = begins(tally, chance, words)
+    history.mount()
+    for _ in range(STEPS):
+        step(chance, history)
+    history.read(0, history.model.size())
+    history.report()
+    history.stale_all()
+    return history.met
+
+
+def hostile(tally, chance, words):
+    history = Hostile(tally, words, chance, shape(chance))
+    for _ in range(STEPS):
+        history.step()
+
+
+def one(tally, i):
+    """History number i of a seed: of each eight, three are hostile, two begin near the tops."""
+    chance, words = random.Random(f"history {i} {tally.seed}"), f"history {i}"
+    if i % 8 in (1, 4, 6):
+        hostile(tally, chance, words)
+        return set()
+    return clean(tally, chance, words, near_tops if i % 8 in (3, 7) else fresh)
+
+
 def run(tally):
     met = set()
     for i in range(COUNT):
-        chance = random.Random(f"history {i} {tally.seed}")
-        words = f"history {i}"
-        history = (near_tops if i % 4 == 3 else fresh)(tally, chance, words)
-        history.mount()
-        for _ in range(STEPS):
-            step(chance, history)
-        history.read(0, history.model.size())
-        history.report()
-        met |= history.met
+        met |= one(tally, i)
     tally.same("every answer of an undamaged history was met", met, {0, *range(8, 16)})

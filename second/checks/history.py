@@ -3,29 +3,25 @@
 import calls
 from drive import BLANK
 
-from checks.make import flipped, made, mixed, pad_of
-from checks.model import Model, records_in
+from checks.ledger import Ledger, ones, records_in
+from checks.make import flipped, made
+from checks.model import Model
 
 
 class History:
     def __init__(self, tally, words, spec):
         self.tally, self.words = tally, words
-        self.model = Model(spec)
+        self.model, self.ledger = Model(spec), Ledger(tally, words, spec)
         self.drive, self.volume = made(spec)
         self.secrets = [spec.present, spec.old, bytes(32)]
-        self.images, self.entries, self.last, self.retired = [], set(), {}, 0
-        for n, (keycount, _, epoch) in enumerate(spec.records):
-            secret = spec.present if epoch == spec.epoch else spec.old
-            for f in self.model.flakes(n):
-                self.entries.add((n, keycount, f))
-                self.last[n, f] = (n, keycount, f, secret)
-        self.met = set()
+        self.images, self.met = [], set()
 
     def same(self, what, got, want):
         self.tally.same(f"{self.words}: {what}", got, want)
 
     def change(self, name, *values):
-        """A changing call on the drive and volume as last left."""
+        """A changing call on the drive and volume as last left. The model never gives 1 to 7:
+        there is no false alarm."""
         want, pads = getattr(self.model, name)(*values)
         got = getattr(calls, name)(self.drive, self.volume, *values)
         self.met.add(want)
@@ -39,40 +35,10 @@ class History:
         self.images.append(self.volume)
         before, self.drive, self.volume = self.volume, got.drive, got.volume
         self.secrets += [self.model.present] if name == "begin" else []
-        self.demands(before, got.pads)
-        self.mount()
-        got = calls.mount(before, self.model.present, self.model.old, self.model.counter)
-        self.tally.holds(f"{self.words}: the image just left", got.answer.number in (4, 5, 6))
-
-    def demands(self, before, pads):
-        """Layout byte for byte, the list of encipherings, and each present flake's pad."""
         self.same("drive and volume", (self.drive, self.volume), made(self.model.spec()))
-        was, now = records_in(before, self.model.n), records_in(self.volume, self.model.n)
-        for one, other in zip(was, now):
-            self.tally.holds("keycount rises by one at most", other[0] - one[0] in (0, 1))
-            self.retired += (other[0] - one[0]) * bin(one[1]).count("1")
-        for pad in pads:
-            self.tally.holds(f"{self.words}: {pad[:3]} listed once", pad[:3] not in self.entries)
-            self.entries.add(pad[:3])
-            self.last[pad.nugget, pad.flake] = tuple(pad)
-        present = sum(bin(record[1]).count("1") for record in now)
-        self.same("entries listed", len(self.entries), present + self.retired)
-        self.flakes(now)
-
-    def flakes(self, records):
-        """Stored bytes are the shadow under the pad last listed, whose secret is its epoch's."""
-        model, at = self.model, len(self.volume) - self.model.size()
-        for n, (keycount, journal, epoch) in enumerate(records):
-            secret = model.present if epoch == model.epoch else model.old
-            for f in range(model.p):
-                if not journal >> f & 1:
-                    continue
-                start = at + (n * model.p + f) * model.f
-                listed = self.last.get((n, f))
-                self.same(f"pad last listed for {n} {f}", listed, (n, keycount, f, secret))
-                pad = pad_of(secret, model.salt, n, keycount, f, model.f)
-                self.same(f"flake {n} {f}", self.volume[start:start + model.f],
-                          mixed(model.text(n, f, model.f), pad))
+        self.ledger.changed(before, self.volume, got.pads, self.model)
+        self.mount()
+        self.stale_mount(before, self.model.present, self.model.old)
 
     def mount(self):
         """With the right secrets and counter: accepted, and the very drive."""
@@ -80,18 +46,30 @@ class History:
         got = calls.mount(self.volume, model.present, model.old, model.counter)
         self.same("mount", got, calls.Result(calls.ACCEPTED, self.drive, self.volume))
 
+    def stale_mount(self, image, present, old):
+        got = calls.mount(image, present, old, self.model.counter)
+        self.tally.holds(f"{self.words}: stale image", got.answer.number in (4, 5, 6))
+        self.same("stale image drive", got.drive, BLANK)
+
     def stale(self, chance):
-        """An image left before the last accepted change, with any secrets of the history."""
+        """An image left before the last accepted change, with secrets of the history."""
         if not self.images:
             return
         image = chance.choice(self.images)
         for present in set(self.secrets):
-            old = chance.choice(self.secrets)
-            got = calls.mount(image, present, old, self.model.counter)
-            self.tally.holds(f"{self.words}: stale image", got.answer.number in (4, 5, 6))
-            self.same("stale image drive", got.drive, BLANK)
+            self.stale_mount(image, present, chance.choice(self.secrets))
         got = calls.report(self.drive, image)
         self.same("stale image under the drive", (got.answer.number, got.answer.place.kind), (7, 1))
+
+    def stale_all(self):
+        """Every image left so far, with every two secrets of the history."""
+        secrets = set(self.secrets)
+        for image in self.images:
+            for present in secrets:
+                # The old secret enters only after the seal: the rest need not be tried.
+                fits = calls.mount(image, present, present, self.model.counter).answer.number != 4
+                for old in secrets if fits else [self.model.old]:
+                    self.stale_mount(image, present, old)
 
     def wrong_mount(self, chance):
         model, wrong = self.model, bytes([chance.randrange(256)]) + bytes(31)
@@ -105,6 +83,7 @@ class History:
         self.same("wrong counter", got, calls.Result(calls.Answer(6), BLANK, self.volume))
 
     def read(self, offset, length):
+        """What is written is what is later read. A place never written reads as zero."""
         want = self.model.read(offset, length)
         got = calls.read(self.drive, self.volume, offset, b"?" * length)
         self.met.add(want)
@@ -113,9 +92,25 @@ class History:
                   (want, buffer, self.drive, self.volume, ()))
 
     def report(self):
+        """The model's numbers, and those of the records themselves."""
         got = calls.report(self.drive, self.volume)
         self.same("report", (got.answer.number, tuple(got.report), got.drive, got.volume),
                   (0, self.model.report(), self.drive, self.volume))
+        records = records_in(self.volume, self.model.n)
+        moved = sum(record[2] == self.drive.epoch for record in records)
+        told = got.report
+        self.same("report of the records", (told.moved, told.left, told.flakes),
+                  (moved, len(records) - moved, sum(ones(record[1]) for record in records)))
+        self.same("whole share exactly if nothing is left", told.share == 10000, told.left == 0)
+
+    def stored_flake(self, nugget, flake):
+        model = self.model
+        got = calls.stored_flake(self.drive, self.volume, nugget, flake)
+        want = 8 if nugget >= model.n or flake >= model.p else 0
+        start = len(self.volume) - model.size() + (nugget * model.p + flake) * model.f
+        self.met.add(want)
+        self.same("stored flake", (got.answer.number, got.span, got.drive, got.volume),
+                  (want, (0, 0) if want else (start, model.f), self.drive, self.volume))
 
     def damaged(self, name, values, at, bit):
         """A call on a damaged copy is refused with 7 or does what it does undamaged."""

@@ -3,8 +3,6 @@
 It predicts each call's answer and the encipherings listed, in document 01's words.
 """
 
-import struct
-
 from checks.make import Spec
 
 TOP = 2**64 - 1
@@ -118,8 +116,3 @@ class Model:
 
     def read(self, offset, length):
         return 8 if offset + length > self.size() else 0
-
-
-def records_in(volume, n):
-    """The records as they stand in a volume's bytes."""
-    return [struct.unpack_from("<QQH", volume, 104 + 18 * i) for i in range(n)]
