@@ -1,4 +1,4 @@
--- An accepted stored flake has a shape in limits, so its place is the paper's.
+-- Promises of the C interface, from those of the calls.
 use mathlib.Core.Path.{_≡_, refl, sym, _∙_, ap}
 use mathlib.Core.Bool.{Bool, true, false}
 use mathlib.Core.List.{List}
@@ -11,12 +11,14 @@ use Rattle.answers.specs.Numbers.{numberOf, accepts}
 use Rattle.layout.specs.Shape.{inLimits}
 use Rattle.images.specs.Answers.{answerImage}
 use Rattle.drive.specs.declared.Drive.{Drive}
+use Rattle.drive.specs.declared.Done.{Done}
 use Rattle.drive.specs.Drive.{shapeOf}
 use Rattle.drive.specs.Opening.{inForm}
 use Rattle.drive.proofs.HeadLaws.{form-limits}
 use Rattle.reports.specs.Stored.{storedAnswer}
-use Rattle.ngt.specs.Calls.{Tells}
+use Rattle.ngt.specs.Calls.{Tells, imageAfter, Changed}
 
+-- an accepted stored flake has a shape in limits, so its place is the paper's
 pub stored-limits : (d : Drive) (v : List ℕ) (n f : ℕ) → accepts (storedAnswer d v n f) ≡ true → inLimits (shapeOf d) ≡ true
 unfolding storedAnswer
 stored-limits d v n f h = go (told (inForm d))
@@ -30,3 +32,11 @@ stored-limits d v n f h = go (told (inForm d))
 -- an answer told by its number and its image
 pub tells-by : {a b : Answer} {number : ℕ} {answer : List ℕ} → a ≡ b → number ≡ numberOf a → answer ≡ answerImage a → Tells b number answer
 tells-by e f g = record { told = f ∙ ap numberOf e; shown = g ∙ ap answerImage e }
+
+-- a call that may change drive and volume, told by what it handed back; the drive is the one in the image
+pub changed-by : {d e : Drive} {done : Done} {given vol image answer : List ℕ} {number : ℕ} (done-of : Drive → Done) (volume-of : Drive → List ℕ) → d ≡ e
+    → done ≡ done-of d → vol ≡ volume-of d → image ≡ imageAfter done given → number ≡ numberOf (done .answer) → answer ≡ answerImage (done .answer)
+    → Changed (done-of e) (volume-of e) given number vol image answer
+changed-by {d} {e} {done} {given} done-of volume-of o h v i n a =
+    let same : done ≡ done-of e = h ∙ ap done-of o in
+    record { tells = tells-by (ap (λ (z : Done). z .answer) same) n a; volume = v ∙ ap volume-of o; drive = i ∙ ap (λ (z : Done). imageAfter z given) same }

@@ -5,7 +5,8 @@ use Prim.Native.Nat.{ℕ}
 use Rattle.answers.specs.declared.Answer.{Answer}
 use Rattle.layout.specs.declared.Shape.{Shape}
 use Rattle.drive.specs.declared.Drive.{Drive}
-use Rattle.ngt.specs.Calls.{Tells, Formatted, Mounted, Filled, Reported, Shown}
+use Rattle.drive.specs.declared.Done.{Done}
+use Rattle.ngt.specs.Calls.{Tells, Formatted, Mounted, Filled, Reported, Shown, Changed}
 
 pub one-answer : {a : Answer} {k l : ℕ} {x y : List ℕ} → Tells a k x → Tells a l y → (k ≡ l) × (x ≡ y)
 one-answer p q = (p .told ∙ sym (q .told), p .shown ∙ sym (q .shown))
@@ -28,3 +29,7 @@ one-report p q = (one-answer (p .tells) (q .tells), p .numbers ∙ sym (q .numbe
 pub one-stored-flake : {d : Drive} {v : List ℕ} {n f k l : ℕ} {r t x y : List ℕ} → Shown d v n f k r x → Shown d v n f l t y
     → ((k ≡ l) × (x ≡ y)) × (r ≡ t)
 one-stored-flake p q = (one-answer (p .tells) (q .tells), p .part ∙ sym (q .part))
+
+pub one-change : {done : Done} {after given : List ℕ} {k l : ℕ} {a b i j x y : List ℕ} → Changed done after given k a i x → Changed done after given l b j y
+    → ((k ≡ l) × (x ≡ y)) × ((a ≡ b) × (i ≡ j))
+one-change p q = (one-answer (p .tells) (q .tells), (p .volume ∙ sym (q .volume), p .drive ∙ sym (q .drive)))

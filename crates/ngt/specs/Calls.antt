@@ -11,6 +11,7 @@ use Rattle.layout.specs.declared.Shape.{Shape}
 use Rattle.layout.specs.Parts.{flakeAt}
 use Rattle.images.specs.Answers.{answerImage}
 use Rattle.drive.specs.declared.Drive.{Drive}
+use Rattle.drive.specs.declared.Done.{Done}
 use Rattle.drive.specs.Drive.{shapeOf, zeros}
 use Rattle.packed.specs.Image.{driveImage}
 use Rattle.opening.specs.Format.{formatDone, formatVolume}
@@ -54,3 +55,13 @@ spanOf d v n f = pick (accepts (storedAnswer d v n f)) (le 8 (flakeAt (shapeOf d
 pub record Shown (d : Drive) (v : List ℕ) (n f number : ℕ) (span answer : List ℕ) : Type 0 where
   pub tells : Tells (storedAnswer d v n f) number answer
   pub part : span ≡ spanOf d v n f
+
+-- "An accepted call stores the drive's image anew", a refused one leaves it
+unfoldable pub imageAfter : Done → List ℕ → List ℕ
+imageAfter done given = pick (accepts (done .answer)) (driveImage (done .drive)) given
+
+-- what a call that may change drive and volume leaves, where `after` is the volume by the call's own definition
+pub record Changed (done : Done) (after given : List ℕ) (number : ℕ) (vol image answer : List ℕ) : Type 0 where
+  pub tells : Tells (done .answer) number answer
+  pub volume : vol ≡ after
+  pub drive : image ≡ imageAfter done given
