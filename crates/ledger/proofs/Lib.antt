@@ -1,0 +1,4 @@
+pub mod ListingLaws
+pub mod CallLaws
+pub mod TotalLaws
+pub mod PlaceLaws
