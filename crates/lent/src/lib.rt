@@ -1,0 +1,87 @@
+// The calls on a drive that is lent: "The open drive is one record that the calls change where it stands".
+// It touches `opening`, `reading` and `reports`, whose by-value calls each function here wraps, and `drive` and `answers`.
+use answers::Answer;
+use drive::Drive;
+use reports::Report;
+ghost use mathlib.Core.Path.{_≡_};
+ghost use lib.ListN.{length};
+ghost use Rattle.layout.specs.Shape.{shape};
+ghost use Rattle.opening.specs.Format.{formatDone, formatVolume};
+ghost use Rattle.opening.specs.Mount.{mountDone};
+ghost use Rattle.reading.specs.Read.{readAnswer, readBuffer};
+ghost use Rattle.reports.specs.Report.{reportOf};
+ghost use Rattle.reports.specs.Stored.{storedAnswer, storedFlake};
+
+// "Format takes N, P, F, salt, secret and the outside counter."
+pub fn format_at<'d, 'v>(
+    d: &'d mut Drive,
+    vol: &'v mut [u8],
+    n: u32,
+    p: u32,
+    f: u32,
+    salt: [u8; 16],
+    secret: [u8; 32],
+    outside: u64,
+) -> Answer
+    ensures { λ r. ⌜ (r ≡ formatDone (shape n p f) salt secret outside (now (vol .entry)) .answer)
+        × ((now (d .exit) ≡ formatDone (shape n p f) salt secret outside (now (vol .entry)) .drive)
+        × (now (vol .exit) ≡ formatVolume (shape n p f) salt secret outside (now (vol .entry)))) ⌝ }
+{
+    let r = opening::format(vol, n, p, f, salt, secret, outside);
+    *d = r.drive;
+    r.answer
+}
+
+// "Mount takes both secrets (the old one unused when steady) and the outside counter."
+pub fn mount_at<'d, 'v>(
+    d: &'d mut Drive,
+    vol: &'v [u8],
+    present: [u8; 32],
+    old: [u8; 32],
+    outside: u64,
+) -> Answer
+    ensures { λ r. ⌜ (r ≡ mountDone (now (vol .entry)) present old outside .answer)
+        × (now (d .exit) ≡ mountDone (now (vol .entry)) present old outside .drive) ⌝ }
+{
+    let r = opening::mount(vol, present, old, outside);
+    *d = r.drive;
+    r.answer
+}
+
+// "Read fills the buffer."
+pub fn read_at<'d, 'v, 'b>(d: &'d Drive, vol: &'v [u8], offset: u64, buf: &'b mut [u8]) -> Answer
+    ensures { λ r. ⌜ (r ≡ readAnswer (now (d .entry)) (now (vol .entry)) offset (length (now (buf .entry))))
+        × (now (buf .exit) ≡ readBuffer (now (d .entry)) (now (vol .entry)) offset (now (buf .entry))) ⌝ }
+{
+    let c = *d;
+    reading::read(c, vol, offset, buf)
+}
+
+// "Report gives N, nuggets moved [..], left, flakes present, and share"
+pub fn report_at<'d, 'v>(d: &'d Drive, vol: &'v [u8]) -> Report
+    ensures { λ r. ⌜ r ≡ reportOf (now (d .entry)) (now (vol .entry)) ⌝ }
+{
+    let c = *d;
+    reports::report(c, vol)
+}
+
+// What a stored flake answers: 1, 2, 8.
+pub fn stored_flake_answer_at<'d, 'v>(
+    d: &'d Drive,
+    vol: &'v [u8],
+    nugget: u32,
+    flake: u32,
+) -> Answer
+    ensures { λ r. ⌜ r ≡ storedAnswer (now (d .entry)) (now (vol .entry)) nugget flake ⌝ }
+{
+    let c = *d;
+    reports::stored_flake_answer(c, vol, nugget, flake)
+}
+
+// "shows a backup tool the stored bytes as that part of the volume itself, no copy"
+pub fn stored_flake_at<'d, 'v>(d: &'d Drive, vol: &'v [u8], nugget: u32, flake: u32) -> &'v [u8]
+    ensures { λ r. ⌜ now r ≡ storedFlake (now (d .entry)) (now (vol .entry)) nugget flake ⌝ }
+{
+    let c = *d;
+    reports::stored_flake(c, vol, nugget, flake)
+}
