@@ -15,7 +15,7 @@ pub use ghost.Atoms.{Atoms, sem}
 pub use contract.Monad.{Fun}
 pub use contract.Running.{givenOf, tables}
 pub use contract.Lifetimes.{Lfts, Shares, AllOutlive}
-pub use types.Kit.{Given, ‵, raw, _⊛_, ⋆, _$_, _∵_, !, qed, by, move, drop, use0, use1, use2, use3, split, join, fsplit, fsplit3, fjoin, fjoin3, feqI, feqL, suffices, frame, done}
+pub use types.Kit.{Given, Item, ‵, raw, _⊛_, ⋆, _$_, _∵_, !, qed, by, move, drop, use0, use1, use2, use3, split, join, fsplit, fsplit3, fjoin, fjoin3, feqI, feqL, suffices, frame, done}
 pub use types.Run.{look, init, stop, from, load, and-then, no-more, land, returns, enter, alloc1, alloc0, params1, pass1, pass0, free0}
 pub use types.SemTy.{Body}
 pub use sound.WpLaws.{FmC}

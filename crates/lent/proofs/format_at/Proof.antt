@@ -1,7 +1,7 @@
 -- `format_at` meets its contract: `opening::format` is called on the volume, and the record that it hands back is stored where the lent drive stands.
-use Rattle.lent.proofs.Names.{_≡_, refl, ap, ℕ, [], _∷_, List, length, URA, named, w8, w32, w64, Val, SProp, ent, sep, emp, via, fst∗, id⊢, ftrue, flft, fobs, fbor, Memory, Routine, Heap, Calls, Loops, WpFn, Atoms, sem, Fun, givenOf, tables, Lfts, Shares, AllOutlive}
-use Rattle.lent.proofs.Names.{Given, ‵, raw, _⊛_, ⋆, _$_, _∵_, !, qed, by, move, drop, use0, use1, use2, split, join, fsplit, fsplit3, fjoin, fjoin3, feqI, feqL, suffices, frame, done, look, init, stop, from, load, and-then, no-more, returns, enter, alloc1, alloc0, params1, pass1, pass0, free0}
-use Rattle.lent.proofs.Names.{Body, FmC, RattleType, owns, mem, Is, Are, Ises, Makess, owns-make, shows, u8, u32, u64, uint-makes, uint-vals, uint-tells, Array, array-vals, array-tells, yes, RefT, MutRef, ptr, name, now, ptr-vals, mut-tells, MutSlice, Room, finally, slice-vals, mut-slice-tells, plain, only, owned, peeks, heard}
+use Rattle.lent.proofs.Names.{_≡_, refl, ap, ℕ, [], _∷_, List, length, URA, named, w8, w32, w64, Val, SProp, ent, emp, via, fst∗, id⊢, Fml, ftrue, flft, Memory, Routine, Heap, Calls, Loops, WpFn, Atoms, Fun, givenOf, tables, Lfts, Shares, AllOutlive}
+use Rattle.lent.proofs.Names.{Given, Item, ‵, raw, _⊛_, ⋆, _$_, _∵_, !, qed, by, move, drop, use0, use1, use2, split, join, fsplit, fsplit3, fjoin, fjoin3, feqI, feqL, suffices, frame, done, look, init, stop, from, load, and-then, no-more, returns, enter, alloc1, alloc0, params1, pass1, pass0, free0}
+use Rattle.lent.proofs.Names.{FmC, RattleType, owns, Is, Are, Ises, Makess, owns-make, shows, u8, u32, u64, uint-makes, uint-vals, uint-tells, Array, array-vals, array-tells, yes, RefT, MutRef, name, now, ptr-vals, mut-tells, MutSlice, Room, finally, slice-vals, mut-slice-tells, plain, only, owned, peeks, heard}
 use Rattle.lent.proofs.Names.{Args, Vals, onEntry, tripleOf, Contract, Triple, calls-at, cited, says, Stays, stay-none, stay-ref, gave-slice, walkOf, AllGo, goes-none, goes-ref, goes-gave-slice, Walks, ends-at, walked}
 use denote.Enum.Laws as E
 use Rattle.drive.specs.declared.Drive.{Drive}
@@ -16,7 +16,7 @@ use Rattle.opening.proofs.format as core
 use Rattle.opening.proofs.format.Symbol as core-def
 use Rattle.opening.proofs.format.Symbol.{name as #core}
 use Rattle.opening.proofs.format.Met as core-thm
-use Rattle.lent.proofs.Steps.{said, has-answer, bytes-typed, bytes-make, told, freed, proves}
+use Rattle.lent.proofs.Steps.{said, has-answer, bytes-typed, bytes-make, told, freed, proves, Lent, Seen}
 use Rattle.lent.proofs.Statements.{lent-on, stored}
 use Rattle.lent.proofs.format_at.Key.{name as #self}
 use Rattle.lent.proofs.format_at as self
@@ -47,6 +47,16 @@ module _ {M : Type 1} (𝓤 : URA M) (H : Heap 𝓤) (A : Atoms 𝓤) (W : Given
     abbrev vals : Vals self.signature κs
     vals = (ptr-vals d, (slice-vals x, (uint-vals w32 (a .1 .1 .0), (uint-vals w32 (a .1 .1 .1 .0), (uint-vals w32 (a .1 .1 .1 .1 .0), (array-vals (uint-vals w8) (a .1 .1 .1 .1 .1 .0), (array-vals (uint-vals w8) (a .1 .1 .1 .1 .1 .1 .0), (uint-vals w64 (a .1 .1 .1 .1 .1 .1 .1 .0), tt))))))))
 
+    abbrev Vol : Fml
+    Vol = MutSlice (named 1) (κs .1 .0) u8 .own x (slice-vals x)
+
+    abbrev Tok : Item 𝓤
+    Tok = ‵ (flft (κs .1 .0) (qs .1 .0)) ⊛ ‵ ftrue
+
+    -- what is left once the locals are freed
+    abbrev Left : Done → List ℕ → List (Item 𝓤)
+    Left r zs = ‵ (Seen d (r .drive)) ∷ ‵ (Lent (κs .0) d) ∷ ‵ (flft (κs .0) (qs .0)) ∷ Tok ∷ ‵ (finally u8 (name x) zs) ∷ []
+
     abbrev Post : Val → SProp 𝓤
     Post = walkOf 𝓤 H A self.ended stayed (self.clauses 𝓤 H A at-mem run) .post ((κs, qs, bounds, a, vals), tt)
 
@@ -58,15 +68,15 @@ module _ {M : Type 1} (𝓤 : URA M) (H : Heap 𝓤) (A : Atoms 𝓤) (W : Given
         × (zs ≡ formatVolume (shape (a .1 .1 .0) (a .1 .1 .1 .0) (a .1 .1 .1 .1 .0)) (a .1 .1 .1 .1 .1 .0) (a .1 .1 .1 .1 .1 .1 .0) (a .1 .1 .1 .1 .1 .1 .1 .0) (now x))
 
     module _ (are : Are Plain (Ises Plain) (a .1 .1) (vals .1 .1)) where
-      goes : ent 𝓤 (sep 𝓤 (sep 𝓤 (A .lft (κs .1 .0) (qs .1 .0)) (sem 𝓤 H A ftrue)) (sem 𝓤 H A (MutSlice (named 1) (κs .1 .0) u8 .own x (slice-vals x)))) (Core 𝓤 H A at-mem run .pre to-core)
+      goes : ent 𝓤 (⋆ 𝓤 H A (Tok ∷ ‵ Vol ∷ [])) (Core 𝓤 H A at-mem run .pre to-core)
       goes =
-          qed W ((‵ (flft (κs .1 .0) (qs .1 .0)) ⊛ ‵ ftrue) ∷ ‵ (MutSlice (named 1) (κs .1 .0) u8 .own x (slice-vals x)) ∷ []) ∵ use0 W (‵ (owns Plain (a .1 .1) (vals .1 .1))) (owns-make 𝓤 H A Plain (Ises Plain) makes (a .1 .1) (vals .1 .1) are) $
+          qed W (Tok ∷ ‵ Vol ∷ []) ∵ use0 W (‵ (owns Plain (a .1 .1) (vals .1 .1))) (owns-make 𝓤 H A Plain (Ises Plain) makes (a .1 .1) (vals .1 .1) are) $
           move ! (2 ∷ 0 ∷ []) $ fjoin ! $ move ! (1 ∷ 0 ∷ []) $ join ! $ frame ! $ done !
 
       exits : (r : Done) (zs : List ℕ) → Is N.the-row (r .answer) (said (r .answer) ∷ []) → Says r zs → length zs ≡ length (now x)
-          → ent 𝓤 (⋆ 𝓤 H A (‵ (fobs (name d) (T.the-row .coded .code (r .drive))) ∷ ‵ (fbor (κs .0) (Body (mem T.the-row) (ptr d .0) (ptr d .1) (name d))) ∷ ‵ (flft (κs .0) (qs .0)) ∷ (‵ (flft (κs .1 .0) (qs .1 .0)) ⊛ ‵ ftrue) ∷ ‵ (finally u8 (name x) zs) ∷ [])) (Post (said (r .answer)))
+          → ent 𝓤 (⋆ 𝓤 H A (Left r zs)) (Post (said (r .answer)))
       exits r zs g e l =
-          qed W (‵ (fobs (name d) (T.the-row .coded .code (r .drive))) ∷ ‵ (fbor (κs .0) (Body (mem T.the-row) (ptr d .0) (ptr d .1) (name d))) ∷ ‵ (flft (κs .0) (qs .0)) ∷ (‵ (flft (κs .1 .0) (qs .1 .0)) ⊛ ‵ ftrue) ∷ ‵ (finally u8 (name x) zs) ∷ []) ∵
+          qed W (Left r zs) ∵
           suffices ! _ (ends-at 𝓤 H A self.ended stayed (self.clauses 𝓤 H A at-mem run) W ((κs, qs, bounds, a, vals), tt) (said (r .answer)) (r .answer) (r .drive, (zs, (tt, (tt, (tt, (tt, (tt, (tt, tt)))))))) (tt, (l, (tt, (tt, (tt, (tt, (tt, (tt, tt))))))))) $
           says ! (ap (λ (z : Done). z .answer) (e .0), (ap (λ (z : Done). z .drive) (e .0), e .1)) $
           move ! (2 ∷ 3 ∷ []) $ join ! $ frame ! $ feqI ! (List Val) (ptr-vals d) (ptr-vals d) refl $ fjoin3 ! $
@@ -90,7 +100,7 @@ module _ {M : Type 1} (𝓤 : URA M) (H : Heap 𝓤) (A : Atoms 𝓤) (W : Given
             calls-at ! fm (Core 𝓤 H A at-mem run) known to-core (and-then ! (load ! (from ! (stop !)) (look ! 5 refl)) (and-then ! (load ! (from ! (stop !)) (look ! 22 refl)) (and-then ! (load ! (from ! (stop !)) (look ! 20 refl)) (and-then ! (load ! (from ! (stop !)) (look ! 18 refl))
             (and-then ! (load ! (from ! (stop !)) (look ! 16 refl)) (and-then ! (load ! (from ! (stop !)) (look ! 14 refl)) (and-then ! (load ! (from ! (stop !)) (look ! 12 refl)) (no-more !)))))))) (λ w.
             told ! tt core.ended (core.clauses 𝓤 H A at-mem run) to-core (λ r zs. heard ! (Says r (zs .0)) (λ e. fsplit ! $ fsplit ! $ move ! (1 ∷ []) $ feqL ! (λ l. move ! (1 ∷ []) $ drop ! $
-            move ! (1 ∷ []) $ use1 W (‵ (flft (κs .1 .0) (qs .1 .0)) ⊛ ‵ ftrue) (id⊢ 𝓤 _) $ move ! (2 ∷ []) $ peeks ! D.the-row (Is D.the-row) (shows 𝓤 H A D.the-row) r (w ∷ []) (λ is. drop ! $
+            move ! (1 ∷ []) $ use1 W Tok (id⊢ 𝓤 _) $ move ! (2 ∷ []) $ peeks ! D.the-row (Is D.the-row) (shows 𝓤 H A D.the-row) r (w ∷ []) (λ is. drop ! $
             -- [0 the volume's token; 1 its last list; 2 _2; …; 4 _10; …; 6 _11; …; 8 the drive's token; 9 obs; 10 the borrow; 11 _9; …; 23 _3; …; 25 _1; …; 27 _0; …]
             move ! (9 ∷ 10 ∷ 8 ∷ 11 ∷ 12 ∷ 25 ∷ 26 ∷ 27 ∷ 28 ∷ []) $ stored ! d r is refl refl refl $
             -- [0 obs; 1 the borrow; 2 the drive's token; 3 _9; …; 5 _1; …; 7 _0; …; 9 the volume's token; 10 its last list; 11 _2; …; 13 _10; …; 15 _11; …; 17 _8; …; 27 _3; …]

@@ -1,7 +1,7 @@
 -- `mount_at` meets its contract: `opening::mount` is called on the volume, and the record that it hands back is stored where the lent drive stands.
-use Rattle.lent.proofs.Names.{_≡_, refl, ap, ℕ, [], _∷_, List, length, URA, named, w8, w64, Val, SProp, ent, sep, emp, via, fst∗, id⊢, Fml, ftrue, flft, fobs, fbor, Memory, Routine, Heap, Calls, Loops, WpFn, Atoms, sem, Fun, givenOf, tables, Lfts, Shares, AllOutlive}
-use Rattle.lent.proofs.Names.{Given, ‵, raw, _⊛_, ⋆, _$_, _∵_, !, qed, by, move, drop, use0, use1, use2, split, join, fsplit, fsplit3, fjoin, fjoin3, feqI, suffices, frame, done, look, init, stop, from, load, and-then, no-more, returns, enter, alloc1, alloc0, params1, pass1, pass0, free0}
-use Rattle.lent.proofs.Names.{Body, FmC, RattleType, owns, mem, Is, Are, Ises, Makess, owns-make, shows, u8, u64, uint-makes, uint-vals, uint-tells, Array, array-vals, array-tells, yes, RefT, MutRef, ptr, name, now, ptr-vals, mut-tells, ShrSlice, Room, slice-vals, shr-slice-tells, plain, only, owned, peeks, heard}
+use Rattle.lent.proofs.Names.{_≡_, refl, ap, ℕ, [], _∷_, List, length, URA, named, w8, w64, Val, SProp, ent, emp, via, fst∗, id⊢, Fml, ftrue, flft, Memory, Routine, Heap, Calls, Loops, WpFn, Atoms, Fun, givenOf, tables, Lfts, Shares, AllOutlive}
+use Rattle.lent.proofs.Names.{Given, Item, ‵, raw, _⊛_, ⋆, _$_, _∵_, !, qed, by, move, drop, use0, use1, use2, split, join, fsplit, fsplit3, fjoin, fjoin3, feqI, suffices, frame, done, look, init, stop, from, load, and-then, no-more, returns, enter, alloc1, alloc0, params1, pass1, pass0, free0}
+use Rattle.lent.proofs.Names.{FmC, RattleType, owns, Is, Are, Ises, Makess, owns-make, shows, u8, u64, uint-makes, uint-vals, uint-tells, Array, array-vals, array-tells, yes, RefT, MutRef, now, ptr-vals, mut-tells, ShrSlice, Room, slice-vals, shr-slice-tells, plain, only, owned, peeks, heard}
 use Rattle.lent.proofs.Names.{Args, Vals, onEntry, tripleOf, Contract, Triple, calls-at, cited, says, Stays, stay-none, stay-none-slice, stay-ref, walkOf, AllGo, goes-none, goes-none-slice, goes-ref, Walks, ends-at, walked}
 use denote.Enum.Laws as E
 use Rattle.drive.specs.declared.Drive.{Drive}
@@ -15,7 +15,7 @@ use Rattle.opening.proofs.mount as core
 use Rattle.opening.proofs.mount.Symbol as core-def
 use Rattle.opening.proofs.mount.Symbol.{name as #core}
 use Rattle.opening.proofs.mount.Met as core-thm
-use Rattle.lent.proofs.Steps.{said, has-answer, bytes-typed, bytes-make, twice, told, freed, proves}
+use Rattle.lent.proofs.Steps.{said, has-answer, bytes-typed, bytes-make, twice, told, freed, proves, Lent, Seen}
 use Rattle.lent.proofs.Statements.{stored}
 use Rattle.lent.proofs.mount_at.Key.{name as #self}
 use Rattle.lent.proofs.mount_at as self
@@ -46,8 +46,15 @@ module _ {M : Type 1} (𝓤 : URA M) (H : Heap 𝓤) (A : Atoms 𝓤) (W : Given
     abbrev vals : Vals self.signature κs
     vals = (ptr-vals d, (slice-vals x, (array-vals (uint-vals w8) (a .1 .1 .0), (array-vals (uint-vals w8) (a .1 .1 .1 .0), (uint-vals w64 (a .1 .1 .1 .1 .0), tt)))))
 
-    abbrev Own : Fml
-    Own = ShrSlice (named 1) (κs .1 .0) u8 .own x (slice-vals x)
+    abbrev Vol : Fml
+    Vol = ShrSlice (named 1) (κs .1 .0) u8 .own x (slice-vals x)
+
+    abbrev Tok : Item 𝓤
+    Tok = ‵ (flft (κs .1 .0) (qs .1 .0)) ⊛ ‵ ftrue
+
+    -- what is left once the locals are freed
+    abbrev Left : Done → List (Item 𝓤)
+    Left r = ‵ (Seen d (r .drive)) ∷ ‵ (Lent (κs .0) d) ∷ ‵ (flft (κs .0) (qs .0)) ∷ Tok ∷ ‵ Vol ∷ []
 
     abbrev Post : Val → SProp 𝓤
     Post = walkOf 𝓤 H A self.ended stayed (self.clauses 𝓤 H A at-mem run) .post ((κs, qs, bounds, a, vals), tt)
@@ -59,15 +66,15 @@ module _ {M : Type 1} (𝓤 : URA M) (H : Heap 𝓤) (A : Atoms 𝓤) (W : Given
     Says r = r ≡ mountDone (now x) (a .1 .1 .0) (a .1 .1 .1 .0) (a .1 .1 .1 .1 .0)
 
     module _ (are : Are Plain (Ises Plain) (a .1 .1) (vals .1 .1)) where
-      goes : ent 𝓤 (sep 𝓤 (sep 𝓤 (A .lft (κs .1 .0) (qs .1 .0)) (sem 𝓤 H A ftrue)) (sem 𝓤 H A Own)) (Core 𝓤 H A at-mem run .pre to-core)
+      goes : ent 𝓤 (⋆ 𝓤 H A (Tok ∷ ‵ Vol ∷ [])) (Core 𝓤 H A at-mem run .pre to-core)
       goes =
-          qed W ((‵ (flft (κs .1 .0) (qs .1 .0)) ⊛ ‵ ftrue) ∷ ‵ Own ∷ []) ∵ use0 W (‵ (owns Plain (a .1 .1) (vals .1 .1))) (owns-make 𝓤 H A Plain (Ises Plain) makes (a .1 .1) (vals .1 .1) are) $
+          qed W (Tok ∷ ‵ Vol ∷ []) ∵ use0 W (‵ (owns Plain (a .1 .1) (vals .1 .1))) (owns-make 𝓤 H A Plain (Ises Plain) makes (a .1 .1) (vals .1 .1) are) $
           move ! (2 ∷ 0 ∷ []) $ fjoin ! $ move ! (1 ∷ 0 ∷ []) $ join ! $ frame ! $ done !
 
       exits : (r : Done) → Is N.the-row (r .answer) (said (r .answer) ∷ []) → Says r
-          → ent 𝓤 (⋆ 𝓤 H A (‵ (fobs (name d) (T.the-row .coded .code (r .drive))) ∷ ‵ (fbor (κs .0) (Body (mem T.the-row) (ptr d .0) (ptr d .1) (name d))) ∷ ‵ (flft (κs .0) (qs .0)) ∷ (‵ (flft (κs .1 .0) (qs .1 .0)) ⊛ ‵ ftrue) ∷ ‵ Own ∷ [])) (Post (said (r .answer)))
+          → ent 𝓤 (⋆ 𝓤 H A (Left r)) (Post (said (r .answer)))
       exits r g e =
-          qed W (‵ (fobs (name d) (T.the-row .coded .code (r .drive))) ∷ ‵ (fbor (κs .0) (Body (mem T.the-row) (ptr d .0) (ptr d .1) (name d))) ∷ ‵ (flft (κs .0) (qs .0)) ∷ (‵ (flft (κs .1 .0) (qs .1 .0)) ⊛ ‵ ftrue) ∷ ‵ Own ∷ []) ∵
+          qed W (Left r) ∵
           suffices ! _ (ends-at 𝓤 H A self.ended stayed (self.clauses 𝓤 H A at-mem run) W ((κs, qs, bounds, a, vals), tt) (said (r .answer)) (r .answer) (r .drive, (tt, (tt, (tt, (tt, tt))))) (tt, (tt, (tt, (tt, (tt, tt)))))) $
           says ! (ap (λ (z : Done). z .answer) e, ap (λ (z : Done). z .drive) e) $
           move ! (2 ∷ 3 ∷ []) $ join ! $ frame ! $ feqI ! (List Val) (ptr-vals d) (ptr-vals d) refl $ fjoin3 ! $
@@ -85,7 +92,7 @@ module _ {M : Type 1} (𝓤 : URA M) (H : Heap 𝓤) (A : Atoms 𝓤) (W : Given
             -- [0 the drive's token; 1 the volume's; 2 the volume; 3 obs; 4 the borrow; 5 _6; …; 17 _0; …]
             move ! (2 ∷ []) $ twice ! (named 1) (κs .1 .0) x $ move ! (3 ∷ 0 ∷ []) $ use2 W (raw (Core 𝓤 H A at-mem run .pre to-core)) goes $
             calls-at ! fm (Core 𝓤 H A at-mem run) known to-core (and-then ! (load ! (from ! (stop !)) (look ! 13 refl)) (and-then ! (load ! (from ! (stop !)) (look ! 11 refl)) (and-then ! (load ! (from ! (stop !)) (look ! 9 refl)) (and-then ! (load ! (from ! (stop !)) (look ! 7 refl)) (no-more !))))) (λ w.
-            told ! tt core.ended (core.clauses 𝓤 H A at-mem run) to-core (λ r zs. heard ! (Says r) (λ e. drop ! $ use1 W (‵ (flft (κs .1 .0) (qs .1 .0)) ⊛ ‵ ftrue) (id⊢ 𝓤 _) $ move ! (1 ∷ []) $ peeks ! D.the-row (Is D.the-row) (shows 𝓤 H A D.the-row) r (w ∷ []) (λ is. drop ! $
+            told ! tt core.ended (core.clauses 𝓤 H A at-mem run) to-core (λ r zs. heard ! (Says r) (λ e. drop ! $ use1 W Tok (id⊢ 𝓤 _) $ move ! (1 ∷ []) $ peeks ! D.the-row (Is D.the-row) (shows 𝓤 H A D.the-row) r (w ∷ []) (λ is. drop ! $
             -- [0 the volume's token; 1 the volume; 2 the drive's token; 3 obs; 4 the borrow; 5 _6; …; 15 _1; …; 17 _0; …]
             move ! (3 ∷ 4 ∷ 2 ∷ 5 ∷ 6 ∷ 15 ∷ 16 ∷ 17 ∷ 18 ∷ []) $ stored ! d r is refl refl refl $
             -- [0 obs; 1 the borrow; 2 the drive's token; 3 _6; …; 5 _1; …; 7 _0; …; 9 the volume's token; 10 the volume; 11 _5; …; 17 _2; …]

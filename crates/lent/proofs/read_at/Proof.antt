@@ -1,7 +1,7 @@
 -- `read_at` meets its contract: the record is copied out of the lent drive, and `reading::read` is called on the copy, the volume and the buffer.
-use Rattle.lent.proofs.Names.{_≡_, refl, ℕ, [], _∷_, List, length, URA, named, w64, Val, SProp, ent, sep, emp, via, fst∗, id⊢, Fml, ftrue, flft, fres, fshr-bor, Memory, Routine, Heap, Calls, Loops, WpFn, Atoms, sem, Fun, givenOf, tables, Lfts, Shares, AllOutlive}
-use Rattle.lent.proofs.Names.{Given, ‵, raw, _⊛_, ⋆, _$_, _∵_, !, qed, by, move, drop, use1, use3, split, join, fsplit, fsplit3, fjoin, fjoin3, feqI, feqL, suffices, frame, done, look, init, stop, from, load, and-then, no-more, land, returns, enter, alloc1, alloc0, params1, pass1, pass0, free0}
-use Rattle.lent.proofs.Names.{FmC, owns, partAt, Is, shows, u8, u64, uint-makes, uint-vals, uint-tells, yes, RefT, ShrRef, ptr, name, now, ptr-vals, shr-tells, ShrSlice, MutSlice, Room, finally, slice-vals, shr-slice-tells, mut-slice-tells, plain, only, owned, nothing, peeks, heard}
+use Rattle.lent.proofs.Names.{_≡_, refl, ℕ, [], _∷_, List, length, URA, named, w64, Val, SProp, ent, emp, via, fst∗, id⊢, Fml, ftrue, flft, Memory, Routine, Heap, Calls, Loops, WpFn, Atoms, Fun, givenOf, tables, Lfts, Shares, AllOutlive}
+use Rattle.lent.proofs.Names.{Given, Item, ‵, raw, _⊛_, ⋆, _$_, _∵_, !, qed, by, move, drop, use1, use3, split, join, fsplit, fsplit3, fjoin, fjoin3, feqI, feqL, suffices, frame, done, look, init, stop, from, load, and-then, no-more, land, returns, enter, alloc1, alloc0, params1, pass1, pass0, free0}
+use Rattle.lent.proofs.Names.{FmC, owns, Is, shows, u8, u64, uint-makes, uint-vals, uint-tells, yes, RefT, ShrRef, name, now, ptr-vals, shr-tells, ShrSlice, MutSlice, Room, finally, slice-vals, shr-slice-tells, mut-slice-tells, plain, only, owned, nothing, peeks, heard}
 use Rattle.lent.proofs.Names.{Args, Vals, onEntry, tripleOf, Contract, Triple, calls-at, cited, says, Stays, stay-none, stay-none-ref, stay-none-slice, gave-slice, walkOf, AllGo, goes-none, goes-none-ref, goes-none-slice, goes-gave-slice, Walks, ends-at, walked}
 use denote.Struct.Laws as LL
 use denote.Enum.Laws as E
@@ -16,7 +16,7 @@ use Rattle.reading.proofs.read as core
 use Rattle.reading.proofs.read.Symbol as core-def
 use Rattle.reading.proofs.read.Symbol.{name as #core}
 use Rattle.reading.proofs.read.Met as core-thm
-use Rattle.lent.proofs.Steps.{mach, Held, twice, told, freed, proves}
+use Rattle.lent.proofs.Steps.{mach, Held, twice, told, freed, proves, Shared, Known}
 use Rattle.lent.proofs.Statements.{copied-shared, lent-on}
 use Rattle.lent.proofs.read_at.Key.{name as #self}
 use Rattle.lent.proofs.read_at as self
@@ -46,11 +46,18 @@ module _ {M : Type 1} (𝓤 : URA M) (H : Heap 𝓤) (A : Atoms 𝓤) (W : Given
     abbrev vals : Vals self.signature κs
     vals = (ptr-vals d, (slice-vals x, (uint-vals w64 o, (slice-vals y, tt))))
 
-    abbrev Own : Fml
-    Own = ShrSlice (named 1) (κs .1 .0) u8 .own x (slice-vals x)
+    abbrev Vol : Fml
+    Vol = ShrSlice (named 1) (κs .1 .0) u8 .own x (slice-vals x)
 
     abbrev Buf : Fml
     Buf = MutSlice (named 2) (κs .1 .1 .0) u8 .own y (slice-vals y)
+
+    abbrev Tok : Item 𝓤
+    Tok = ‵ (flft (κs .1 .0) (qs .1 .0)) ⊛ ‵ (flft (κs .1 .1 .0) (qs .1 .1 .0)) ⊛ ‵ ftrue
+
+    -- what is left once the locals are freed
+    abbrev Left : Answer → Val → List ℕ → List (Item 𝓤)
+    Left r v zs = ‵ (N.the-row .own r (v ∷ [])) ∷ Tok ∷ ‵ (finally u8 (name y) zs) ∷ ‵ Vol ∷ ‵ (flft (κs .0) (qs .0)) ∷ ‵ (Shared (κs .0) d) ∷ ‵ (Known d) ∷ []
 
     abbrev Post : Val → SProp 𝓤
     Post = walkOf 𝓤 H A self.ended stayed (self.clauses 𝓤 H A at-mem run) .post ((κs, qs, bounds, a, vals), tt)
@@ -62,16 +69,16 @@ module _ {M : Type 1} (𝓤 : URA M) (H : Heap 𝓤) (A : Atoms 𝓤) (W : Given
     Says r zs = (r ≡ readAnswer (now d) (now x) o (length (now y))) × (zs ≡ readBuffer (now d) (now x) o (now y))
 
     module _ (fit : Is u64 o (uint-vals w64 o)) where
-      goes : Held (now d) → ent 𝓤 (sep 𝓤 (sep 𝓤 (A .lft (κs .1 .0) (qs .1 .0)) (sep 𝓤 (A .lft (κs .1 .1 .0) (qs .1 .1 .0)) (sem 𝓤 H A ftrue))) (sep 𝓤 (sem 𝓤 H A Own) (sem 𝓤 H A Buf))) (Core 𝓤 H A at-mem run .pre to-core)
+      goes : Held (now d) → ent 𝓤 (⋆ 𝓤 H A (Tok ∷ ‵ Vol ∷ ‵ Buf ∷ [])) (Core 𝓤 H A at-mem run .pre to-core)
       goes g =
-          qed W ((‵ (flft (κs .1 .0) (qs .1 .0)) ⊛ ‵ (flft (κs .1 .1 .0) (qs .1 .1 .0)) ⊛ ‵ ftrue) ∷ ‵ Own ∷ ‵ Buf ∷ []) ∵ nothing ! $ move ! (3 ∷ 0 ∷ []) $ fjoin ! $
+          qed W (Tok ∷ ‵ Vol ∷ ‵ Buf ∷ []) ∵ nothing ! $ move ! (3 ∷ 0 ∷ []) $ fjoin ! $
           owned ! u64 (Is u64) (uint-makes 𝓤 H A W w64) o _ fit $ fjoin ! $ move ! (2 ∷ 0 ∷ []) $ fjoin ! $
           owned ! T.the-row (Is T.the-row) (LL.makes T.the-type T′.the-plain 𝓤 H A) (now d) _ g $ fjoin ! $ move ! (1 ∷ 0 ∷ []) $ join ! $ frame ! $ done !
 
       exits : (r : Answer) (v : Val) (zs : List ℕ) → Says r zs → length zs ≡ length (now y)
-          → ent 𝓤 (⋆ 𝓤 H A (‵ (N.the-row .own r (v ∷ [])) ∷ (‵ (flft (κs .1 .0) (qs .1 .0)) ⊛ ‵ (flft (κs .1 .1 .0) (qs .1 .1 .0)) ⊛ ‵ ftrue) ∷ ‵ (finally u8 (name y) zs) ∷ ‵ Own ∷ ‵ (flft (κs .0) (qs .0)) ∷ ‵ (fshr-bor (κs .0) (λ s. partAt T.the-row s (now d) (ptr d .0) (ptr d .1))) ∷ ‵ (fres (name d) (T.the-row .coded .code (now d))) ∷ [])) (Post v)
+          → ent 𝓤 (⋆ 𝓤 H A (Left r v zs)) (Post v)
       exits r v zs e l =
-          qed W (‵ (N.the-row .own r (v ∷ [])) ∷ (‵ (flft (κs .1 .0) (qs .1 .0)) ⊛ ‵ (flft (κs .1 .1 .0) (qs .1 .1 .0)) ⊛ ‵ ftrue) ∷ ‵ (finally u8 (name y) zs) ∷ ‵ Own ∷ ‵ (flft (κs .0) (qs .0)) ∷ ‵ (fshr-bor (κs .0) (λ s. partAt T.the-row s (now d) (ptr d .0) (ptr d .1))) ∷ ‵ (fres (name d) (T.the-row .coded .code (now d))) ∷ []) ∵
+          qed W (Left r v zs) ∵
           suffices ! _ (ends-at 𝓤 H A self.ended stayed (self.clauses 𝓤 H A at-mem run) W ((κs, qs, bounds, a, vals), tt) v r (tt, (tt, (tt, (zs, tt)))) (tt, (tt, (tt, (l, tt))))) $ says ! e $
           move ! (4 ∷ 1 ∷ []) $ join ! $ frame ! $ move ! (4 ∷ 3 ∷ []) $ feqI ! (List Val) (ptr-vals d) (ptr-vals d) refl $ fjoin3 ! $
           -- [0 the drive; 1 what the result owns; 2 the buffer's last list; 3 the volume]
@@ -92,7 +99,7 @@ module _ {M : Type 1} (𝓤 : URA M) (H : Heap 𝓤) (A : Atoms 𝓤) (W : Given
             move ! (14 ∷ []) $ twice ! (named 1) (κs .1 .0) x $ move ! (14 ∷ 0 ∷ 15 ∷ []) $ use3 W (raw (Core 𝓤 H A at-mem run .pre to-core)) (goes g) $
             calls-at ! fm (Core 𝓤 H A at-mem run) known to-core (and-then ! (load ! (from ! (stop !)) (look ! 10 refl)) (and-then ! (load ! (from ! (stop !)) (look ! 17 refl)) (and-then ! (load ! (from ! (stop !)) (look ! 15 refl)) (and-then ! (load ! (from ! (stop !)) (look ! 6 refl)) (no-more !))))) (λ w.
             told ! tt core.ended (core.clauses 𝓤 H A at-mem run) to-core (λ r zs. heard ! (Says r (zs .1 .1 .1 .0)) (λ e. fsplit ! $ drop ! $ fsplit ! $ drop ! $ fsplit ! $ drop ! $ fsplit ! $ fsplit ! $ move ! (1 ∷ []) $ feqL ! (λ l. move ! (1 ∷ []) $ drop ! $
-            move ! (1 ∷ []) $ use1 W (‵ (flft (κs .1 .0) (qs .1 .0)) ⊛ ‵ (flft (κs .1 .1 .0) (qs .1 .1 .0)) ⊛ ‵ ftrue) (id⊢ 𝓤 _) $ move ! (2 ∷ []) $ peeks ! N.the-row (Is N.the-row) (shows 𝓤 H A N.the-row) r (w ∷ []) (λ is.
+            move ! (1 ∷ []) $ use1 W Tok (id⊢ 𝓤 _) $ move ! (2 ∷ []) $ peeks ! N.the-row (Is N.the-row) (shows 𝓤 H A N.the-row) r (w ∷ []) (λ is.
             -- [0 what the result owns; 1 the others' tokens; 2 the buffer's last list; 3 the volume; 4 _4; …; 6 _6; …; 8 _7; …; 10 the drive's token; 11 the shared borrow; 12 _5; …; 14 _1; …; 16 res; 17 _3; …; 19 _2; …; 21 _0; …]
             land ! (from ! (stop !)) (init ! 21 refl (E.lawful N.the-type N′.the-laws 𝓤 H A W tt .typed r _ is .0)) $
             returns ! (look ! 21 refl) $ freed ! 21 refl refl $ freed ! 14 refl refl $ freed ! 17 refl refl $ freed ! 15 refl refl $ freed ! 4 refl refl $ freed ! 10 refl refl $ freed ! 4 refl refl $ freed ! 4 refl refl $ free0 ! $ by ! (exits r w (zs .1 .1 .1 .0) e l)))))))))))))))
