@@ -4,15 +4,16 @@ use mathlib.Core.Bool.{true, false}
 use mathlib.Core.List.{List, [], _∷_, _++_}
 use mathlib.Core.Logic.{_⊎_, inl, inr}
 use Prim.Native.Nat.{ℕ, zero, suc, _+_, _-_, _*_, _/_, _%_, _^_, _<_, _≤_}
-use native.Mathlib.Nat.{pow-suc, add-suc, add-zero}
+use native.Mathlib.Nat.{pow-suc, add-comm, lt-of-lt-of-le}
+use native.Mathlib.Numerals.{add-one}
 use native.Mathlib.Omega.{arith}
-use lib.Dec.{leb}
+use lib.Dec.{leb, lit≤}
 use lib.ListN.{length, set, length-append}
 use lib.Seq.{sets}
 use borrow.Author.Tests.{lt-ltb, le-ltb, leb-true, leb-false}
 use Rattle.base.proofs.PickLaws.{yes, no, told}
 use Rattle.base.proofs.PartLaws.{sets-append, set-sets}
-use Rattle.line.specs.Decimal.{digits, widthIn, decimal}
+use Rattle.line.specs.Decimal.{digits, widthIn, decimal, longDecimal}
 
 pub length-digits : (w n : ℕ) → length (digits w n) ≡ w
 unfolding digits
@@ -37,28 +38,58 @@ width-le (suc k) n = go (told (leb 10 n)) (width-le k (n / 10))
     go (inl e) h = rw (width-next k n (leb-true 10 n e)) (omega arith)
     go (inr e) h = rw (width-last (suc k) n (leb-false 10 n e)) (omega arith)
 
--- a turn of the loop that counts digits: w are counted, x is left
-pub width-room : (w x : ℕ) → x < 10 ^ (11 - w) → 10 ≤ x → w ≤ 10 → w ≤ 9
-width-room w x h t l = go (told (leb w 9))
+-- a tenth has a digit less
+tenth : (k n : ℕ) → n < 10 ^ suc (suc k) → n / 10 < 10 ^ suc k
+tenth k n h = let big : n < 10 ^ suc k * 10 = rw (pow-suc 10 (suc k)) at h in omega arith
+
+-- more tries than digits count the same
+pub width-same : (k m n : ℕ) → k ≤ m → n < 10 ^ suc k → widthIn k n ≡ widthIn m n
+unfolding widthIn
+width-same zero m n l h = sym (width-last m n h)
+width-same (suc k) zero n l h = absurd (omega arith)
+width-same (suc k) (suc m) n l h = go (told (leb 10 n)) (width-same k m (n / 10) (omega arith) (tenth k n h))
   where
-    go : (leb w 9 ≡ true) ⊎ (leb w 9 ≡ false) → w ≤ 9
-    go (inl e) = leb-true w 9 e
+    go : (leb 10 n ≡ true) ⊎ (leb 10 n ≡ false) → widthIn k (n / 10) ≡ widthIn m (n / 10) → widthIn (suc k) n ≡ widthIn (suc m) n
+    go (inl e) same = let t = leb-true 10 n e in width-next k n t ∙ ap (λ (w : ℕ). 1 + w) same ∙ sym (width-next m n t)
+    go (inr e) same = let t = leb-false 10 n e in width-last (suc k) n t ∙ sym (width-last (suc m) n t)
+
+-- the digits counted hold the number
+pub width-holds : (k n : ℕ) → n < 10 ^ suc k → n < 10 ^ widthIn k n
+unfolding widthIn
+width-holds zero n h = h
+width-holds (suc k) n h = go (told (leb 10 n)) (width-holds k (n / 10) (tenth k n h))
+  where
+    go : (leb 10 n ≡ true) ⊎ (leb 10 n ≡ false) → n / 10 < 10 ^ widthIn k (n / 10) → n < 10 ^ widthIn (suc k) n
+    go (inl e) l = rw (width-next k n (leb-true 10 n e), add-comm 1 (widthIn k (n / 10)), add-one (widthIn k (n / 10)), pow-suc 10 (widthIn k (n / 10))) (omega arith)
+    go (inr e) l = rw (width-last (suc k) n (leb-false 10 n e)) (leb-false 10 n e)
+
+-- a number of 32 bits is written alike in both widths
+pub long-decimal : (n : ℕ) → n < 2 ^ 32 → longDecimal n ≡ decimal n
+unfolding longDecimal decimal
+long-decimal n h = ap (λ (w : ℕ). digits w n) (sym (width-same 9 19 n (lit≤ tt) (lt-of-lt-of-le h (lit≤ tt))))
+
+-- a turn of the loop that counts digits: w are counted, x is left
+pub width-room : (w x : ℕ) → x < 10 ^ (21 - w) → 10 ≤ x → w ≤ 20 → w ≤ 19
+width-room w x h t l = go (told (leb w 19))
+  where
+    go : (leb w 19 ≡ true) ⊎ (leb w 19 ≡ false) → w ≤ 19
+    go (inl e) = leb-true w 19 e
     go (inr e) =
-        let ten : w ≡ 10 = omega (arith, leb-false w 9 e) in
-        let small : x < 10 ^ (11 - 10) = rw ten at h in
+        let top : w ≡ 20 = omega (arith, leb-false w 19 e) in
+        let small : x < 10 ^ (21 - 20) = rw top at h in
         absurd (omega arith)
 
-pub width-left : (w x : ℕ) → x < 10 ^ (11 - w) → w ≤ 9 → x / 10 < 10 ^ (11 - (w + 1))
+pub width-left : (w x : ℕ) → x < 10 ^ (21 - w) → w ≤ 19 → x / 10 < 10 ^ (21 - (w + 1))
 width-left w x h l =
-    let e : 11 - w ≡ suc (11 - (w + 1)) = omega arith in
-    let big : x < 10 ^ (11 - (w + 1)) * 10 = rw (pow-suc 10 (11 - (w + 1))) at (rw e at h) in
+    let e : 21 - w ≡ suc (21 - (w + 1)) = omega arith in
+    let big : x < 10 ^ (21 - (w + 1)) * 10 = rw (pow-suc 10 (21 - (w + 1))) at (rw e at h) in
     omega arith
 
-pub width-turn : (w x n : ℕ) → w ≤ 9 → 10 ≤ x → w + widthIn (10 - w) x ≡ n → (w + 1) + widthIn (10 - (w + 1)) (x / 10) ≡ n
+pub width-turn : (w x n : ℕ) → w ≤ 19 → 10 ≤ x → w + widthIn (20 - w) x ≡ n → (w + 1) + widthIn (20 - (w + 1)) (x / 10) ≡ n
 width-turn w x n l t e =
-    let f : 10 - w ≡ suc (10 - (w + 1)) = omega arith in
-    let g : w + widthIn (suc (10 - (w + 1))) x ≡ n = rw f at e in
-    let k : w + (1 + widthIn (10 - (w + 1)) (x / 10)) ≡ n = rw (width-next (10 - (w + 1)) x t) at g in
+    let f : 20 - w ≡ suc (20 - (w + 1)) = omega arith in
+    let g : w + widthIn (suc (20 - (w + 1))) x ≡ n = rw f at e in
+    let k : w + (1 + widthIn (20 - (w + 1)) (x / 10)) ≡ n = rw (width-next (20 - (w + 1)) x t) at g in
     omega arith
 
 -- a turn of the loop that stores digits from the last on: i were left before it, of the number x

@@ -19,7 +19,7 @@ use Rattle.answers.specs.declared.Place.{Place}
 use Rattle.answers.specs.declared.Place.the-variants as P
 use Rattle.line.specs.Texts.{t-nuggets, t-moved, t-left, t-flakes, t-share, t-refused, t-class, t-record, t-node, t-flake}
 use Rattle.line.specs.Lines.{Put, newline, shareText, classText, placeText, carriedText, reportLine, refusalLine}
-use Rattle.line.specs.Decimal.{decimal, widthIn}
+use Rattle.line.specs.Decimal.{decimal, longDecimal, widthIn}
 use Rattle.line.proofs.DecimalLaws.{length-digits, width-le}
 
 pub put-then : {s x y : List ℕ} {at a b : ℕ} (p q : List ℕ) → Put s at p a x → Put x a q b y → Put s at (p ++ q) b y
@@ -35,6 +35,10 @@ put-none s at = record { behind = omega arith; stored = refl }
 pub decimal-le : (n : ℕ) → length (decimal n) ≤ 10
 unfolding decimal
 decimal-le n = rw (length-digits (widthIn 9 n) n) (width-le 9 n)
+
+pub long-le : (n : ℕ) → length (longDecimal n) ≤ 20
+unfolding longDecimal
+long-le n = rw (length-digits (widthIn 19 n) n) (width-le 19 n)
 
 -- how far a field, a share, a class and what an answer carries reach
 pub field-le : {s x : List ℕ} {at r : ℕ} (p : List ℕ) (n : ℕ) → Put s at (p ++ decimal n) r x → r ≤ at + length p + 10

@@ -17,3 +17,7 @@ widthIn (suc k) n = pick (ltb n 10) 1 (1 + widthIn k (n / 10))
 -- a number of 32 bits has at most ten digits
 unfoldable pub decimal : ℕ → List ℕ
 decimal n = digits (widthIn 9 n) n
+
+-- a number of 64 bits has at most twenty
+unfoldable pub longDecimal : ℕ → List ℕ
+longDecimal n = digits (widthIn 19 n) n

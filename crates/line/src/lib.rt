@@ -1,4 +1,4 @@
-// The bytes of the sheet's line, for every report and every answer.
+// The bytes of the sheet's line, for every report and every answer, and what other lines are put together from.
 // It touches `answers` and `words`.
 use answers::Answer;
 use answers::Carried;
@@ -10,12 +10,12 @@ ghost use Prim.Native.Nat.{_+_, _≤_};
 ghost use lib.ListN.{length};
 ghost use lib.Seq.{sets};
 ghost use Rattle.answers.specs.Numbers.{numberOf};
-ghost use Rattle.line.specs.Decimal.{digits, widthIn, decimal};
+ghost use Rattle.line.specs.Decimal.{digits, widthIn, decimal, longDecimal};
 ghost use Rattle.line.specs.Lines.{Put, shareText, reportLine, classText, placeText, carriedText, refusalLine};
 
 // How many decimal digits n has.
-pub fn width(n: u32) -> usize
-    ensures { λ r. ⌜ r ≡ widthIn 9 n ⌝ }
+pub fn width(n: u64) -> usize
+    ensures { λ r. ⌜ r ≡ widthIn 19 n ⌝ }
 {
     let mut w = 1;
     let mut left = n;
@@ -27,7 +27,7 @@ pub fn width(n: u32) -> usize
 }
 
 // The w lowest digits of n stored at `at`, highest first.
-fn put_digits(out: &mut [u8], at: usize, w: usize, n: u32)
+fn put_digits(out: &mut [u8], at: usize, w: usize, n: u64)
     requires { ⌜ at + w ≤ length (now out) ⌝ }
     ensures { λ _. ⌜ now (out .exit) ≡ sets (now (out .entry)) at (digits w n) ⌝ }
 {
@@ -40,18 +40,26 @@ fn put_digits(out: &mut [u8], at: usize, w: usize, n: u32)
     }
 }
 
-// n in decimal stored at `at`; the place behind it.
-fn put_number(out: &mut [u8], at: usize, n: u32) -> usize
-    requires { ⌜ at + 10 ≤ length (now out) ⌝ }
-    ensures { λ r. ⌜ Put (now (out .entry)) at (decimal n) r (now (out .exit)) ⌝ }
+// n in decimal stored at `at`, however many digits it has; the place behind it.
+pub fn put_long(out: &mut [u8], at: usize, n: u64) -> usize
+    requires { ⌜ at + length (longDecimal n) ≤ length (now out) ⌝ }
+    ensures { λ r. ⌜ Put (now (out .entry)) at (longDecimal n) r (now (out .exit)) ⌝ }
 {
     let w = width(n);
     put_digits(&mut *out, at, w, n);
     at + w
 }
 
+// A number of 32 bits has no more than ten digits.
+fn put_number(out: &mut [u8], at: usize, n: u32) -> usize
+    requires { ⌜ at + 10 ≤ length (now out) ⌝ }
+    ensures { λ r. ⌜ Put (now (out .entry)) at (decimal n) r (now (out .exit)) ⌝ }
+{
+    put_long(&mut *out, at, n as u64)
+}
+
 // The text stored at `at`; the place behind it.
-fn put(out: &mut [u8], at: usize, text: &[u8]) -> usize
+pub fn put(out: &mut [u8], at: usize, text: &[u8]) -> usize
     requires { ⌜ at + length (now text) ≤ length (now out) ⌝ }
     ensures { λ r. ⌜ Put (now (out .entry)) at (now (text .entry)) r (now (out .exit)) ⌝ }
 {
@@ -60,7 +68,7 @@ fn put(out: &mut [u8], at: usize, text: &[u8]) -> usize
 }
 
 // A name and its number.
-fn put_field(out: &mut [u8], at: usize, name: &[u8], n: u32) -> usize
+pub fn put_field(out: &mut [u8], at: usize, name: &[u8], n: u32) -> usize
     requires { ⌜ at + length (now name) + 10 ≤ length (now out) ⌝ }
     ensures { λ r. ⌜ Put (now (out .entry)) at (now (name .entry) ++ decimal n) r (now (out .exit)) ⌝ }
 {

@@ -1,37 +1,25 @@
-use Rattle.line.specs.Decimal.{widthIn}
-use mathlib.Core.Path.{_≡_, refl, sym, _∙_, ap}
+use Rattle.line.specs.Decimal.{decimal, longDecimal}
+use Rattle.line.proofs.DecimalLaws.{long-decimal}
+use Rattle.line.proofs.PutLaws.{put-as, decimal-le}
 use mathlib.Core.Path.{ap}
-use Prim.Native.Nat.{ℕ, _+_}
-use Rattle.line.proofs.DecimalLaws.{width-le, length-digits}
-use Rattle.line.specs.Decimal.{decimal}
-use mathlib.Core.Path.{_≡_, refl, sym, _∙_}
+use lib.ListN.{length}
 use native.Mathlib.Omega.{arith}
 use borrow.Author.Needs.{needs}
 use Rattle.line.proofs.put_number.Statement.{statement}
 use Rattle.line.proofs.put_number.Tie as tie
 
-width-requires : tie.Need-width-requires
-width-requires c κs = search needs
-
-put-digits-requires : tie.Need-put-digits-requires
-put-digits-requires c κs = omega (arith, c .before .width .ensures, width-le 9 (c .before .before .before .args .n))
-
-add-result : tie.Need-add-result
-add-result c = omega (arith, c .before .before .before .before .width .ensures, width-le 9 (c .before .before .before .before .before .before .args .n))
+put-long-requires : tie.Need-put-long-requires
+put-long-requires c κs =
+    let n = c .before .before .args .n in
+    omega (arith, ap length (long-decimal n (c .before .before .fits .n .fits)), decimal-le n, c .before .before .pre)
 
 same-length : tie.Need-same-length
 same-length c = search needs
 
 returns : tie.Need-returns
-unfolding decimal
 returns c =
-    let w = c .before .before .before .before .width in
-    let a = c .before .before .before .before .before .before .args in
-    record {
-      behind = ap (λ (k : ℕ). a .at + k) (w .ensures ∙ sym (length-digits (widthIn 9 (a .n)) (a .n)));
-      stored = c .before .before .put-digits .ensures ∙ rw (w .ensures);
-    }
+    let f = c .before .before .before .before .before in
+    put-as _ _ (long-decimal (f .args .n) (f .fits .n .fits)) (c .before .before .put-long .ensures)
 
 pub put-number-spec : {M : Type 1} → statement M
-put-number-spec =
-    tie.close (tie.spec width-requires put-digits-requires add-result same-length returns)
+put-number-spec = tie.close (tie.spec put-long-requires same-length returns)

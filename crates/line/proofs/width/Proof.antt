@@ -10,7 +10,7 @@ use Rattle.line.proofs.width.Statement.{statement}
 use Rattle.line.proofs.width.Tie as tie
 
 abbrev Inv-loop : tie.InvT-loop
-Inv-loop n w₀ left₀ w left = (1 ≤ w) × (w ≤ 10) × (left < 10 ^ (11 - w)) × (w + widthIn (10 - w) left ≡ 1 + widthIn 9 n)
+Inv-loop n w₀ left₀ w left = (1 ≤ w) × (w ≤ 20) × (left < 10 ^ (21 - w)) × (w + widthIn (20 - w) left ≡ 1 + widthIn 19 n)
 
 abbrev μ-loop : tie.MeasureT-loop
 μ-loop n w₀ left₀ w left = left
@@ -31,13 +31,13 @@ loop-again c =
       omega arith,
       omega arith,
       width-left (t .w) (t .left) (t .inv .2) few,
-      width-turn (t .w) (t .left) (1 + widthIn 9 (c .before .before .args .n)) few (c .loop-test .taken) (t .inv .3),
+      width-turn (t .w) (t .left) (1 + widthIn 19 (c .before .before .args .n)) few (c .loop-test .taken) (t .inv .3),
     )
 
 returns : tie.Need-returns Inv-loop μ-loop
 returns c =
     let t = c .before .loop in
-    omega (arith, t .inv .3, width-last (10 - t .w) (t .left) (c .loop-test .left))
+    omega (arith, t .inv .3, width-last (20 - t .w) (t .left) (c .loop-test .left))
 
 pub width-spec : {M : Type 1} → statement M
 width-spec = tie.close (tie.spec Inv-loop μ-loop loop-holds add-w loop-less loop-again returns)
