@@ -56,12 +56,12 @@ unfolding reportText
 told-short r =
     pick-short (accepts (r .answer)) (reportLine (r .n) (r .moved) (r .left) (r .flakes) (r .share)) (refusalLine (r .answer)) 90 (report-short (r .n) (r .moved) (r .left) (r .flakes) (r .share)) (refusal-short (r .answer))
 
-mounted-short : (m : Done) (v : List ℕ) → length (mountedText m v) ≤ 90
+-- no line is longer
+pub mounted-short : (m : Done) (v : List ℕ) → length (mountedText m v) ≤ 90
 unfolding mountedText
 mounted-short m v =
     pick-short (accepts (m .answer)) (reportText (reportOf (m .drive) v)) (refusalLine (m .answer)) 90 (told-short (reportOf (m .drive) v)) (refusal-short (m .answer))
 
--- no line is longer
 pub sheet-short : (i : List ℕ) → length (sheetLine i) ≤ 90
 unfolding sheetLine
 sheet-short i =

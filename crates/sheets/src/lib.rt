@@ -22,7 +22,7 @@ fn put_report(out: &mut [u8], r: Report) -> usize
 }
 
 // The line after a mount.
-fn put_mounted(out: &mut [u8], m: Done, vol: &[u8]) -> usize
+pub fn put_mounted(out: &mut [u8], m: Done, vol: &[u8]) -> usize
     requires { ⌜ 128 ≤ length (now out) ⌝ }
     ensures { λ k. ⌜ Put (now (out .entry)) 0 (mountedText m (now (vol .entry))) k (now (out .exit)) ⌝ }
 {
@@ -36,7 +36,7 @@ fn put_mounted(out: &mut [u8], m: Done, vol: &[u8]) -> usize
 }
 
 // "present secret, old secret, outside counter (8 bytes), then a volume": the mount of it.
-fn mounted(input: &[u8]) -> Done
+pub fn mounted(input: &[u8]) -> Done
     requires { ⌜ 72 ≤ length (now input) ⌝ }
     ensures { λ r. ⌜ r ≡ mountedBy (now (input .entry)) ⌝ }
 {
