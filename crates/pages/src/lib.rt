@@ -1,0 +1,134 @@
+// The auditor's page for any input: which flakes are under which key, as a function on slices.
+// It touches `sheets` to mount and for the sheet's line, `records` and `layout` for the records, and `line`, `drive`, `answers` and `words`.
+use answers::Answer;
+use drive::Drive;
+use records::Record;
+ghost use mathlib.Core.List.{[], _++_};
+ghost use Prim.Native.Nat.{_+_, _*_, _≤_};
+ghost use lib.ListN.{length};
+ghost use Rattle.base.specs.Pick.{pick};
+ghost use Rattle.records.specs.Journal.{bit};
+ghost use Rattle.line.specs.Decimal.{decimal};
+ghost use Rattle.line.specs.Lines.{Put};
+ghost use Rattle.line.specs.Texts.{t-flakes};
+ghost use Rattle.nodes.specs.Lent.{Lent};
+ghost use Rattle.drive.specs.Drive.{shapeOf};
+ghost use Rattle.pages.specs.Words.{t-key};
+ghost use Rattle.pages.specs.Page.{keyText, presentFlakes, flakesText, markFor, marked, nuggetLine, nuggetLines, driveText, auditPage};
+
+// "One less means: under the old secret."
+fn put_key(out: &mut [u8], at: usize, d: Drive, epoch: u16) -> usize
+    requires { ⌜ at + 12 ≤ length (now out) ⌝ }
+    ensures { λ r. ⌜ Put (now (out .entry)) at (t-key ++ keyText d epoch) r (now (out .exit)) ⌝ }
+{
+    if epoch == d.epoch {
+        let state = d.state;
+        if drive::is_changing(state) {
+            return line::put(out, at, b" key=new");
+        }
+        return line::put(out, at, b" key=present");
+    }
+    line::put(out, at, b" key=old")
+}
+
+// Flake f if it is present: behind the `=` of the list if it is the first there, else behind a comma.
+fn put_flake(out: &mut [u8], at: usize, first: bool, journal: u64, f: u32) -> usize
+    requires { ⌜ at + 11 ≤ length (now out) ⌝ }
+    ensures { λ r. ⌜ Put (now (out .entry)) at (pick (bit journal f) (markFor first ++ decimal f) []) r (now (out .exit)) ⌝ }
+{
+    if records::has(journal, f) {
+        if first {
+            return line::put_field(out, at, b"=", f);
+        }
+        return line::put_field(out, at, b",", f);
+    }
+    at
+}
+
+// The present flakes, each behind its mark. Nothing is put yet as long as the place is the first.
+fn put_marked(out: &mut [u8], at: usize, journal: u64, p: u32) -> usize
+    requires { ⌜ (p ≤ 64) × (at + 203 ≤ length (now out)) ⌝ }
+    ensures { λ r. ⌜ Put (now (out .entry)) at (marked (presentFlakes p journal)) r (now (out .exit)) ⌝ }
+{
+    let mut next = at;
+    let mut f = 0;
+    while f < p {
+        next = put_flake(&mut *out, next, next == at, journal, f);
+        f += 1;
+    }
+    next
+}
+
+fn put_flakes(out: &mut [u8], at: usize, journal: u64, p: u32) -> usize
+    requires { ⌜ (p ≤ 64) × (at + 212 ≤ length (now out)) ⌝ }
+    ensures { λ r. ⌜ Put (now (out .entry)) at (t-flakes ++ flakesText (presentFlakes p journal)) r (now (out .exit)) ⌝ }
+{
+    let a = line::put(&mut *out, at, b" flakes");
+    let b = put_marked(&mut *out, a, journal, p);
+    if a == b {
+        return line::put(&mut *out, b, b"=-");
+    }
+    b
+}
+
+fn put_nugget(out: &mut [u8], at: usize, d: Drive, r: Record, n: u32) -> usize
+    requires { ⌜ (d .p ≤ 64) × (at + 300 ≤ length (now out)) ⌝ }
+    ensures { λ k. ⌜ Put (now (out .entry)) at (nuggetLine d r n) k (now (out .exit)) ⌝ }
+{
+    let a = line::put_field(&mut *out, at, b"nugget=", n);
+    let b = put_key(&mut *out, a, d, r.epoch);
+    let c = line::put_field(&mut *out, b, b" epoch=", r.epoch as u32);
+    let e = line::put(&mut *out, c, b" keycount=");
+    let f = line::put_long(&mut *out, e, r.keycount);
+    let g = put_flakes(&mut *out, f, r.journal, d.p);
+    line::put(&mut *out, g, b"\n")
+}
+
+// No line is longer than 300 bytes.
+fn put_nuggets(out: &mut [u8], at: usize, d: Drive, vol: &[u8]) -> usize
+    requires { ⌜ Lent (shapeOf d) (now vol) × (at + 300 * d .n ≤ length (now out)) ⌝ }
+    ensures { λ k. ⌜ Put (now (out .entry)) at (nuggetLines d (now (vol .entry)) (d .n)) k (now (out .exit)) ⌝ }
+{
+    let count = d.n;
+    let mut next = at;
+    let mut n = 0;
+    while n < count {
+        let r = records::read(vol, layout::record_at(n));
+        next = put_nugget(&mut *out, next, d, r, n);
+        n += 1;
+    }
+    next
+}
+
+// What a mounted drive adds to the sheet's line.
+fn put_drive(out: &mut [u8], at: usize, d: Drive, vol: &[u8], outside: u64) -> usize
+    requires { ⌜ Lent (shapeOf d) (now vol) × (at + 300 * d .n + 29 ≤ length (now out)) ⌝ }
+    ensures { λ k. ⌜ Put (now (out .entry)) at (driveText d (now (vol .entry)) outside) k (now (out .exit)) ⌝ }
+{
+    let a = put_nuggets(&mut *out, at, d, vol);
+    let b = line::put(&mut *out, a, b"counter=");
+    let c = line::put_long(&mut *out, b, outside);
+    line::put(&mut *out, c, b"\n")
+}
+
+// The page in the first bytes of `out`; how many they are. A volume of 61,440 bytes has at most 378 nuggets.
+pub fn audit_page(input: &[u8], out: &mut [u8]) -> usize
+    requires { ⌜ 114688 ≤ length (now out) ⌝ }
+    ensures { λ k. ⌜ Put (now (out .entry)) 0 (auditPage (now (input .entry))) k (now (out .exit)) ⌝ }
+{
+    if input.len() < 72 {
+        return line::refusal_line(out, Answer::Length);
+    }
+    if 61512 < input.len() {
+        return line::refusal_line(out, Answer::Length);
+    }
+    let m = sheets::mounted(input);
+    let at = sheets::put_mounted(&mut *out, m, &input[72..]);
+    let answer = m.answer;
+    if answers::accepted(answer) {
+        let d = m.drive;
+        let outside = words::load(input, 64, 8);
+        return put_drive(&mut *out, at, d, &input[72..], outside);
+    }
+    at
+}
