@@ -97,24 +97,25 @@ module _ (d : Drive) (v : List ℕ) (n : ℕ) (l : Lent (shapeOf d) v) (h : n < 
       (each-map (Stands s) (λ e. newContents d v 0 [] (e .nugget) (e .flake) ≡ contentsOf d v (e .nugget) (e .flake)) (padsFor d v (sweepWays n))
       (λ e o. kept-contents d v l (e .nugget) (e .flake) (o .nugget) (o .flake)) (to-stands s (sweepWays n) (recordOf v) (d .present) (d .n) (omega arith)))
 
-  -- its record stands through that
-  pub sweep-record : recordOf (laid (shapeOf d) (d .salt) (contentsOf d v) (padsFor d v (sweepWays n)) v) n ≡ recordOf v n
-  sweep-record =
-      let s = shapeOf d in
-      laid-record s (d .salt) (contentsOf d v) (λ m f a b. length-contents s v (nuggetOf d v m) f l a b) n (padsFor d v (sweepWays n)) v
-      (to-stands s (sweepWays n) (recordOf v) (d .present) (d .n) (omega arith)) h
+  module _ {x : List ℕ} (e : x ≡ laid (shapeOf d) (d .salt) (newContents d v 0 []) (padsBy (d .p) sweepWay n (recordOf v n) (d .present)) v) where
+    -- its record stands through that
+    pub sweep-record : recordOf x n ≡ recordOf v n
+    sweep-record =
+        let s = shapeOf d in
+        ap (λ (u : List ℕ). recordOf u n) (e ∙ sweep-lays)
+        ∙ laid-record s (d .salt) (contentsOf d v) (λ m f a b. length-contents s v (nuggetOf d v m) f l a b) n (padsFor d v (sweepWays n)) v
+        (to-stands s (sweepWays n) (recordOf v) (d .present) (d .n) (omega arith)) h
 
-  -- record and path of the nugget, stored one after the other, are all that is left
-  pub sweep-works : {x y z : List ℕ} → x ≡ laid (shapeOf d) (d .salt) (newContents d v 0 []) (padsBy (d .p) sweepWay n (recordOf v n) (d .present)) v
-      → y ≡ marked (d .epoch) sweepWay (recordOf x n) n x → z ≡ tended (shapeOf d) sweepWay n y → z ≡ sweepWork d v n
-  unfolding worked
-  sweep-works ex ey ez =
-      let base = ex ∙ sweep-lays in
-      let w = laid (shapeOf d) (d .salt) (contentsOf d v) (padsFor d v (sweepWays n)) v in
-      ez
-      ∙ ap (λ (u : List ℕ). tended (shapeOf d) sweepWay n u)
-      (ey
-      ∙ ap (λ (u : List ℕ). marked (d .epoch) sweepWay (recordOf u n) n u) base
-      ∙ ap (λ (r : Record). marked (d .epoch) sweepWay r n w) sweep-record
-      ∙ sym (sweep-marks n (d .n) h (d .epoch) v w))
-      ∙ sym (sweep-tends n (d .n) h (shapeOf d) (markedTo (d .epoch) (sweepWays n) v (d .n) w))
+    -- its record, and its leaf and path, are all that is left to store before the head
+    pub sweep-works : {y z : List ℕ} {s : Shape} → y ≡ marked (d .epoch) sweepWay (recordOf x n) n x → s ≡ shapeOf d → z ≡ tended s sweepWay n y → z ≡ sweepWork d v n
+    unfolding worked
+    sweep-works {y} p r q =
+        let w = laid (shapeOf d) (d .salt) (contentsOf d v) (padsFor d v (sweepWays n)) v in
+        q
+        ∙ ap (λ (s : Shape). tended s sweepWay n y) r
+        ∙ ap (λ (u : List ℕ). tended (shapeOf d) sweepWay n u)
+        (p
+        ∙ ap (λ (r : Record). marked (d .epoch) sweepWay r n x) sweep-record
+        ∙ ap (λ (u : List ℕ). marked (d .epoch) sweepWay (recordOf v n) n u) (e ∙ sweep-lays)
+        ∙ sym (sweep-marks n (d .n) h (d .epoch) v w))
+        ∙ sym (sweep-tends n (d .n) h (shapeOf d) (markedTo (d .epoch) (sweepWays n) v (d .n) w))
