@@ -34,9 +34,13 @@ pub tells-by : {a b : Answer} {number : ℕ} {answer : List ℕ} → a ≡ b →
 tells-by e f g = record { told = f ∙ ap numberOf e; shown = g ∙ ap answerImage e }
 
 -- a call that may change drive and volume, told by what it handed back; the drive is the one in the image
-pub changed-by : {d e : Drive} {done : Done} {given vol image answer : List ℕ} {number : ℕ} (done-of : Drive → Done) (volume-of : Drive → List ℕ) → d ≡ e
-    → done ≡ done-of d → vol ≡ volume-of d → image ≡ imageAfter done given → number ≡ numberOf (done .answer) → answer ≡ answerImage (done .answer)
-    → Changed (done-of e) (volume-of e) given number vol image answer
-changed-by {d} {e} {done} {given} done-of volume-of o h v i n a =
+pub changed-by : {d e : Drive} {done : Done} {changes : Bool} {given vol image answer : List ℕ} {number : ℕ} (done-of : Drive → Done) (changes-by : Done → Bool) (volume-of : Drive → List ℕ) → d ≡ e
+    → done ≡ done-of d → vol ≡ volume-of d → changes ≡ changes-by done → image ≡ imageAfter changes (done .drive) given → number ≡ numberOf (done .answer)
+    → answer ≡ answerImage (done .answer) → Changed (done-of e) (changes-by (done-of e)) (volume-of e) given number vol image answer
+changed-by {d} {e} {done} {changes} {given} done-of changes-by volume-of o h v c i n a =
     let same : done ≡ done-of e = h ∙ ap done-of o in
-    record { tells = tells-by (ap (λ (z : Done). z .answer) same) n a; volume = v ∙ ap volume-of o; drive = i ∙ ap (λ (z : Done). imageAfter z given) same }
+    record {
+      tells = tells-by (ap (λ (z : Done). z .answer) same) n a;
+      volume = v ∙ ap volume-of o;
+      drive = i ∙ ap (λ (b : Bool). imageAfter b (done .drive) given) c ∙ ap (λ (z : Done). imageAfter (changes-by z) (z .drive) given) same;
+    }

@@ -1,5 +1,6 @@
 -- No second outcome meets the words of a promise: number and every lent byte are determined.
 use mathlib.Core.Path.{_≡_, sym, _∙_}
+use mathlib.Core.Bool.{Bool}
 use mathlib.Core.List.{List}
 use Prim.Native.Nat.{ℕ}
 use Rattle.answers.specs.declared.Answer.{Answer}
@@ -30,6 +31,6 @@ pub one-stored-flake : {d : Drive} {v : List ℕ} {n f k l : ℕ} {r t x y : Lis
     → ((k ≡ l) × (x ≡ y)) × (r ≡ t)
 one-stored-flake p q = (one-answer (p .tells) (q .tells), p .part ∙ sym (q .part))
 
-pub one-change : {done : Done} {after given : List ℕ} {k l : ℕ} {a b i j x y : List ℕ} → Changed done after given k a i x → Changed done after given l b j y
-    → ((k ≡ l) × (x ≡ y)) × ((a ≡ b) × (i ≡ j))
+pub one-change : {done : Done} {changes : Bool} {after given : List ℕ} {k l : ℕ} {a b i j x y : List ℕ} → Changed done changes after given k a i x
+    → Changed done changes after given l b j y → ((k ≡ l) × (x ≡ y)) × ((a ≡ b) × (i ≡ j))
 one-change p q = (one-answer (p .tells) (q .tells), (p .volume ∙ sym (q .volume), p .drive ∙ sym (q .drive)))

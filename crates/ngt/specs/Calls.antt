@@ -1,6 +1,7 @@
 -- What each function of the C interface answers and what each lent byte holds at the end. "The answer's image, 16 bytes,
 -- always stored"; "Each function also returns the number."
 use mathlib.Core.Path.{_≡_}
+use mathlib.Core.Bool.{Bool}
 use mathlib.Core.List.{List, _++_}
 use Prim.Native.Nat.{ℕ}
 use Rattle.base.specs.Pick.{pick}
@@ -21,6 +22,7 @@ use Rattle.reading.specs.Read.{readAnswer, readBuffer}
 use Rattle.reports.specs.declared.told.Report.{Report}
 use Rattle.reports.specs.Report.{reportOf}
 use Rattle.reports.specs.Stored.{storedAnswer}
+use Rattle.changes.specs.Rekey.{beginDone, beginVolume, finishDone, finishVolume}
 
 -- the number and the answer's image tell this answer
 pub record Tells (a : Answer) (number : ℕ) (answer : List ℕ) : Type 0 where
@@ -56,12 +58,22 @@ pub record Shown (d : Drive) (v : List ℕ) (n f number : ℕ) (span answer : Li
   pub tells : Tells (storedAnswer d v n f) number answer
   pub part : span ≡ spanOf d v n f
 
--- "An accepted call stores the drive's image anew", a refused one leaves it
-unfoldable pub imageAfter : Done → List ℕ → List ℕ
-imageAfter done given = pick (accepts (done .answer)) (driveImage (done .drive)) given
+-- "Where the drive comes back as given, no byte of the image is stored; otherwise the whole image is."
+unfoldable pub imageAfter : Bool → Drive → List ℕ → List ℕ
+imageAfter changes d given = pick changes (driveImage d) given
 
 -- what a call that may change drive and volume leaves, where `after` is the volume by the call's own definition
-pub record Changed (done : Done) (after given : List ℕ) (number : ℕ) (vol image answer : List ℕ) : Type 0 where
+pub record Changed (done : Done) (changes : Bool) (after given : List ℕ) (number : ℕ) (vol image answer : List ℕ) : Type 0 where
   pub tells : Tells (done .answer) number answer
   pub volume : vol ≡ after
-  pub drive : image ≡ imageAfter done given
+  pub drive : image ≡ imageAfter changes (done .drive) given
+
+-- begin, sweep and finish change the drive if they are accepted
+abbrev pub Rekeyed : Done → List ℕ → List ℕ → ℕ → List ℕ → List ℕ → List ℕ → Type 0
+Rekeyed done after given number vol image answer = Changed done (accepts (done .answer)) after given number vol image answer
+
+abbrev pub Begun : Drive → List ℕ → List ℕ → List ℕ → ℕ → List ℕ → List ℕ → List ℕ → Type 0
+Begun d v secret = Rekeyed (beginDone d v secret) (beginVolume d v secret)
+
+abbrev pub Finished : Drive → List ℕ → List ℕ → ℕ → List ℕ → List ℕ → List ℕ → Type 0
+Finished d v = Rekeyed (finishDone d v) (finishVolume d v)

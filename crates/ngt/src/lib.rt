@@ -1,14 +1,12 @@
 // The C interface of the drive: each call with its drive and its answer as bytes.
 // It touches the calls' crates, and `packed` and `images` for the bytes.
-use drive::Done;
 use drive::Drive;
 ghost use mathlib.Core.Path.{_≡_};
 ghost use mathlib.Core.List.{_++_};
 ghost use Rattle.words.specs.Le.{le};
 ghost use Rattle.layout.specs.Shape.{shape};
 ghost use Rattle.packed.specs.Image.{driveIn};
-ghost use Rattle.ngt.specs.Calls.{Formatted, Mounted, Filled, Reported, Shown, spanOf, imageAfter, Changed};
-ghost use Rattle.changes.specs.Rekey.{beginDone, beginVolume, finishDone, finishVolume};
+ghost use Rattle.ngt.specs.Calls.{Formatted, Mounted, Filled, Reported, Shown, spanOf, imageAfter, Begun, Finished};
 
 // Format, with the image of the drive that it hands back.
 #[no_mangle]
@@ -144,12 +142,10 @@ pub extern "C" fn ngt_stored_flake(
     answers::number(a)
 }
 
-fn image_after(done: Done, given: [u8; 144]) -> [u8; 144]
-    ensures { λ r. ⌜ r ≡ imageAfter done given ⌝ }
+fn image_after(changes: bool, d: Drive, given: [u8; 144]) -> [u8; 144]
+    ensures { λ r. ⌜ r ≡ imageAfter changes d given ⌝ }
 {
-    let a = done.answer;
-    let d = done.drive;
-    if answers::accepted(a) {
+    if changes {
         return packed::pack(d);
     }
     given
@@ -163,15 +159,15 @@ pub extern "C" fn ngt_begin(
     secret: &[u8; 32],
     answer: &mut [u8; 16],
 ) -> u32
-    ensures { λ r. ⌜ Changed (beginDone (driveIn (now (image .entry))) (now (vol .entry)) (now (secret .entry)))
-        (beginVolume (driveIn (now (image .entry))) (now (vol .entry)) (now (secret .entry)))
+    ensures { λ r. ⌜ Begun (driveIn (now (image .entry))) (now (vol .entry)) (now (secret .entry))
         (now (image .entry)) r (now (vol .exit)) (now (image .exit)) (now (answer .exit)) ⌝ }
 {
     let given = *image;
     let d = opened(given);
     let done = rekeying::begin(d, vol, *secret);
     let a = done.answer;
-    *image = image_after(done, given);
+    let next = done.drive;
+    *image = image_after(answers::accepted(a), next, given);
     *answer = images::answer_image(a);
     answers::number(a)
 }
@@ -179,15 +175,15 @@ pub extern "C" fn ngt_begin(
 // Finish.
 #[no_mangle]
 pub extern "C" fn ngt_finish(image: &mut [u8; 144], vol: &mut [u8], answer: &mut [u8; 16]) -> u32
-    ensures { λ r. ⌜ Changed (finishDone (driveIn (now (image .entry))) (now (vol .entry)))
-        (finishVolume (driveIn (now (image .entry))) (now (vol .entry)))
+    ensures { λ r. ⌜ Finished (driveIn (now (image .entry))) (now (vol .entry))
         (now (image .entry)) r (now (vol .exit)) (now (image .exit)) (now (answer .exit)) ⌝ }
 {
     let given = *image;
     let d = opened(given);
     let done = rekeying::finish(d, vol);
     let a = done.answer;
-    *image = image_after(done, given);
+    let next = done.drive;
+    *image = image_after(answers::accepted(a), next, given);
     *answer = images::answer_image(a);
     answers::number(a)
 }

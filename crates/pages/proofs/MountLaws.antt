@@ -19,7 +19,7 @@ use Rattle.layout.specs.Shape.{inLimits, leaves}
 use Rattle.layout.specs.Parts.{lengthOf}
 use Rattle.layout.proofs.Height.{leaves-enough}
 use Rattle.layout.proofs.Limits.{Limits, limits}
-use Rattle.nodes.specs.Lent.{Lent}
+use Rattle.layout.specs.Lent.{Lent}
 use Rattle.drive.specs.declared.Drive.{Drive}
 use Rattle.drive.specs.declared.Done.{Done}
 use Rattle.drive.specs.Drive.{shapeOf}
@@ -28,7 +28,7 @@ use Rattle.line.specs.Decimal.{longDecimal}
 use Rattle.line.proofs.PutLaws.{long-le}
 use Rattle.opening.specs.Mount.{shapeIn, headFits, lengthFits, wholeIn, openedDrive, mountAnswer, mountDone}
 use Rattle.opening.proofs.HeadBack.{Opened, opened}
-use Rattle.reports.proofs.AnswerLaws.{accepted-is}
+use Rattle.answers.proofs.StageLaws.{accepted-is}
 use Rattle.sheets.specs.Sheet.{presentIn, oldIn, outsideIn, volumeIn, sized, mountedText, mountedBy, sheetLine}
 use Rattle.sheets.proofs.SheetLaws.{mounted-short, sheet-short}
 use Rattle.pages.specs.Words.{t-counter}

@@ -11,7 +11,7 @@ ghost use Rattle.records.specs.Journal.{bit};
 ghost use Rattle.line.specs.Decimal.{decimal};
 ghost use Rattle.line.specs.Lines.{Put};
 ghost use Rattle.line.specs.Texts.{t-flakes};
-ghost use Rattle.nodes.specs.Lent.{Lent};
+ghost use Rattle.layout.specs.Lent.{Lent};
 ghost use Rattle.drive.specs.Drive.{shapeOf};
 ghost use Rattle.pages.specs.Words.{t-key};
 ghost use Rattle.pages.specs.Page.{keyText, presentFlakes, flakesText, markFor, marked, nuggetLine, nuggetLines, driveText, auditPage};

@@ -5,19 +5,16 @@ use borrow.Author.Needs.{needs}
 use Rattle.ngt.proofs.image_after.Statement.{statement}
 use Rattle.ngt.proofs.image_after.Tie as tie
 
-accepted-requires : tie.Need-accepted-requires
-accepted-requires c κs = search needs
-
 pack-requires : tie.Need-pack-requires
 pack-requires c κs = search needs
 
 returns : tie.Need-returns
 unfolding imageAfter
-returns c = c .pack .ensures ∙ sym (yes _ (sym (c .before .before .accepted .ensures) ∙ c .before .if1 .taken) refl)
+returns c = c .pack .ensures ∙ sym (yes _ (c .before .if1 .taken) refl)
 
 returns-2 : tie.Need-returns-2
 unfolding imageAfter
-returns-2 c = sym (no _ (sym (c .before .accepted .ensures) ∙ c .if1 .left) refl)
+returns-2 c = sym (no _ (c .if1 .left) refl)
 
 pub image-after-spec : {M : Type 1} → statement M
-image-after-spec = tie.close (tie.spec accepted-requires pack-requires returns returns-2)
+image-after-spec = tie.close (tie.spec pack-requires returns returns-2)
