@@ -1,2 +1,5 @@
 pub mod Listing
 pub mod Totals
+pub mod Ledger
+pub mod Invariant
+pub mod Step
