@@ -13,9 +13,9 @@ ghost use Rattle.reports.specs.Report.{reportOf};
 ghost use Rattle.reports.specs.Stored.{storedAnswer, storedFlake};
 
 // "Format takes N, P, F, salt, secret and the outside counter."
-pub fn format_at<'d, 'v>(
-    d: &'d mut Drive,
-    vol: &'v mut [u8],
+pub fn format_at(
+    d: &mut Drive,
+    vol: &mut [u8],
     n: u32,
     p: u32,
     f: u32,
@@ -33,13 +33,7 @@ pub fn format_at<'d, 'v>(
 }
 
 // "Mount takes both secrets (the old one unused when steady) and the outside counter."
-pub fn mount_at<'d, 'v>(
-    d: &'d mut Drive,
-    vol: &'v [u8],
-    present: [u8; 32],
-    old: [u8; 32],
-    outside: u64,
-) -> Answer
+pub fn mount_at(d: &mut Drive, vol: &[u8], present: [u8; 32], old: [u8; 32], outside: u64) -> Answer
     ensures { λ r. ⌜ (r ≡ mountDone (now (vol .entry)) present old outside .answer)
         × (now (d .exit) ≡ mountDone (now (vol .entry)) present old outside .drive) ⌝ }
 {
@@ -49,7 +43,7 @@ pub fn mount_at<'d, 'v>(
 }
 
 // "Read fills the buffer."
-pub fn read_at<'d, 'v, 'b>(d: &'d Drive, vol: &'v [u8], offset: u64, buf: &'b mut [u8]) -> Answer
+pub fn read_at(d: &Drive, vol: &[u8], offset: u64, buf: &mut [u8]) -> Answer
     ensures { λ r. ⌜ (r ≡ readAnswer (now (d .entry)) (now (vol .entry)) offset (length (now (buf .entry))))
         × (now (buf .exit) ≡ readBuffer (now (d .entry)) (now (vol .entry)) offset (now (buf .entry))) ⌝ }
 {
@@ -58,7 +52,7 @@ pub fn read_at<'d, 'v, 'b>(d: &'d Drive, vol: &'v [u8], offset: u64, buf: &'b mu
 }
 
 // "Report gives N, nuggets moved [..], left, flakes present, and share"
-pub fn report_at<'d, 'v>(d: &'d Drive, vol: &'v [u8]) -> Report
+pub fn report_at(d: &Drive, vol: &[u8]) -> Report
     ensures { λ r. ⌜ r ≡ reportOf (now (d .entry)) (now (vol .entry)) ⌝ }
 {
     let c = *d;
@@ -66,12 +60,7 @@ pub fn report_at<'d, 'v>(d: &'d Drive, vol: &'v [u8]) -> Report
 }
 
 // What a stored flake answers: 1, 2, 8.
-pub fn stored_flake_answer_at<'d, 'v>(
-    d: &'d Drive,
-    vol: &'v [u8],
-    nugget: u32,
-    flake: u32,
-) -> Answer
+pub fn stored_flake_answer_at(d: &Drive, vol: &[u8], nugget: u32, flake: u32) -> Answer
     ensures { λ r. ⌜ r ≡ storedAnswer (now (d .entry)) (now (vol .entry)) nugget flake ⌝ }
 {
     let c = *d;
@@ -79,7 +68,7 @@ pub fn stored_flake_answer_at<'d, 'v>(
 }
 
 // "shows a backup tool the stored bytes as that part of the volume itself, no copy"
-pub fn stored_flake_at<'d, 'v>(d: &'d Drive, vol: &'v [u8], nugget: u32, flake: u32) -> &'v [u8]
+pub fn stored_flake_at<'v>(d: &Drive, vol: &'v [u8], nugget: u32, flake: u32) -> &'v [u8]
     ensures { λ r. ⌜ now r ≡ storedFlake (now (d .entry)) (now (vol .entry)) nugget flake ⌝ }
 {
     let c = *d;
