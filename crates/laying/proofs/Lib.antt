@@ -1,0 +1,4 @@
+pub mod OverLaws
+pub mod FlakeLaws
+pub mod ChangeLaws
+pub mod Outcomes

@@ -1,0 +1,130 @@
+-- The written bytes laid over contents: one copy of those that meet them, or none.
+use mathlib.Core.Path.{_≡_, refl, ap, sym, _∙_}
+use mathlib.Core.Logic.{_⊎_, ⊎-elim}
+use mathlib.Core.Bool.{true, false}
+use mathlib.Core.List.{List}
+use Prim.Native.Nat.{ℕ, _+_, _-_, _<_, _≤_, max, min}
+use native.Mathlib.Nat.{le-refl}
+use native.Mathlib.Omega.{arith}
+use lib.Dec.{leb, ltb}
+use lib.ListN.{length, getD, take, drop}
+use lib.Seq.{sets, length-sets, getD-take, getD-drop, ext-getD}
+use borrow.Author.Tests.{lt-ltb, le-ltb, le-leb, lt-leb, ltb-true, ltb-false}
+use Rattle.base.specs.Lists.{part, tab}
+use Rattle.base.proofs.PickLaws.{told, yes, no, both-on, both-off}
+use Rattle.base.proofs.PartLaws.{length-part, getD-part, part-sets, take-sets, drop-sets}
+use Rattle.base.proofs.TabLaws.{length-tab, getD-tab}
+use Rattle.changes.specs.Laid.{over}
+use Rattle.laying.specs.Flake.{overlaid}
+
+-- a byte after a run of stores
+sets-below : (l : List ℕ) (at : ℕ) (vs : List ℕ) (i : ℕ) → i < at → getD (sets l at vs) i 0 ≡ getD l i 0
+sets-below l at vs i h =
+    sym (getD-take at (sets l at vs) i 0 h) ∙ ap (λ (x : List ℕ). getD x i 0) (take-sets at l at vs (le-refl at)) ∙ getD-take at l i 0 h
+
+sets-above : (l : List ℕ) (at : ℕ) (vs : List ℕ) (i : ℕ) → at + length vs ≤ i → getD (sets l at vs) i 0 ≡ getD l i 0
+sets-above l at vs i h =
+    let e : i + 0 ≡ i = omega arith in
+    ap (λ (x : ℕ). getD (sets l at vs) x 0) (sym e)
+    ∙ sym (getD-drop i (sets l at vs) 0 0)
+    ∙ ap (λ (x : List ℕ). getD x 0 0) (drop-sets i l at vs h)
+    ∙ getD-drop i l 0 0
+    ∙ ap (λ (x : ℕ). getD l x 0) e
+
+sets-inside : (l : List ℕ) (at n : ℕ) (vs : List ℕ) (i : ℕ) → length vs ≡ n → at + n ≤ length l → i < n → getD (sets l at vs) (at + i) 0 ≡ getD vs i 0
+sets-inside l at n vs i e room h =
+    sym (getD-part at n (sets l at vs) i 0 h) ∙ ap (λ (x : List ℕ). getD x i 0) (part-sets l at n vs e room)
+
+-- the byte at an offset before the written bytes, behind them, and among them
+module _ (o : ℕ) (bytes : List ℕ) (a was : ℕ) where
+  over-before : a < o → was ≡ over o bytes a was
+  over-before h = sym (no _ (both-off _ (lt-leb o a h)) refl)
+
+  over-behind : o + length bytes ≤ a → was ≡ over o bytes a was
+  over-behind h = sym (no _ (both-on (le-leb o a (omega arith)) (le-ltb a (o + length bytes) h)) refl)
+
+  over-among : o ≤ a → a < o + length bytes → getD bytes (a - o) 0 ≡ over o bytes a was
+  over-among h l = sym (yes _ (both-on (le-leb o a h) (lt-ltb a (o + length bytes) l)) refl)
+
+-- the larger and the smaller of two
+larger-told : (a b m : ℕ) → m ≡ max a b → (a ≤ m) × (b ≤ m) × (a < m → m ≡ b)
+larger-told a b m e = (omega arith, omega arith, λ h. omega (arith, h))
+
+smaller-told : (a b m : ℕ) → m ≡ min a b → (m ≤ a) × (m ≤ b) × (m < a → m ≡ b)
+smaller-told a b m e = (omega arith, omega arith, λ h. omega (arith, h))
+
+module _ (start o : ℕ) (bytes l : List ℕ) where
+  pub length-overlaid : length (overlaid start o bytes l) ≡ length l
+  unfolding overlaid
+  length-overlaid = length-tab (length l) (λ b. over o bytes (start + b) (getD l b 0))
+
+  -- by its bytes
+  by-bytes : (w : List ℕ) → length w ≡ length l → ((i : ℕ) → i < length l → getD w i 0 ≡ over o bytes (start + i) (getD l i 0)) → w ≡ overlaid start o bytes l
+  unfolding overlaid
+  by-bytes w e h =
+      ext-getD 0 w (overlaid start o bytes l) (e ∙ sym length-overlaid) (λ i q.
+      let low : i < length l = omega (arith, q, e) in
+      h i low ∙ sym (getD-tab (length l) (λ b. over o bytes (start + b) (getD l b 0)) i 0 low))
+
+  -- n bytes copied: all that the range and the contents share
+  over-copy : (at from n : ℕ) → start + at ≡ o + from → at + n ≤ length l → from + n ≤ length bytes → (0 < at → from ≡ 0)
+      → (at + n < length l → from + n ≡ length bytes) → sets l at (part from n bytes) ≡ overlaid start o bytes l
+  over-copy at from n meet room short none all =
+      let vs = part from n bytes in
+      let long : length vs ≡ n = length-part from n bytes short in
+      by-bytes (sets l at vs) (length-sets l at vs) (λ i q.
+      ⊎-elim
+      (λ e.
+      let low = ltb-true i at e in
+      sets-below l at vs i low ∙ over-before o bytes (start + i) (getD l i 0) (omega (arith, low, none (omega (arith, low)))))
+      (λ e.
+      let ge = ltb-false i at e in
+      ⊎-elim
+      (λ d.
+      let low = ltb-true i (at + n) d in
+      let place : at + (i - at) ≡ i = omega (arith, ge) in
+      let byte : from + (i - at) ≡ start + i - o = omega (arith, ge, low) in
+      ap (λ (x : ℕ). getD (sets l at vs) x 0) (sym place)
+      ∙ sets-inside l at n vs (i - at) long room (omega (arith, ge, low))
+      ∙ getD-part from n bytes (i - at) 0 (omega (arith, ge, low))
+      ∙ ap (λ (x : ℕ). getD bytes x 0) byte
+      ∙ over-among o bytes (start + i) (getD l i 0) (omega (arith, ge)) (omega (arith, low)))
+      (λ d.
+      let up = ltb-false i (at + n) d in
+      sets-above l at vs i (rw long (omega (arith, up))) ∙ over-behind o bytes (start + i) (getD l i 0) (omega (arith, up, all (omega (arith, up, q)))))
+      (told (ltb i (at + n))))
+      (told (ltb i at)))
+
+  over-between : (first last : ℕ) → first < last → start ≤ first → o ≤ first → (start < first → first ≡ o) → last ≤ start + length l
+      → last ≤ o + length bytes → (last < start + length l → last ≡ o + length bytes)
+      → sets l (first - start) (part (first - o) (last - o - (first - o)) bytes) ≡ overlaid start o bytes l
+  over-between first last h a b c d e g =
+      let at = first - start in
+      let from = first - o in
+      let n = last - first in
+      let p : start + at ≡ first = omega (arith, a) in
+      let q : o + from ≡ first = omega (arith, b) in
+      let r : first + n ≡ last = omega (arith, h) in
+      let z : last - o - from ≡ n = omega (arith, b, h) in
+      rw z (over-between′ at from n p q r)
+    where
+      over-between′ : (at from n : ℕ) → start + at ≡ first → o + from ≡ first → first + n ≡ last → sets l at (part from n bytes) ≡ overlaid start o bytes l
+      over-between′ at from n p q r =
+          over-copy at from n (p ∙ sym q) (omega (arith, p, r, d)) (omega (arith, q, r, e)) (λ some. omega (arith, q, c (omega (arith, p, some))))
+          (λ some. omega (arith, q, r, g (omega (arith, p, r, some))))
+
+  module _ (first last : ℕ) (ef : first ≡ max start o) (el : last ≡ min (start + length l) (o + length bytes)) where
+    -- the range meets none
+    pub over-none : last ≤ first → l ≡ overlaid start o bytes l
+    over-none h =
+        by-bytes l refl (λ i q.
+        ⊎-elim (λ e. over-before o bytes (start + i) (getD l i 0) (ltb-true (start + i) o e))
+        (λ e. let ge = ltb-false (start + i) o e in over-behind o bytes (start + i) (getD l i 0) (omega (arith, ge, h, q)))
+        (told (ltb (start + i) o)))
+
+    -- those that it meets, copied
+    pub over-some : first < last → sets l (first - start) (part (first - o) (last - o - (first - o)) bytes) ≡ overlaid start o bytes l
+    over-some h =
+        let lo = larger-told start o first ef in
+        let hi = smaller-told (start + length l) (o + length bytes) last el in
+        over-between first last h (lo .0) (lo .1) (lo .2) (hi .0) (hi .1) (hi .2)

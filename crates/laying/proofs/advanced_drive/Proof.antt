@@ -1,0 +1,30 @@
+use Rattle.laying.proofs.ChangeLaws.{advanced-is}
+use Rattle.layout.specs.Lent.{Lent}
+use Rattle.layout.specs.declared.Shape.{Shape}
+use mathlib.Core.Path.{sym, subst}
+use borrow.Author.Needs.{needs}
+use Rattle.laying.proofs.advanced_drive.Statement.{statement}
+use Rattle.laying.proofs.advanced_drive.Tie as tie
+
+shape-of-requires : tie.Need-shape-of-requires
+shape-of-requires c κs = search needs
+
+first-node-requires : tie.Need-first-node-requires
+first-node-requires c κs =
+    let a = c .before .before .args in
+    subst (λ (s : Shape). Lent s (a .vol .now)) (sym (c .shape-of .ensures)) (c .before .before .pre .0)
+
+kept-old-requires : tie.Need-kept-old-requires
+kept-old-requires c κs = search needs
+
+add-t10 : tie.Need-add-t10
+add-t10 c = search needs
+
+returns : tie.Need-returns
+returns c =
+    let a = c .before .before .before .before .before .before .before .before .args in
+    advanced-is (a .d) (a .vol .now) (c .before .before .before .before .before .before .shape-of .ensures) (c .before .before .before .before .before .first-node .ensures) (c .before .before .before .kept-old .ensures)
+
+pub advanced-drive-spec : {M : Type 1} → statement M
+advanced-drive-spec =
+    tie.close (tie.spec shape-of-requires first-node-requires kept-old-requires add-t10 returns)

@@ -1,0 +1,25 @@
+use Rattle.laying.proofs.FlakeLaws.{anew-is}
+use borrow.Author.Needs.{needs}
+use Rattle.laying.proofs.flake.lay_anew.Statement.{statement}
+use Rattle.laying.proofs.flake.lay_anew.Tie as tie
+
+open-flake-requires : tie.Need-open-flake-requires
+open-flake-requires c κs = search needs
+
+overlay-requires : tie.Need-overlay-requires
+overlay-requires c κs = search needs
+
+encipher-requires : tie.Need-encipher-requires
+encipher-requires c κs = search needs
+
+same-length : tie.Need-same-length
+same-length c = search needs
+
+returns : tie.Need-returns
+returns c =
+    let a = c .before .before .before .before .before .before .before .before .before .before .before .before .before .before .args in
+    anew-is (a .g) (a .key) (a .k) (a .f) (a .start) (a .o) (a .bytes .now) (a .flake .now) (c .before .before .before .before .before .before .before .before .before .before .open-flake .ensures) (c .before .before .before .before .before .before .overlay .ensures) (c .before .before .encipher .ensures .0) (c .before .before .encipher .ensures .1)
+
+pub lay-anew-spec : {M : Type 1} → statement M
+lay-anew-spec =
+    tie.close (tie.spec open-flake-requires overlay-requires encipher-requires same-length returns)

@@ -1,0 +1,49 @@
+use Rattle.laying.proofs.ChangeLaws.{read-is, top-not, marked-not, marked-is}
+use Rattle.nuggets.specs.Nugget.{recordOf}
+use mathlib.Core.Path.{sym, _∙_}
+use borrow.Author.Needs.{needs}
+use Rattle.laying.proofs.mark.Statement.{statement}
+use Rattle.laying.proofs.mark.Tie as tie
+
+idle-requires : tie.Need-idle-requires
+idle-requires c κs = search needs
+
+returns : tie.Need-returns
+returns c =
+    let a = c .before .before .before .args in
+    marked-not (a .d .epoch) (a .way) (recordOf (a .vol .now) (a .n)) (a .n) (a .vol .now) (sym (c .before .idle .ensures) ∙ c .if1 .taken)
+
+record-at-requires : tie.Need-record-at-requires
+record-at-requires c κs = search needs
+
+read-requires : tie.Need-read-requires
+read-requires c κs = search needs
+
+turn-requires : tie.Need-turn-requires
+turn-requires c κs =
+    let a = c .before .before .before .before .before .before .args in
+    top-not (a .way) (read-is (a .vol .now) (a .n) (c .read .ensures) (c .before .before .record-at .ensures)) (c .before .before .before .before .before .before .pre .2)
+
+store-requires : tie.Need-store-requires
+store-requires c κs = search needs
+
+same-length : tie.Need-same-length
+same-length c = search needs
+
+returns-2 : tie.Need-returns-2
+returns-2 c =
+    let a = c .before .before .before .before .before .before .before .before .before .before .before .args in
+    marked-is (a .d .epoch) (a .way) (recordOf (a .vol .now) (a .n)) (a .n) (a .vol .now) (sym (c .before .before .before .before .before .before .before .before .before .idle .ensures) ∙ c .before .before .before .before .before .before .before .before .if1 .left) (c .before .before .before .before .before .before .before .record-at .ensures) (read-is (a .vol .now) (a .n) (c .before .before .before .before .before .read .ensures) (c .before .before .before .before .before .before .before .record-at .ensures)) (c .before .before .before .before .turn .ensures) (c .before .before .store .ensures)
+
+pub mark-spec : {M : Type 1} → statement M
+mark-spec =
+    tie.close
+    (tie.spec
+    idle-requires
+    returns
+    record-at-requires
+    read-requires
+    turn-requires
+    store-requires
+    same-length
+    returns-2)

@@ -1,0 +1,136 @@
+// What a change stores, piece by piece: a nugget's flakes and tags, its record, its leaf and path, and the head.
+// It touches `nuggets`, `keys`, `tree`, `records`, `drive`, `layout` and `words`; no flake is copied out of the volume.
+mod flake;
+
+use drive::Drive;
+use drive::State;
+use layout::Shape;
+use records::Way;
+ghost use mathlib.Core.Path.{_≡_};
+ghost use mathlib.Core.Bool.{false};
+ghost use Prim.Native.Nat.{_+_, _<_, _≤_};
+ghost use lib.ListN.{length};
+ghost use Rattle.layout.specs.Lent.{Lent};
+ghost use Rattle.layout.specs.Spots.{capacity};
+ghost use Rattle.records.specs.Rule.{atTop};
+ghost use Rattle.records.specs.Listing.{padsBy};
+ghost use Rattle.nodes.specs.Nodes.{nodeIn};
+ghost use Rattle.drive.specs.Drive.{shapeOf, keptOld, counterTop};
+ghost use Rattle.nuggets.specs.Nugget.{recordOf};
+ghost use Rattle.changes.specs.Laid.{laid};
+ghost use Rattle.changes.specs.Change.{idles, marked, tended, advanced, settled};
+ghost use Rattle.changes.specs.Write.{newContents};
+
+// The flakes that the way enciphers: new contents under the pad of the keycount after it, and the tags over what is stored.
+pub fn lay(d: Drive, vol: &mut [u8], n: u32, way: Way, o: usize, bytes: &[u8])
+    requires { ⌜ Lent (shapeOf d) (now vol) × (n < d .n) × (o + length (now bytes) ≤ capacity (shapeOf d)) × (atTop way (recordOf (now vol) n) ≡ false) ⌝ }
+    ensures { λ _. ⌜ now (vol .exit) ≡ laid (shapeOf d) (d .salt) (newContents d (now (vol .entry)) o (now (bytes .entry)))
+        (padsBy (d .p) way n (recordOf (now (vol .entry)) n) (d .present)) (now (vol .entry)) ⌝ }
+{
+    let r = records::read(vol, layout::record_at(n));
+    let after = records::turn(way, d.epoch, r);
+    let mask = records::enciphers(way, r);
+    flake::lay_flakes(d, &mut *vol, n, after.keycount, mask, o, bytes);
+}
+
+// Whether the nugget stays as it is.
+pub fn idle(way: Way) -> bool
+    ensures { λ r. ⌜ r ≡ idles way ⌝ }
+{
+    match way {
+        Way::Idle => true,
+        Way::Add(_) => false,
+        Way::Rekey(_) => false,
+    }
+}
+
+// "The journal becomes J with T."; rekeyed: "keycount plus 1", "epoch set to the head's".
+pub fn mark(d: Drive, vol: &mut [u8], n: u32, way: Way)
+    requires { ⌜ Lent (shapeOf d) (now vol) × (n < d .n) × (atTop way (recordOf (now vol) n) ≡ false) ⌝ }
+    ensures { λ _. ⌜ now (vol .exit) ≡ marked (d .epoch) way (recordOf (now (vol .entry)) n) n (now (vol .entry)) ⌝ }
+{
+    if idle(way) {
+        return;
+    }
+    let at = layout::record_at(n);
+    let r = records::read(vol, at);
+    let after = records::turn(way, d.epoch, r);
+    records::store(&mut *vol, at, after);
+}
+
+// "leaf and path of each nugget it changed"
+pub fn tend(vol: &mut [u8], s: Shape, n: u32, way: Way)
+    requires { ⌜ Lent s (now vol) × (n < s .n) ⌝ }
+    ensures { λ _. ⌜ now (vol .exit) ≡ tended s way n (now (vol .entry)) ⌝ }
+{
+    if idle(way) {
+        return;
+    }
+    tree::renew(&mut *vol, s, n);
+}
+
+// "renews the seal": the 104 bytes that the drive makes.
+pub fn settle(d: Drive, vol: &mut [u8])
+    requires { ⌜ Lent (shapeOf d) (now vol) ⌝ }
+    ensures { λ _. ⌜ now (vol .exit) ≡ settled d (now (vol .entry)) ⌝ }
+{
+    let made = drive::head(d);
+    words::copy(&mut *vol, 0, &made);
+}
+
+// Node 1 of a volume of this shape.
+fn first_node(vol: &[u8], s: Shape) -> [u8; 32]
+    requires { ⌜ Lent s (now vol) ⌝ }
+    ensures { λ r. ⌜ r ≡ nodeIn s (now (vol .entry)) 1 ⌝ }
+{
+    let at = layout::node_at(s, 1);
+    let end = at + 32;
+    let mut out = [0u8; 32];
+    words::copy(&mut out, 0, &vol[at..end]);
+    out
+}
+
+// "an accepted change [..] leaves zeros there"
+fn kept_old(state: State, old: [u8; 32]) -> [u8; 32]
+    ensures { λ r. ⌜ r ≡ keptOld state old ⌝ }
+{
+    match state {
+        State::Steady => [0u8; 32],
+        State::Changing(_) => old,
+    }
+}
+
+// "adds 1 to the counter": the drive over a volume whose tree is renewed.
+fn advanced_drive(d: Drive, vol: &[u8]) -> Drive
+    requires { ⌜ Lent (shapeOf d) (now vol) × (d .counter < counterTop) ⌝ }
+    ensures { λ r. ⌜ r ≡ advanced d (now (vol .entry)) ⌝ }
+{
+    let node = first_node(vol, drive::shape_of(d));
+    let state = d.state;
+    let old = d.old;
+    let kept = kept_old(state, old);
+    let salt = d.salt;
+    let present = d.present;
+    Drive {
+        n: d.n,
+        p: d.p,
+        f: d.f,
+        salt: salt,
+        state: state,
+        epoch: d.epoch,
+        counter: d.counter + 1,
+        node: node,
+        present: present,
+        old: kept,
+    }
+}
+
+// The last stores of a change of nuggets: the drive with its counter and node 1, and the head that it makes.
+pub fn advance(d: Drive, vol: &mut [u8]) -> Drive
+    requires { ⌜ Lent (shapeOf d) (now vol) × (d .counter < counterTop) ⌝ }
+    ensures { λ r. ⌜ (r ≡ advanced d (now (vol .entry))) × (now (vol .exit) ≡ settled (advanced d (now (vol .entry))) (now (vol .entry))) ⌝ }
+{
+    let next = advanced_drive(d, vol);
+    settle(next, &mut *vol);
+    next
+}
