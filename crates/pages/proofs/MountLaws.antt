@@ -4,13 +4,13 @@ use mathlib.Core.Bool.{true, false}
 use mathlib.Core.List.{List, [], _++_, append-nil}
 use mathlib.Core.Logic.{_⊎_, inl, inr}
 use Prim.Native.Nat.{ℕ, _+_, _-_, _*_, _≤_}
-use native.Mathlib.Nat.{mul-le-mul-left, mul-one}
+use native.Mathlib.Nat.{mul-le-mul-left}
 use native.Mathlib.Omega.{arith}
-use lib.Dec.{leb, eqb, lit≤}
+use lib.Dec.{leb}
 use lib.ListN.{length, take, length-append, length-drop}
 use lib.Seq.{length-sets, length-take-le}
 use borrow.Author.Tests.{leb-true, eqb-true}
-use Rattle.base.specs.Pick.{pick, both}
+use Rattle.base.specs.Pick.{pick}
 use Rattle.base.proofs.PickLaws.{yes, told, both-left, both-right}
 use Rattle.answers.specs.declared.Answer.the-variants as A
 use Rattle.answers.specs.Numbers.{accepts}
@@ -20,13 +20,12 @@ use Rattle.layout.specs.Parts.{lengthOf}
 use Rattle.layout.proofs.Height.{leaves-enough}
 use Rattle.layout.proofs.Limits.{Limits, limits}
 use Rattle.layout.specs.Lent.{Lent}
-use Rattle.drive.specs.declared.Drive.{Drive}
 use Rattle.drive.specs.declared.Done.{Done}
 use Rattle.drive.specs.Drive.{shapeOf}
 use Rattle.line.specs.Lines.{Put, newline, refusalLine}
 use Rattle.line.specs.Decimal.{longDecimal}
 use Rattle.line.proofs.PutLaws.{long-le}
-use Rattle.opening.specs.Mount.{shapeIn, headFits, lengthFits, wholeIn, openedDrive, mountAnswer, mountDone}
+use Rattle.opening.specs.Mount.{shapeIn, headFits, lengthFits, openedDrive, mountAnswer, mountDone}
 use Rattle.opening.proofs.HeadBack.{Opened, opened}
 use Rattle.answers.proofs.StageLaws.{accepted-is}
 use Rattle.sheets.specs.Sheet.{presentIn, oldIn, outsideIn, volumeIn, sized, mountedText, mountedBy, sheetLine}

@@ -1,6 +1,6 @@
 use Rattle.line.specs.Decimal.{widthIn, longDecimal}
 use Rattle.line.proofs.DecimalLaws.{length-digits}
-use mathlib.Core.Path.{_≡_, sym, _∙_, ap}
+use mathlib.Core.Path.{sym, _∙_, ap}
 use Prim.Native.Nat.{ℕ, _+_}
 use native.Mathlib.Omega.{arith}
 use borrow.Author.Needs.{needs}

@@ -1,4 +1,3 @@
-use Rattle.line.specs.Decimal.{decimal, longDecimal}
 use Rattle.line.proofs.DecimalLaws.{long-decimal}
 use Rattle.line.proofs.PutLaws.{put-as, decimal-le}
 use mathlib.Core.Path.{ap}

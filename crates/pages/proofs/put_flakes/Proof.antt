@@ -1,7 +1,6 @@
-use Rattle.pages.proofs.PageLaws.{flakes-none, flakes-some, marked-le}
+use Rattle.pages.proofs.PageLaws.{flakes-none, flakes-some}
 use Rattle.pages.specs.Page.{presentFlakes}
 use Rattle.line.proofs.PutLaws.{put-then}
-use native.Mathlib.Omega.{arith}
 use borrow.Author.Needs.{needs}
 use Rattle.pages.proofs.put_flakes.Statement.{statement}
 use Rattle.pages.proofs.put_flakes.Tie as tie

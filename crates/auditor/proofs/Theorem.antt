@@ -1,0 +1,159 @@
+-- The page answers the auditor's first question: for every input that mounts, what is read off its bytes is what the records say.
+use mathlib.Core.Path.{_≡_, refl, sym, ap, _∙_}
+use mathlib.Core.Bool.{true}
+use mathlib.Core.List.{List, [], _++_}
+use Prim.Native.Nat.{ℕ, suc, _+_, _-_, _^_, _<_, _≤_}
+use native.Mathlib.Nat.{lt-of-lt-of-le, le-refl}
+use native.Mathlib.Omega.{arith}
+use lib.Dec.{leb, lit≤}
+use lib.ListN.{length}
+use borrow.Author.Tests.{leb-true}
+use Rattle.base.specs.Lists.{part}
+use Rattle.base.proofs.PickLaws.{yes, both-left, both-right}
+use Rattle.base.proofs.PartLaws.{length-part}
+use Rattle.words.specs.Le.{Bytes}
+use Rattle.words.proofs.LeLaws.{num-lt, bytes-part}
+use Rattle.answers.specs.declared.Answer.the-variants as A
+use Rattle.answers.specs.Numbers.{accepts}
+use Rattle.layout.specs.Parts.{recordAt}
+use Rattle.layout.proofs.Limits.{Limits, limits}
+use Rattle.layout.proofs.Places.{record-inside, parts-inside}
+use Rattle.records.specs.Record.{Widths, epochFits, noneFrom, wellFormed}
+use Rattle.records.proofs.RecordLaws.{read-widths}
+use Rattle.nodes.specs.Lent.{Lent}
+use Rattle.tree.proofs.WholeLaws.{whole-formed}
+use Rattle.keys.specs.Keys.{nuggetKey}
+use Rattle.drive.specs.declared.Drive.{Drive}
+use Rattle.drive.specs.Drive.{shapeOf, isChanging}
+use Rattle.nuggets.specs.Nugget.{recordOf, keyFor}
+use Rattle.opening.specs.Mount.{wholeIn, openedDrive}
+use Rattle.opening.proofs.HeadBack.{Opened, opened}
+use Rattle.reports.specs.Report.{reportAnswer, reportOf}
+use Rattle.line.specs.Lines.{newline, reportLine}
+use Rattle.sheets.specs.Sheet.{presentIn, oldIn, outsideIn, volumeIn, sized, reportText, mountedText, mountedBy, sheetLine}
+use Rattle.sheets.proofs.SheetLaws.{volume-taken}
+use Rattle.sheets.proofs.Follows.{report-follows}
+use Rattle.pages.specs.Page.{presentFlakes, nuggetText, nuggetLines, counterText, counterLine, driveText, mounts, auditPage}
+use Rattle.pages.proofs.MountLaws.{mounted-drive, mounted-answer, opened-lent}
+use Rattle.auditor.specs.Reading.{upTo, past, linesFrom, lineAt, fieldAt, value, lineRead, toldOf, times}
+use Rattle.auditor.specs.Question.{keyWord, secretNamed, Answers}
+use Rattle.auditor.proofs.ListLaws.{times-present, times-above}
+use Rattle.auditor.proofs.LineLaws.{LineTold, line-told, counter-told, counter-free}
+use Rattle.auditor.proofs.PageLines.{Line, report-is-line, last-ends, last-text, from-next, lines-through, nugget-line}
+use Rattle.auditor.proofs.KeyLaws.{key-word, secret-named}
+
+-- a drive whose volume is what it has to be
+module _ (d : Drive) (v : List ℕ) (lent : Lent (shapeOf d) v) (bytes : Bytes v) (whole : wholeIn d v ≡ A.Accepted) where
+  limited : Limits (shapeOf d)
+  limited = limits (shapeOf d) (lent .limited)
+
+  fits : (n : ℕ) → n < d .n → epochFits (d .epoch) (isChanging (d .state)) (recordOf v n .epoch) ≡ true
+  unfolding wellFormed
+  fits n h = both-right (noneFrom (d .p) (recordOf v n .journal)) _ (whole-formed (shapeOf d) (d .epoch) (isChanging (d .state)) v whole n h)
+
+  widths : (n : ℕ) → n < d .n → Widths (recordOf v n)
+  widths n h = read-widths v (recordAt n) bytes (omega (arith, lent .size, record-inside (shapeOf d) n h, parts-inside (shapeOf d)))
+
+  line : (n : ℕ) → n < d .n → LineTold d (recordOf v n) n
+  line n h =
+      let w = widths n h in
+      line-told d (recordOf v n) n (omega (arith, limited .few)) (lt-of-lt-of-le (w .epochWidth) (lit≤ tt)) (lt-of-lt-of-le (w .keycountWidth) (lit≤ tt)) (omega (arith, limited .narrow))
+
+  module _ (outside : ℕ) (first : List ℕ) (is-line : Line first) where
+    abbrev page : List ℕ
+    page = first ++ driveText d v outside
+
+    rest-is : past 10 page ≡ nuggetLines d v (d .n) ++ counterLine outside
+    unfolding driveText
+    rest-is = is-line (driveText d v outside) .0
+
+    first-line : lineAt 0 page ++ newline ≡ first
+    unfolding linesFrom
+    first-line = is-line (driveText d v outside) .1
+
+    -- nugget n's line is the one behind those before it
+    nugget-text : (n : ℕ) → n < d .n → lineAt (suc n) page ≡ nuggetText d (recordOf v n) n
+    unfolding linesFrom
+    nugget-text n h = ap (λ (t : List ℕ). lineAt n t) rest-is ∙ nugget-line d v (d .n) (λ k l. line k l .newlines) n (counterLine outside) h
+
+    counter-from : linesFrom (suc (d .n)) page ≡ counterLine outside
+    unfolding linesFrom
+    counter-from =
+        ap (λ (t : List ℕ). linesFrom (d .n) t) rest-is ∙ lines-through d v (d .n) (λ k l. line k l .newlines) (d .n) (counterLine outside) (le-refl (d .n))
+
+    page-ends : linesFrom (suc (suc (d .n))) page ≡ []
+    page-ends = from-next (suc (d .n)) page ∙ ap (past 10) counter-from ∙ last-ends (counterText outside) (counter-free outside)
+
+    counter-line : lineAt (suc (d .n)) page ≡ counterText outside
+    counter-line = ap (upTo 10) counter-from ∙ last-text (counterText outside) (counter-free outside)
+
+    answered : outside < 10 ^ 20 → d .counter ≡ outside
+        → (let r = reportOf d v in first ≡ reportLine (r .n) (r .moved) (r .left) (r .flakes) (r .share))
+        → Answers page d v outside
+    unfolding keyFor
+    answered small counter is =
+        let named : (n : ℕ) → n < d .n → toldOf page n .key ≡ keyWord d (recordOf v n .epoch) = λ n h. ap (λ (l : List ℕ). lineRead l .key) (nugget-text n h) ∙ line n h .key ∙ key-word d (recordOf v n .epoch) (fits n h) in
+        let flakes : (n : ℕ) → n < d .n → toldOf page n .flakes ≡ presentFlakes (d .p) (recordOf v n .journal) = λ n h. ap (λ (l : List ℕ). lineRead l .flakes) (nugget-text n h) ∙ line n h .flakes in
+        record {
+          sheet = first-line ∙ is;
+          nugget = λ n h. ap (λ (l : List ℕ). lineRead l .nugget) (nugget-text n h) ∙ line n h .nugget;
+          epoch = λ n h. ap (λ (l : List ℕ). lineRead l .epoch) (nugget-text n h) ∙ line n h .epoch;
+          keycount = λ n h. ap (λ (l : List ℕ). lineRead l .keycount) (nugget-text n h) ∙ line n h .keycount;
+          flakes = λ n f h l. ap (times f) (flakes n h) ∙ times-present (d .p) (recordOf v n .journal) f l;
+          noOthers = λ n f h l. ap (times f) (flakes n h) ∙ times-above (d .p) (recordOf v n .journal) f l;
+          word = named;
+          key = λ n h. ap (λ (s : List ℕ). nuggetKey s (d .salt) n) (secret-named d (recordOf v n .epoch) (fits n h) ∙ ap (secretNamed d) (sym (named n h)));
+          counter = ap (λ (l : List ℕ). value (fieldAt 0 l)) counter-line ∙ counter-told outside small;
+          held = counter;
+          ends = page-ends;
+        }
+
+-- the report after an accepted mount is accepted, so the sheet's line has its numbers
+report-line-is : (d : Drive) (v : List ℕ) → reportAnswer d v ≡ A.Accepted
+    → (let r = reportOf d v in reportText r ≡ reportLine (r .n) (r .moved) (r .left) (r .flakes) (r .share))
+unfolding reportText reportOf
+report-line-is d v e = let accepted : accepts (reportOf d v .answer) ≡ true = rw e refl in yes _ accepted refl
+
+module _ (i : List ℕ) (bytes : Bytes i) (mounted : mounts i ≡ true) where
+  size : sized i ≡ true
+  unfolding mounts
+  size = both-left (sized i) _ mounted
+
+  accepted : accepts (mountedBy i .answer) ≡ true
+  unfolding mounts
+  accepted = both-right (sized i) _ mounted
+
+  volume-bytes : Bytes (volumeIn i)
+  volume-bytes = rw (volume-taken i) at (bytes-part 72 (length i - 72) i bytes)
+
+  outside-small : outsideIn i < 10 ^ 20
+  unfolding sized
+  outside-small =
+      let long : length (part 64 8 i) ≡ 8 = length-part 64 8 i (leb-true 72 (length i) (both-left (leb 72 (length i)) _ size)) in
+      let small : outsideIn i < 256 ^ 8 = rw long at (num-lt (part 64 8 i) (bytes-part 64 8 i bytes)) in
+      lt-of-lt-of-le small (lit≤ tt)
+
+  abbrev drive : Drive
+  drive = openedDrive (volumeIn i) (presentIn i) (oldIn i)
+
+  told : Opened (volumeIn i) (openedDrive (volumeIn i) (presentIn i) (oldIn i)) (outsideIn i)
+  told = opened (volumeIn i) (presentIn i) (oldIn i) (outsideIn i) (mounted-answer i accepted)
+
+  sheet-is : sheetLine i ≡ reportText (reportOf drive (volumeIn i))
+  unfolding sheetLine mountedText
+  sheet-is = yes _ size (yes _ accepted (rw (mounted-drive i accepted)))
+
+  page-is : auditPage i ≡ sheetLine i ++ driveText drive (volumeIn i) (outsideIn i)
+  unfolding auditPage
+  page-is = rw (mounted, mounted-drive i accepted)
+
+  -- "Which flakes were under which key when the sheet was printed?"
+  pub first-question : Answers (auditPage i) (mountedBy i .drive) (volumeIn i) (outsideIn i)
+  first-question =
+      let v = volumeIn i in
+      let r = reportOf drive v in
+      let is : sheetLine i ≡ reportLine (r .n) (r .moved) (r .left) (r .flakes) (r .share) =
+      sheet-is ∙ report-line-is drive v (report-follows v (presentIn i) (oldIn i) (outsideIn i) volume-bytes (mounted-answer i accepted)) in
+      let is-line : Line (sheetLine i) = rw is (report-is-line (r .n) (r .moved) (r .left) (r .flakes) (r .share)) in
+      rw (page-is, mounted-drive i accepted)
+      (answered drive v (opened-lent v (presentIn i) (oldIn i) (outsideIn i) told) volume-bytes (told .whole) (outsideIn i) (sheetLine i) is-line outside-small (told .counter) is)
