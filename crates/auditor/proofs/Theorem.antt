@@ -20,7 +20,7 @@ use Rattle.layout.proofs.Limits.{Limits, limits}
 use Rattle.layout.proofs.Places.{record-inside, parts-inside}
 use Rattle.records.specs.Record.{Widths, epochFits, noneFrom, wellFormed}
 use Rattle.records.proofs.RecordLaws.{read-widths}
-use Rattle.nodes.specs.Lent.{Lent}
+use Rattle.layout.specs.Lent.{Lent}
 use Rattle.tree.proofs.WholeLaws.{whole-formed}
 use Rattle.keys.specs.Keys.{nuggetKey}
 use Rattle.drive.specs.declared.Drive.{Drive}
