@@ -4,7 +4,6 @@ use mathlib.Core.Bool.{true, false}
 use mathlib.Core.List.{List}
 use Prim.Native.Nat.{ℕ, _+_, _-_}
 use lib.Seq.{sets}
-use Rattle.base.specs.Lists.{part}
 use Rattle.base.proofs.PickLaws.{yes, no}
 use Rattle.layout.specs.declared.Shape.{Shape}
 use Rattle.layout.specs.Parts.{recordAt}
@@ -67,8 +66,3 @@ module _ (d : Drive) (v : List ℕ) where
       } ≡ advanced d v
   unfolding advanced
   advanced-is es en ek = rw (en, es, ek)
-
-  -- the shape stays
-  pub advanced-shape : {next : Drive} → next ≡ advanced d v → shapeOf next ≡ shapeOf d
-  unfolding advanced
-  advanced-shape e = ap shapeOf e

@@ -3,21 +3,22 @@ use mathlib.Core.Path.{_≡_, refl, ap, sym, _∙_}
 use mathlib.Core.Logic.{_⊎_, ⊎-elim}
 use mathlib.Core.Bool.{Bool, true, false}
 use mathlib.Core.List.{List}
-use Prim.Native.Nat.{ℕ, zero, suc, _+_, _-_, _<_, _≤_}
+use Prim.Native.Nat.{ℕ, _+_, _-_, _<_, _≤_}
 use native.Mathlib.Nat.{mul-le-mul-right}
 use native.Mathlib.Numerals.{add-one}
 use native.Mathlib.Omega.{arith}
 use lib.ListN.{length, getD, length-replicate}
 use lib.Seq.{sets}
 use borrow.Rule.Slice.PartMut.{midOf, putMid}
-use Rattle.base.specs.Lists.{part, tab}
 use Rattle.base.proofs.PickLaws.{told, yes, no}
 use Rattle.base.proofs.PartLaws.{length-part, back}
 use Rattle.base.proofs.TabLaws.{tab-ext, length-tab}
 use Rattle.layout.specs.declared.Shape.{Shape}
+use Rattle.layout.specs.Shape.{inLimits, within}
 use Rattle.layout.specs.Lent.{Lent}
 use Rattle.layout.specs.Parts.{flakeAt, tagAt}
 use Rattle.layout.specs.Spots.{offsetAt, capacity}
+use Rattle.layout.proofs.Limits.{inside}
 use Rattle.layout.proofs.Places.{flake-inside, tag-inside, parts-inside, index-lt}
 use Rattle.records.specs.Journal.{bit}
 use Rattle.records.specs.declared.Record.{Record}
@@ -41,13 +42,13 @@ use Rattle.laying.proofs.OverLaws.{length-overlaid}
 
 -- a present flake, and an absent one
 module _ (g : Nugget) (f : ℕ) (l : List ℕ) where
-  pub opened-in : bit (g .journal) f ≡ true → under (g .key) (g .keycount) f (length l) l ≡ openedFlake g f l
+  pub opened-in : {w : List ℕ} → bit (g .journal) f ≡ true → w ≡ under (g .key) (g .keycount) f (length l) l → w ≡ openedFlake g f l
   unfolding openedFlake
-  opened-in h = sym (yes _ h refl)
+  opened-in h e = e ∙ sym (yes _ h refl)
 
-  pub opened-out : bit (g .journal) f ≡ false → zeros (length l) ≡ openedFlake g f l
+  pub opened-out : {w : List ℕ} → bit (g .journal) f ≡ false → w ≡ zeros (length l) → w ≡ openedFlake g f l
   unfolding openedFlake
-  opened-out h = sym (no _ h refl)
+  opened-out h e = e ∙ sym (no _ h refl)
 
 length-opened : (g : Nugget) (f : ℕ) (l : List ℕ) → length (openedFlake g f l) ≡ length l
 unfolding openedFlake
@@ -62,6 +63,10 @@ anew-is g key k f start o bytes l {a} {b} ea eb et ec =
     let e : b ≡ anew g f start o bytes l = eb ∙ ap (λ (x : List ℕ). overlaid start o bytes x) ea in
     let long : length b ≡ length l = rw e (length-overlaid start o bytes (openedFlake g f l) ∙ length-opened g f l) in
     (et ∙ ap (λ (x : List ℕ). tagUnder key k f x) e, ec ∙ rw long (ap (λ (x : List ℕ). under key k f (length l) x) e))
+
+-- a number of a shape in limits
+pub placed : (s : Shape) {x y : ℕ} → inLimits s ≡ true → x ≡ within s y → x ≡ y
+placed s lim e = e ∙ inside s lim
 
 -- a flake and its tag lie in the volume, and its offsets below N P F
 module _ (s : Shape) (v : List ℕ) (n f : ℕ) (lent : Lent s v) (a : n < s .n) (b : f < s .p) where
@@ -147,7 +152,7 @@ module _ (s : Shape) (salt : List ℕ) (fresh : ℕ → ℕ → List ℕ) (n k :
       → (g : Nugget) → g .number ≡ n → contentsIn s w g f ≡ contentsIn s v g f
   unfolding contentsIn
   still-there long a f b {w} ew g e =
-      let stored : storedIn s w n f ≡ storedIn s v n f = rw ew (laid-stored s salt fresh long n f a b (padsOf n k secret has f) v (before-far s salt fresh long n f a b k secret has)) in
+      let stored : storedIn s w n f ≡ storedIn s v n f = rw ew (laid-stored s salt fresh long n f a b (padsOf n k secret has f) v (before-far s n f a b k secret has)) in
       rw (e, stored)
 
 -- the same of a drive's nugget under a write

@@ -1,16 +1,15 @@
 -- The written bytes laid over contents: one copy of those that meet them, or none.
 use mathlib.Core.Path.{_≡_, refl, ap, sym, _∙_}
 use mathlib.Core.Logic.{_⊎_, ⊎-elim}
-use mathlib.Core.Bool.{true, false}
 use mathlib.Core.List.{List}
 use Prim.Native.Nat.{ℕ, _+_, _-_, _<_, _≤_, max, min}
 use native.Mathlib.Nat.{le-refl}
 use native.Mathlib.Omega.{arith}
-use lib.Dec.{leb, ltb}
-use lib.ListN.{length, getD, take, drop}
+use lib.Dec.{ltb}
+use lib.ListN.{length, getD}
 use lib.Seq.{sets, length-sets, getD-take, getD-drop, ext-getD}
 use borrow.Author.Tests.{lt-ltb, le-ltb, le-leb, lt-leb, ltb-true, ltb-false}
-use Rattle.base.specs.Lists.{part, tab}
+use Rattle.base.specs.Lists.{part}
 use Rattle.base.proofs.PickLaws.{told, yes, no, both-on, both-off}
 use Rattle.base.proofs.PartLaws.{length-part, getD-part, part-sets, take-sets, drop-sets}
 use Rattle.base.proofs.TabLaws.{length-tab, getD-tab}
@@ -95,6 +94,7 @@ module _ (start o : ℕ) (bytes l : List ℕ) where
       (told (ltb i (at + n))))
       (told (ltb i at)))
 
+  -- between the larger of the two starts and the smaller of the two ends
   over-between : (first last : ℕ) → first < last → start ≤ first → o ≤ first → (start < first → first ≡ o) → last ≤ start + length l
       → last ≤ o + length bytes → (last < start + length l → last ≡ o + length bytes)
       → sets l (first - start) (part (first - o) (last - o - (first - o)) bytes) ≡ overlaid start o bytes l
@@ -106,10 +106,10 @@ module _ (start o : ℕ) (bytes l : List ℕ) where
       let q : o + from ≡ first = omega (arith, b) in
       let r : first + n ≡ last = omega (arith, h) in
       let z : last - o - from ≡ n = omega (arith, b, h) in
-      rw z (over-between′ at from n p q r)
+      rw z (shifted at from n p q r)
     where
-      over-between′ : (at from n : ℕ) → start + at ≡ first → o + from ≡ first → first + n ≡ last → sets l at (part from n bytes) ≡ overlaid start o bytes l
-      over-between′ at from n p q r =
+      shifted : (at from n : ℕ) → start + at ≡ first → o + from ≡ first → first + n ≡ last → sets l at (part from n bytes) ≡ overlaid start o bytes l
+      shifted at from n p q r =
           over-copy at from n (p ∙ sym q) (omega (arith, p, r, d)) (omega (arith, q, r, e)) (λ some. omega (arith, q, c (omega (arith, p, some))))
           (λ some. omega (arith, q, r, g (omega (arith, p, r, some))))
 

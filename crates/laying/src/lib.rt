@@ -71,7 +71,7 @@ pub fn tend(vol: &mut [u8], s: Shape, n: u32, way: Way)
 
 // "renews the seal": the 104 bytes that the drive makes.
 pub fn settle(d: Drive, vol: &mut [u8])
-    requires { ⌜ Lent (shapeOf d) (now vol) ⌝ }
+    requires { ⌜ 104 ≤ length (now vol) ⌝ }
     ensures { λ _. ⌜ now (vol .exit) ≡ settled d (now (vol .entry)) ⌝ }
 {
     let made = drive::head(d);

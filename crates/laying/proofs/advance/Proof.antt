@@ -1,9 +1,7 @@
-use Rattle.laying.proofs.ChangeLaws.{advanced-shape}
-use Rattle.layout.specs.Lent.{Lent}
-use Rattle.layout.specs.declared.Shape.{Shape}
 use Rattle.drive.specs.declared.Drive.{Drive}
 use Rattle.changes.specs.Change.{settled}
-use mathlib.Core.Path.{sym, ap, subst, _∙_}
+use native.Mathlib.Omega.{arith}
+use mathlib.Core.Path.{ap, _∙_}
 use borrow.Author.Needs.{needs}
 use Rattle.laying.proofs.advance.Statement.{statement}
 use Rattle.laying.proofs.advance.Tie as tie
@@ -12,9 +10,7 @@ advanced-drive-requires : tie.Need-advanced-drive-requires
 advanced-drive-requires c κs = search needs
 
 settle-requires : tie.Need-settle-requires
-settle-requires c κs =
-    let a = c .before .before .before .before .args in
-    subst (λ (s : Shape). Lent s (a .vol .now)) (sym (advanced-shape (a .d) (a .vol .now) (c .before .advanced-drive .ensures))) (c .before .before .before .before .pre .0)
+settle-requires c κs = omega (arith, c .before .before .before .before .pre .0 .size)
 
 same-length : tie.Need-same-length
 same-length c = search needs

@@ -1,12 +1,12 @@
-use Rattle.laying.proofs.FlakeLaws.{flake-room, tag-room, offset-room, flake-laid}
-use Rattle.layout.proofs.Limits.{inside, limits, capacity-le}
+use Rattle.laying.proofs.FlakeLaws.{placed, flake-room, tag-room, offset-room, flake-laid}
+use Rattle.layout.proofs.Limits.{limits, capacity-le}
 use Rattle.layout.specs.Parts.{flakeAt, tagAt}
 use Rattle.layout.specs.Spots.{offsetAt}
 use borrow.Rule.Slice.PartMut.{midOf, mid-len}
 use lib.ListN.{length}
 use Prim.Native.Nat.{_+_, _-_}
 use native.Mathlib.Omega.{arith}
-use mathlib.Core.Path.{_≡_, _∙_}
+use mathlib.Core.Path.{_≡_}
 use borrow.Author.Needs.{needs}
 use Rattle.laying.proofs.flake.lay_flake.Statement.{statement}
 use Rattle.laying.proofs.flake.lay_flake.Tie as tie
@@ -21,7 +21,7 @@ add-end : tie.Need-add-end
 add-end c =
     let a = c .before .before .before .before .args in
     let pre = c .before .before .before .before .pre in
-    let at : c .before .flake-at .result ≡ flakeAt (a .s) (a .g .number) (a .f) = c .before .flake-at .ensures ∙ inside (a .s) (pre .0 .limited) in
+    let at : c .before .flake-at .result ≡ flakeAt (a .s) (a .g .number) (a .f) = placed (a .s) (pre .0 .limited) (c .before .flake-at .ensures) in
     omega (arith, at, flake-room (a .s) (a .vol .now) (a .g .number) (a .f) (pre .0) (pre .1) (pre .2))
 
 offset-of-requires : tie.Need-offset-of-requires
@@ -40,7 +40,7 @@ part-lay-anew-end : tie.Need-part-lay-anew-end
 part-lay-anew-end c =
     let a = c .before .before .before .before .before .before .args in
     let pre = c .before .before .before .before .before .before .pre in
-    let at : c .before .before .before .flake-at .result ≡ flakeAt (a .s) (a .g .number) (a .f) = c .before .before .before .flake-at .ensures ∙ inside (a .s) (pre .0 .limited) in
+    let at : c .before .before .before .flake-at .result ≡ flakeAt (a .s) (a .g .number) (a .f) = placed (a .s) (pre .0 .limited) (c .before .before .before .flake-at .ensures) in
     omega (arith, at, flake-room (a .s) (a .vol .now) (a .g .number) (a .f) (pre .0) (pre .1) (pre .2))
 
 lay-anew-requires : tie.Need-lay-anew-requires
@@ -49,8 +49,8 @@ lay-anew-requires c κs =
     let pre = c .before .before .before .before .before .before .before .pre in
     let s = a .s in
     let x = c .before .before .before .before .flake-at .result in
-    let at : x ≡ flakeAt s (a .g .number) (a .f) = c .before .before .before .before .flake-at .ensures ∙ inside s (pre .0 .limited) in
-    let start : c .before .before .offset-of .result ≡ offsetAt s (a .g .number) (a .f) 0 = c .before .before .offset-of .ensures ∙ inside s (pre .0 .limited) in
+    let at : x ≡ flakeAt s (a .g .number) (a .f) = placed s (pre .0 .limited) (c .before .before .before .before .flake-at .ensures) in
+    let start : c .before .before .offset-of .result ≡ offsetAt s (a .g .number) (a .f) 0 = placed s (pre .0 .limited) (c .before .before .offset-of .ensures) in
     let m = limits s (pre .0 .limited) in
     let room = flake-room s (a .vol .now) (a .g .number) (a .f) (pre .0) (pre .1) (pre .2) in
     let long : length (midOf x (x + s .f - x) (a .vol .now)) ≡ x + s .f - x = mid-len x (x + s .f) (a .vol .now) (omega (arith, at, room)) in
@@ -65,7 +65,7 @@ copy-requires : tie.Need-copy-requires
 copy-requires c κs =
     let a = c .before .before .before .before .before .before .before .before .before .before .before .before .args in
     let pre = c .before .before .before .before .before .before .before .before .before .before .before .before .pre in
-    let tag : c .before .before .before .before .before .before .tag-at .result ≡ tagAt (a .s) (a .g .number) (a .f) = c .before .before .before .before .before .before .tag-at .ensures ∙ inside (a .s) (pre .0 .limited) in
+    let tag : c .before .before .before .before .before .before .tag-at .result ≡ tagAt (a .s) (a .g .number) (a .f) = placed (a .s) (pre .0 .limited) (c .before .before .before .before .before .before .tag-at .ensures) in
     let k : length (c .before .before .before .before .lay-anew .result) ≡ 16 = search needs in
     omega (arith, tag, k, tag-room (a .s) (a .vol .now) (a .g .number) (a .f) (pre .0) (pre .1) (pre .2))
 
@@ -77,9 +77,9 @@ returns c =
     let a = c .before .before .before .before .before .before .before .before .before .before .before .before .before .before .before .args in
     let pre = c .before .before .before .before .before .before .before .before .before .before .before .before .before .before .before .pre in
     let s = a .s in
-    let at : c .before .before .before .before .before .before .before .before .before .before .before .before .flake-at .result ≡ flakeAt s (a .g .number) (a .f) = c .before .before .before .before .before .before .before .before .before .before .before .before .flake-at .ensures ∙ inside s (pre .0 .limited) in
-    let start : c .before .before .before .before .before .before .before .before .before .before .offset-of .result ≡ offsetAt s (a .g .number) (a .f) 0 = c .before .before .before .before .before .before .before .before .before .before .offset-of .ensures ∙ inside s (pre .0 .limited) in
-    let tag : c .before .before .before .before .before .before .before .before .before .tag-at .result ≡ tagAt s (a .g .number) (a .f) = c .before .before .before .before .before .before .before .before .before .tag-at .ensures ∙ inside s (pre .0 .limited) in
+    let at : c .before .before .before .before .before .before .before .before .before .before .before .before .flake-at .result ≡ flakeAt s (a .g .number) (a .f) = placed s (pre .0 .limited) (c .before .before .before .before .before .before .before .before .before .before .before .before .flake-at .ensures) in
+    let start : c .before .before .before .before .before .before .before .before .before .before .offset-of .result ≡ offsetAt s (a .g .number) (a .f) 0 = placed s (pre .0 .limited) (c .before .before .before .before .before .before .before .before .before .before .offset-of .ensures) in
+    let tag : c .before .before .before .before .before .before .before .before .before .tag-at .result ≡ tagAt s (a .g .number) (a .f) = placed s (pre .0 .limited) (c .before .before .before .before .before .before .before .before .before .tag-at .ensures) in
     flake-laid s (a .vol .now) (a .g) (a .key) (a .k) (a .f) (a .o) (a .bytes .now) (pre .0) (pre .1) (pre .2) (c .before .before .before .before .before .before .before .before .before .before .before .before .flake-at .result) (c .before .before .before .before .before .before .before .before .before .before .offset-of .result) (c .before .before .before .before .before .before .before .before .before .tag-at .result) at start tag (c .before .before .before .before .before .before .before .lay-anew .ensures .1) (c .before .before .before .before .before .before .before .lay-anew .ensures .0) (c .before .before .copy .ensures)
 
 pub lay-flake-spec : {M : Type 1} → statement M

@@ -3,10 +3,9 @@ use Rattle.layout.proofs.Limits.{limits}
 use Rattle.drive.specs.Drive.{shapeOf}
 use Rattle.records.specs.Journal.{bit}
 use Rattle.changes.specs.Write.{newContents}
-use lib.ListN.{length}
-use Prim.Native.Nat.{ℕ, _-_, _+_, _≤_}
+use Prim.Native.Nat.{ℕ, _-_, _≤_}
 use native.Mathlib.Omega.{arith}
-use mathlib.Core.Path.{_≡_, ap, sym, subst, _∙_}
+use mathlib.Core.Path.{_≡_, sym, subst, _∙_}
 use mathlib.Core.Logic.{_⊎_, ⊎-elim}
 use borrow.Author.Needs.{needs}
 use Rattle.laying.proofs.flake.lay_flakes.Statement.{statement}

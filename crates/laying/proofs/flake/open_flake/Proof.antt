@@ -19,7 +19,7 @@ same-length c = search needs
 returns : tie.Need-returns
 returns c =
     let a = c .before .before .before .before .before .before .before .before .args in
-    c .before .before .lay-pad .ensures ∙ opened-in (a .g) (a .f) (a .flake .now) (sym (c .before .before .before .before .before .before .has .ensures) ∙ c .before .before .before .before .before .if1 .taken)
+    opened-in (a .g) (a .f) (a .flake .now) (sym (c .before .before .before .before .before .before .has .ensures) ∙ c .before .before .before .before .before .if1 .taken) (c .before .before .lay-pad .ensures)
 
 same-length-2 : tie.Need-same-length-2
 same-length-2 c = search needs
@@ -27,7 +27,7 @@ same-length-2 c = search needs
 returns-2 : tie.Need-returns-2
 returns-2 c =
     let a = c .before .before .before .before .before .before .before .args in
-    c .before .before .clear .ensures ∙ opened-out (a .g) (a .f) (a .flake .now) (sym (c .before .before .before .before .before .has .ensures) ∙ c .before .before .before .before .if1 .left)
+    opened-out (a .g) (a .f) (a .flake .now) (sym (c .before .before .before .before .before .has .ensures) ∙ c .before .before .before .before .if1 .left) (c .before .before .clear .ensures)
 
 pub open-flake-spec : {M : Type 1} → statement M
 open-flake-spec =
