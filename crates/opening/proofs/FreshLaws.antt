@@ -90,7 +90,7 @@ module _ (s : Shape) (limited : inLimits s ≡ true) where
   unfolding planted
   planted-good = built-good s (bare s) bare-lent
 
-  planted-fresh : (n : ℕ) → n < s .n → recordIn (recordAt n) (planted s) ≡ freshRecord
+  pub planted-fresh : (n : ℕ) → n < s .n → recordIn (recordAt n) (planted s) ≡ freshRecord
   unfolding planted bare
   planted-fresh n h =
       sym (record-alike (recordAt n) (bare s) (planted s) (outside-alike n (built-outside s (bare s)) h .records))
