@@ -1,0 +1,138 @@
+-- Write and sweep: a change of nuggets, each in its way, keeps what stays true.
+use mathlib.Core.Path.{_≡_, refl, sym, ap, _∙_}
+use mathlib.Core.Bool.{true, false}
+use mathlib.Core.Logic.{_⊎_, inl, inr}
+use mathlib.Core.List.{List, _++_}
+use Prim.Native.Nat.{ℕ, _+_, _^_, _<_}
+use native.Mathlib.Nat.{lt-of-lt-of-le}
+use native.Mathlib.Omega.{arith}
+use lib.ListN.{length}
+use lib.Pow.{pow-mono}
+use Rattle.base.proofs.PickLaws.{clash}
+use Rattle.base.proofs.TabLaws.{length-tab}
+use Rattle.layout.proofs.Limits.{limits}
+use Rattle.records.specs.declared.Way.{Way}
+use Rattle.records.specs.Journal.{bit}
+use Rattle.records.specs.Record.{Widths}
+use Rattle.records.specs.Rule.{touchedBy, atTop}
+use Rattle.drive.specs.declared.Drive.{Drive}
+use Rattle.drive.specs.declared.State.{State}
+use Rattle.drive.specs.declared.State.the-variants.{Steady, Changing}
+use Rattle.drive.specs.Drive.{shapeOf, isChanging, keptOld, counterTop}
+use Rattle.nuggets.specs.Nugget.{recordOf}
+use Rattle.changes.specs.Change.{padsFor, worked, advanced, settled}
+use Rattle.ledger.specs.Totals.{risen}
+use Rattle.ledger.specs.Ledger.{Ledger}
+use Rattle.ledger.specs.Step.{Fits, Step}
+use Rattle.ledger.proofs.StepLaws.{formed-journal, formed-epoch, keeps}
+use Rattle.history.specs.World.{World}
+use Rattle.history.specs.Step.{left}
+use Rattle.history.specs.Demands.{plainIn}
+use Rattle.history.proofs.Quiet.{untouched-lent}
+use Rattle.history.proofs.View.{kitOf, viewOf, ledgerOf}
+use Rattle.history.proofs.After.{Due, record-after, put-after, kept-after, untouched-after}
+use Rattle.history.proofs.Sound.{Sound, counter-room}
+
+kept-twice : (s : State) (a b : List ℕ) → keptOld s a ≡ b → keptOld s b ≡ b
+kept-twice Steady a b e = e
+kept-twice (Changing epoch) a b e = refl
+
+kept-again : (s : State) (a b : List ℕ) → keptOld s a ≡ b → keptOld s a ≡ keptOld s b
+kept-again s a b e = e ∙ sym (kept-twice s a b e)
+
+kept-changing : (s : State) (a : List ℕ) → isChanging s ≡ true → keptOld s a ≡ a
+kept-changing Steady a e = absurd (clash e refl)
+kept-changing (Changing epoch) a e = refl
+
+module _ (w : World) (x : Sound w) (way : ℕ → Way) (new : ℕ → ℕ → List ℕ) (after : ℕ → ℕ) where
+  abbrev d : Drive
+  d = w .drive
+
+  abbrev v : List ℕ
+  v = w .vol
+
+  -- what the ways and the new contents have to be
+  pub record Ready : Type 0 where
+    pub fits : (n : ℕ) → n < w .drive .n → Fits (w .drive .p) (w .drive .epoch) (recordOf (w .vol) n) (way n)
+    pub room : (n : ℕ) → n < w .drive .n → atTop (way n) (recordOf (w .vol) n) ≡ false
+    pub low : w .drive .counter ≡ counterTop → ⊥
+    pub news : (n f : ℕ) → n < w .drive .n → f < w .drive .p → new n f ≡ plainIn (shapeOf (w .drive)) after n f
+    pub rest : (n f : ℕ) → n < w .drive .n → f < w .drive .p → bit (touchedBy (way n)) f ≡ false
+        → plainIn (shapeOf (w .drive)) after n f ≡ plainIn (shapeOf (w .drive)) (w .contents) n f
+
+  -- the widths of the records, by the invariant
+  widths : (n : ℕ) → n < d .n → Widths (recordOf v n)
+  widths n h =
+      let formed = x .inv .formed n h in
+      record {
+        keycountWidth = omega (arith, x .inv .below n h, x .handed .counter-lt);
+        journalWidth =
+            lt-of-lt-of-le (formed-journal (d .p) (d .epoch) (isChanging (d .state)) (recordOf v n) formed)
+            (pow-mono (limits (shapeOf d) (untouched-lent d v (x .untouched) .limited) .narrow));
+        epochWidth = low (formed-epoch (d .p) (d .epoch) (isChanging (d .state)) (recordOf v n) formed);
+      }
+    where
+      low : (recordOf v n .epoch ≡ d .epoch) ⊎ ((isChanging (d .state) ≡ true) × (recordOf v n .epoch + 1 ≡ d .epoch)) → recordOf v n .epoch < 2 ^ 16
+      low (inl e) = omega (arith, e, x .handed .epoch-lt)
+      low (inr e) = omega (arith, e .1, x .handed .epoch-lt)
+
+  plain-long : (n f : ℕ) → length (plainIn (shapeOf d) after n f) ≡ d .f
+  unfolding plainIn
+  plain-long n f = length-tab (d .f) _
+
+  module _ (r : Ready) where
+    due : Due d v way new
+    due =
+        record {
+          was = x .untouched;
+          salted = x .handed .salt-long;
+          epoch-low = x .handed .epoch-lt;
+          kept = kept-twice (d .state) (w .old) (d .old) (x .handed .kept);
+          fits = r .fits;
+          widths = widths;
+          room = r .room;
+          long = λ n f a b. ap length (r .news n f a b) ∙ plain-long n f;
+        }
+
+    abbrev e : Drive
+    e = advanced d (worked d v way new)
+
+    abbrev z : List ℕ
+    z = settled e (worked d v way new)
+
+    after-work : Ledger
+    after-work = viewOf e z (w .listing ++ padsFor d v way) (w .retired + risen (d .p) (d .n) (recordOf v) (recordOf z)) after
+
+    moves : Step (kitOf d) way (ledgerOf w) after-work
+    unfolding after-work advanced
+    moves =
+        record {
+          ways = r .fits;
+          epochs = refl;
+          states = refl;
+          presents = refl;
+          olds = λ changing. kept-changing (d .state) (d .old) changing;
+          counts = refl;
+          turns = λ n h. record-after d v way new due n h;
+          lists = refl;
+          retires = refl;
+          enciphers = λ n f a b on. rw (← r .news n f a b) (put-after d v way new due n f a b on .stored);
+          leaves = λ n f a b off. kept-after d v way new due n f a b off .stored;
+          untouched = r .rest;
+        }
+
+    pub worked-sound : Sound (left w (advanced d (worked d v way new)) (settled (advanced d (worked d v way new)) (worked d v way new)) (padsFor d v way) (w .secret) (w .old) after)
+    unfolding left after-work advanced
+    worked-sound =
+        record {
+          untouched = untouched-after d v way new due;
+          handed = record {
+            epoch-lt = x .handed .epoch-lt;
+            counter-lt = counter-room (d .counter) (x .handed .counter-lt) (r .low);
+            salt-long = x .handed .salt-long;
+            kept = kept-again (d .state) (w .old) (d .old) (x .handed .kept);
+          };
+          present = x .present;
+          counter = refl;
+          inv = keeps (kitOf d) way (ledgerOf w) after-work (x .inv) moves;
+        }

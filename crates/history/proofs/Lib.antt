@@ -1,0 +1,12 @@
+pub mod Quiet
+pub mod Runs
+pub mod Taken
+pub mod View
+pub mod Heads
+pub mod After
+pub mod Sound
+pub mod Changed
+pub mod Ways
+pub mod Steps
+pub mod Counters
+pub mod Demands

@@ -1,0 +1,168 @@
+-- What stays true through every history, and the calls that leave the nuggets alone.
+use mathlib.Core.Path.{_≡_, refl, sym, ap}
+use mathlib.Core.Bool.{true}
+use mathlib.Core.List.{List, [], _++_, append-nil}
+use Prim.Native.Nat.{ℕ, _+_, _^_, _<_, _≤_}
+use native.Mathlib.Omega.{arith}
+use Rattle.base.proofs.TabLaws.{tab-ext}
+use Rattle.layout.specs.declared.Shape.{Shape}
+use Rattle.layout.specs.Spots.{offsetAt}
+use Rattle.records.specs.declared.Record.{Record}
+use Rattle.drive.specs.declared.Drive.{Drive}
+use Rattle.drive.specs.declared.State.{State}
+use Rattle.drive.specs.declared.State.the-variants.{Steady, Changing}
+use Rattle.drive.specs.Drive.{shapeOf, isChanging, zeros, counterTop}
+use Rattle.drive.specs.Opening.{epochFits}
+use Rattle.nuggets.specs.Nugget.{secretFor, recordOf}
+use Rattle.opening.proofs.Reopens.{Handed}
+use Rattle.changes.specs.Change.{settled}
+use Rattle.changes.specs.Rekey.{begunDrive, finishedDrive}
+use Rattle.ledger.specs.Totals.{risen}
+use Rattle.ledger.specs.Ledger.{Ledger, secretAt}
+use Rattle.ledger.specs.Invariant.{Inv}
+use Rattle.ledger.specs.Step.{Kept, Calm, Begun, Finished}
+use Rattle.ledger.proofs.TotalLaws.{risen-none}
+use Rattle.ledger.proofs.CalmLaws.{calms, begin-calm, finish-calm}
+use Rattle.history.specs.World.{World}
+use Rattle.history.specs.Step.{left}
+use Rattle.history.specs.Demands.{plainIn}
+use Rattle.history.proofs.Quiet.{Untouched}
+use Rattle.history.proofs.Taken.{Begins, Finishes}
+use Rattle.history.proofs.View.{kitOf, viewOf, ledgerOf}
+use Rattle.history.proofs.Heads.{headed, headed-record, headed-stored, headed-untouched, begin-fits, finish-fits}
+
+pub record Sound (w : World) : Type 0 where
+  -- nothing is altered
+  pub untouched : Untouched (w .drive) (w .vol)
+  -- the drive is one that the calls hand out, under the secrets and the counter that the user keeps
+  pub handed : Handed (w .drive) (w .old)
+  pub present : w .drive .present ≡ w .secret
+  pub counter : w .drive .counter ≡ w .outside
+  -- the ledger's invariant
+  pub inv : Inv (kitOf (w .drive)) (ledgerOf w)
+
+-- contents that agree at each offset agree in each flake
+pub plain-same : (s : Shape) (a b : ℕ → ℕ) → ((i : ℕ) → a i ≡ b i) → (n f : ℕ) → plainIn s a n f ≡ plainIn s b n f
+unfolding plainIn
+plain-same s a b e n f = tab-ext (s .f) (λ i. a (offsetAt s n f i)) (λ i. b (offsetAt s n f i)) (λ i h. e (offsetAt s n f i))
+
+-- room for one more
+pub counter-room : (k : ℕ) → k < 256 ^ 8 → (k ≡ counterTop → ⊥) → k + 1 < 256 ^ 8
+counter-room k h top = omega (arith, h, top)
+
+module _ (w : World) (x : Sound w) where
+  -- nothing listed, no keycount risen
+  retired-same : (v : List ℕ) → ((n : ℕ) → recordOf v n ≡ recordOf (w .vol) n)
+      → w .retired + risen (w .drive .p) (w .drive .n) (recordOf (w .vol)) (recordOf v) ≡ w .retired
+  retired-same v e =
+      let none = risen-none (w .drive .p) (w .drive .n) (recordOf (w .vol)) (recordOf v) (λ i h. ap (λ (r : Record). r .keycount) (e i)) in
+      omega (arith, none)
+
+  -- a call that is refused, or changes nothing
+  module _ (after : ℕ → ℕ) (e : (a : ℕ) → after a ≡ w .contents a) where
+    same-kept : Kept (kitOf (w .drive)) (ledgerOf w)
+        (viewOf (w .drive) (w .vol) (w .listing ++ []) (w .retired + risen (w .drive .p) (w .drive .n) (recordOf (w .vol)) (recordOf (w .vol))) after)
+    same-kept =
+        record {
+          sameRecords = λ n h. refl;
+          sameStored = λ n f a b. refl;
+          samePlain = λ n f a b. plain-same (shapeOf (w .drive)) after (w .contents) e n f;
+          sameListing = append-nil (w .listing);
+          sameRetired = retired-same (w .vol) (λ n. refl);
+          counterUp = omega arith;
+        }
+
+    pub same-sound : Sound (left w (w .drive) (w .vol) [] (w .secret) (w .old) after)
+    unfolding left secretAt
+    same-sound =
+        record {
+          untouched = x .untouched;
+          handed = x .handed;
+          present = x .present;
+          counter = refl;
+          inv =
+              calms (kitOf (w .drive)) (ledgerOf w) _ (x .inv)
+              (record { kept = same-kept; stillFormed = x .inv .formed; sameSecrets = λ n h. refl });
+        }
+
+  -- another head alone
+  module _ (state : State) (epoch counter : ℕ) (present old : List ℕ) (up : w .drive .counter ≤ counter) where
+    abbrev d : Drive
+    d = w .drive
+
+    abbrev e : Drive
+    e = headed (w .drive) state epoch counter present old
+
+    abbrev z : List ℕ
+    z = settled e (w .vol)
+
+    pub after-head : Ledger
+    after-head = viewOf e z (w .listing ++ []) (w .retired + risen (d .p) (d .n) (recordOf (w .vol)) (recordOf z)) (w .contents)
+
+    same-record : (n : ℕ) → recordOf z n ≡ recordOf (w .vol) n
+    same-record n = headed-record d (w .vol) (x .untouched) (x .handed .salt-long) state epoch counter present old n
+
+    pub head-kept : Kept (kitOf d) (ledgerOf w) after-head
+    unfolding after-head
+    head-kept =
+        record {
+          sameRecords = λ n h. same-record n;
+          sameStored = λ n f a b. headed-stored d (w .vol) (x .untouched) (x .handed .salt-long) state epoch counter present old n f;
+          samePlain = λ n f a b. refl;
+          sameListing = append-nil (w .listing);
+          sameRetired = retired-same z same-record;
+          counterUp = up;
+        }
+
+    pub head-untouched : epochFits state epoch ≡ true → Calm (kitOf d) (ledgerOf w) after-head → Untouched e z
+    unfolding after-head secretAt secretFor
+    head-untouched fits calm =
+        headed-untouched d (w .vol) (x .untouched) (x .handed .salt-long) state epoch counter present old fits (calm .stillFormed) (calm .sameSecrets)
+
+  -- an accepted begin
+  pub begun-sound : (secret : List ℕ) → Begins (w .drive)
+      → Sound (left w (begunDrive (w .drive) secret) (settled (begunDrive (w .drive) secret) (w .vol)) [] secret (w .secret) (w .contents))
+  unfolding left begunDrive after-head
+  begun-sound secret b =
+      let d = w .drive in
+      let l = ledgerOf w in
+      let up : d .counter ≤ d .counter + 1 = omega arith in
+      let m = after-head (Changing (d .epoch)) (d .epoch + 1) (d .counter + 1) secret (d .present) up in
+      let turn : Begun l m = record { wasSteady = b .steady; isChanging = refl; epochUp = refl; oldKept = refl } in
+      let calm = begin-calm (kitOf d) l m (x .inv) (head-kept (Changing (d .epoch)) (d .epoch + 1) (d .counter + 1) secret (d .present) up) turn in
+      record {
+        untouched = head-untouched (Changing (d .epoch)) (d .epoch + 1) (d .counter + 1) secret (d .present) up (begin-fits d (w .vol) (x .untouched) (b .steady)) calm;
+        handed = record {
+          epoch-lt = omega (arith, x .handed .epoch-lt, b .epoch-low);
+          counter-lt = counter-room (d .counter) (x .handed .counter-lt) (b .counter-low);
+          salt-long = x .handed .salt-long;
+          kept = sym (x .present);
+        };
+        present = refl;
+        counter = refl;
+        inv = calms (kitOf d) l m (x .inv) calm;
+      }
+
+  -- an accepted finish
+  pub finished-sound : Finishes (w .drive) (w .vol)
+      → Sound (left w (finishedDrive (w .drive)) (settled (finishedDrive (w .drive)) (w .vol)) [] (w .secret) (w .old) (w .contents))
+  unfolding left finishedDrive after-head
+  finished-sound b =
+      let d = w .drive in
+      let l = ledgerOf w in
+      let up : d .counter ≤ d .counter + 1 = omega arith in
+      let m = after-head Steady (d .epoch) (d .counter + 1) (d .present) (zeros 32) up in
+      let turn : Finished (kitOf d) l m = record { noneLeft = b .moved; epochKept = refl; presentKept = refl } in
+      let calm = finish-calm (kitOf d) l m (x .inv) (head-kept Steady (d .epoch) (d .counter + 1) (d .present) (zeros 32) up) turn in
+      record {
+        untouched = head-untouched Steady (d .epoch) (d .counter + 1) (d .present) (zeros 32) up (finish-fits d (w .vol) (x .untouched) (b .changing)) calm;
+        handed = record {
+          epoch-lt = x .handed .epoch-lt;
+          counter-lt = counter-room (d .counter) (x .handed .counter-lt) (b .counter-low);
+          salt-long = x .handed .salt-long;
+          kept = refl;
+        };
+        present = x .present;
+        counter = refl;
+        inv = calms (kitOf d) l m (x .inv) calm;
+      }

@@ -1,0 +1,180 @@
+-- A format begins soundly, and every call keeps it so.
+use mathlib.Core.Path.{_≡_, refl, ap, _∙_}
+use mathlib.Core.Bool.{Bool, true, false}
+use mathlib.Core.Logic.{_⊎_, inl, inr}
+use mathlib.Core.List.{List, [], _∷_}
+use Prim.Native.Nat.{ℕ, _+_, _<_}
+use native.Mathlib.Omega.{arith}
+use lib.Dec.{leb, ltb}
+use lib.ListN.{length}
+use borrow.Author.Tests.{leb-true, ltb-true, ltb-false, le-ltb}
+use Rattle.base.specs.Pick.{pick, both}
+use Rattle.base.proofs.PickLaws.{yes, no, told, clash, both-left, both-right}
+use Rattle.base.proofs.TabLaws.{tab-const}
+use Rattle.answers.specs.declared.Answer.the-variants as A
+use Rattle.answers.specs.Numbers.{accepts}
+use Rattle.layout.specs.declared.Shape.{Shape}
+use Rattle.layout.specs.Shape.{inLimits}
+use Rattle.records.specs.declared.Record.{Record}
+use Rattle.records.specs.Journal.{bit}
+use Rattle.records.proofs.BitLaws.{bit-empty}
+use Rattle.tree.proofs.WholeLaws.{whole-good, whole-formed}
+use Rattle.drive.specs.declared.Drive.{Drive}
+use Rattle.drive.specs.declared.Done.{Done}
+use Rattle.drive.specs.declared.State.{State}
+use Rattle.drive.specs.declared.State.the-variants.{Steady, Changing}
+use Rattle.drive.specs.Drive.{isChanging, keptOld}
+use Rattle.nuggets.specs.Nugget.{recordOf}
+use Rattle.opening.specs.Format.{freshRecord, planted, freshDrive, freshVolume, formatDone, formatVolume}
+use Rattle.opening.specs.Mount.{mountDone}
+use Rattle.opening.proofs.FormatLaws.{format-lent}
+use Rattle.opening.proofs.FreshLaws.{planted-fresh, fresh-opens, fresh-whole}
+use Rattle.opening.proofs.Reopens.{Handed, length-head, mounts-back}
+use Rattle.changes.specs.Laid.{over}
+use Rattle.changes.specs.Change.{settled}
+use Rattle.changes.specs.Write.{writes, writeAnswer, writeDone, writeVolume, writePads}
+use Rattle.changes.specs.Rekey.{beginAnswer, beginDone, beginVolume, sweepAnswer, sweepDone, sweepVolume, sweepPads, finishAnswer, finishDone, finishVolume}
+use Rattle.changes.proofs.SettleLaws.{settled-record}
+use Rattle.ledger.specs.Invariant.{Inv}
+use Rattle.ledger.proofs.CalmLaws.{starts}
+use Rattle.history.specs.World.{World, Call, mount, read, write, begin, sweep, finish, report, stored}
+use Rattle.history.specs.Step.{oldFor, overlaid, mounted, step}
+use Rattle.history.specs.History.{Start, begun, run, history}
+use Rattle.history.specs.Demands.{plainIn}
+use Rattle.history.proofs.Quiet.{Untouched, whole-quiet}
+use Rattle.history.proofs.Taken.{begins, sweeps, finishes, writes-some}
+use Rattle.history.proofs.View.{kitOf, viewOf}
+use Rattle.history.proofs.Sound.{Sound, same-sound, begun-sound, finished-sound}
+use Rattle.history.proofs.Ways.{written-sound, swept-sound}
+
+-- a fresh drive and volume
+module _ (s : Shape) (salt secret : List ℕ) (outside : ℕ) (salted : length salt ≡ 16) (limited : inLimits s ≡ true) where
+  abbrev d : Drive
+  d = freshDrive s salt secret outside
+
+  abbrev v : List ℕ
+  v = freshVolume s salt secret outside
+
+  fresh-record : (n : ℕ) → n < s .n → recordOf v n ≡ freshRecord
+  unfolding freshVolume freshDrive settled
+  fresh-record n h = settled-record s d (planted s) (length-head d salted) n ∙ planted-fresh s limited n h
+
+  fresh-untouched : Untouched d v
+  unfolding freshDrive
+  fresh-untouched =
+      let whole = fresh-whole s salt secret outside salted limited in
+      record {
+        opens = fresh-opens s salt secret outside salted limited;
+        good = whole-good s 1 false v whole;
+        well = whole-formed s 1 false v whole;
+        tags = λ n f h l on. absurd (clash on (ap (λ (r : Record). bit (r .journal) f) (fresh-record n h) ∙ bit-empty f));
+      }
+
+  fresh-inv : Inv (kitOf d) (viewOf d v [] 0 (λ a. 0))
+  unfolding freshDrive plainIn
+  fresh-inv =
+      starts (kitOf d) (viewOf d v [] 0 (λ a. 0))
+      (record { empty = fresh-record; zeros = λ n f h l. tab-const (s .f) 0; unlisted = refl; unretired = refl })
+
+-- "Begin with one accepted format"
+pub start-sound : (x : Start) → Sound (begun x)
+unfolding begun formatDone formatVolume freshDrive
+start-sound x =
+    let (lent, top) = format-lent (x .shape) (x .outside) (x .given) (ap accepts (x .accepted)) in
+    rw (x .accepted)
+    (record {
+      untouched = fresh-untouched (x .shape) (x .salt) (x .secret) (x .outside) (x .salted) (lent .limited);
+      handed = record { epoch-lt = omega arith; counter-lt = omega (arith, x .low, top); salt-long = x .salted; kept = refl };
+      present = refl;
+      counter = refl;
+      inv = fresh-inv (x .shape) (x .salt) (x .secret) (x .outside) (x .salted) (lent .limited);
+    })
+
+kept-any : (s : State) (old any : List ℕ) → keptOld s (pick (isChanging s) old any) ≡ keptOld s old
+kept-any Steady old any = refl
+kept-any (Changing epoch) old any = refl
+
+-- what is laid over by no bytes stays
+none-over : (accepted : Bool) (o : ℕ) (bytes : List ℕ) (a was : ℕ) → both accepted (ltb 0 (length bytes)) ≡ false
+    → pick accepted (over o bytes a was) was ≡ was
+none-over false o bytes a was e = refl
+none-over true o bytes a was e = go (told (leb o a))
+  where
+    go : (leb o a ≡ true) ⊎ (leb o a ≡ false) → over o bytes a was ≡ was
+    go (inl q) = rw (q, le-ltb a (o + length bytes) (omega (arith, ltb-false 0 (length bytes) e, leb-true o a q))) refl
+    go (inr q) = rw q refl
+
+module _ (w : World) (x : Sound w) where
+  -- a mount with the right secrets and counter gives the very drive
+  pub mount-back : (any : List ℕ) → mountDone (w .vol) (w .secret) (oldFor w any) (w .outside) ≡ record { answer = A.Accepted; drive = w .drive }
+  mount-back any =
+      let handed : Handed (w .drive) (oldFor w any) = record {
+        epoch-lt = x .handed .epoch-lt;
+        counter-lt = x .handed .counter-lt;
+        salt-long = x .handed .salt-long;
+        kept = kept-any (w .drive .state) (w .old) any ∙ x .handed .kept;
+      } in
+      rw (← x .present, ← x .counter)
+      (mounts-back (w .drive) (w .vol) (oldFor w any) handed (x .untouched .opens) (whole-quiet (w .drive) (w .vol) (x .untouched)))
+
+  pub mount-same : (any : List ℕ) → step w (mount any) ≡ w
+  unfolding step mounted
+  mount-same any = ap (λ (done : Done). mounted w (done .drive)) (mount-back any)
+
+  write-sound : (o : ℕ) (bytes : List ℕ) → Sound (step w (write o bytes))
+  unfolding step writeDone writeVolume writePads
+  write-sound o bytes = go (told (writes (writeAnswer (w .drive) (w .vol) o (length bytes)) bytes))
+    where
+      go : (writes (writeAnswer (w .drive) (w .vol) o (length bytes)) bytes ≡ true) ⊎ (writes (writeAnswer (w .drive) (w .vol) o (length bytes)) bytes ≡ false)
+          → Sound (step w (write o bytes))
+      go (inl e) =
+          let accepted = both-left (accepts (writeAnswer (w .drive) (w .vol) o (length bytes))) _ e in
+          let some : 0 < length bytes = ltb-true 0 (length bytes) (both-right (accepts (writeAnswer (w .drive) (w .vol) o (length bytes))) _ e) in
+          rw e (written-sound w x o bytes (writes-some (w .drive) (w .vol) o (length bytes) some accepted) (overlaid w o bytes) (λ a. yes _ accepted refl))
+      go (inr e) =
+          rw e
+          (same-sound w x (overlaid w o bytes) (λ a. none-over (accepts (writeAnswer (w .drive) (w .vol) o (length bytes))) o bytes a (w .contents a) e))
+
+  begin-sound : (secret : List ℕ) → Sound (step w (begin secret))
+  unfolding step beginDone beginVolume
+  begin-sound secret = go (told (accepts (beginAnswer (w .drive) (w .vol) secret)))
+    where
+      go : (accepts (beginAnswer (w .drive) (w .vol) secret) ≡ true) ⊎ (accepts (beginAnswer (w .drive) (w .vol) secret) ≡ false) → Sound (step w (begin secret))
+      go (inl e) = rw e (begun-sound w x secret (begins (w .drive) (w .vol) secret e))
+      go (inr e) = rw e (same-sound w x (w .contents) (λ a. refl))
+
+  sweep-sound : (n : ℕ) → Sound (step w (sweep n))
+  unfolding step sweepDone sweepVolume sweepPads
+  sweep-sound n = go (told (accepts (sweepAnswer (w .drive) (w .vol) n)))
+    where
+      go : (accepts (sweepAnswer (w .drive) (w .vol) n) ≡ true) ⊎ (accepts (sweepAnswer (w .drive) (w .vol) n) ≡ false) → Sound (step w (sweep n))
+      go (inl e) = rw e (swept-sound w x n (sweeps (w .drive) (w .vol) n e))
+      go (inr e) = rw e (same-sound w x (w .contents) (λ a. refl))
+
+  finish-sound : Sound (step w finish)
+  unfolding step finishDone finishVolume
+  finish-sound = go (told (accepts (finishAnswer (w .drive) (w .vol))))
+    where
+      go : (accepts (finishAnswer (w .drive) (w .vol)) ≡ true) ⊎ (accepts (finishAnswer (w .drive) (w .vol)) ≡ false) → Sound (step w finish)
+      go (inl e) = rw e (finished-sound w x (finishes (w .drive) (w .vol) e))
+      go (inr e) = rw e (same-sound w x (w .contents) (λ a. refl))
+
+pub step-sound : (w : World) (c : Call) → Sound w → Sound (step w c)
+unfolding step
+step-sound w (mount any) x = rw (mount-same w x any) x
+step-sound w (read o buffer) x = x
+step-sound w (write o bytes) x = write-sound w x o bytes
+step-sound w (begin secret) x = begin-sound w x secret
+step-sound w (sweep n) x = sweep-sound w x n
+step-sound w finish x = finish-sound w x
+step-sound w report x = x
+step-sound w (stored n f) x = x
+
+pub run-sound : (w : World) (calls : List Call) → Sound w → Sound (run w calls)
+unfolding run
+run-sound w [] x = x
+run-sound w (c ∷ calls) x = run-sound (step w c) calls (step-sound w c x)
+
+-- every history is sound
+pub sound : (x : Start) (calls : List Call) → Sound (history x calls)
+sound x calls = run-sound (begun x) calls (start-sound x)

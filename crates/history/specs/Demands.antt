@@ -1,0 +1,138 @@
+-- The demands as theorems over every history. Each is proved, under the same name in small letters, in proofs/Demands.antt.
+use Prim.Native.Nat.{ℕ, _+_, _/_, _<_, _≤_}
+use mathlib.Core.Path.{_≡_}
+use mathlib.Core.Bool.{true, false}
+use mathlib.Core.Logic.{_⊎_, _↔_}
+use mathlib.Core.List.{List, _∷_, _++_}
+use mathlib.Core.Option.{some}
+use lib.ListN.{length, getD, getElem?}
+use Rattle.base.specs.Lists.{tab}
+use Rattle.answers.specs.declared.Answer.the-variants as A
+use Rattle.answers.specs.Numbers.{numberOf}
+use Rattle.layout.specs.declared.Shape.{Shape}
+use Rattle.layout.specs.Spots.{offsetAt}
+use Rattle.records.specs.Journal.{bit}
+use Rattle.records.specs.Listing.{Entry}
+use Rattle.keys.specs.Keys.{nuggetKey}
+use Rattle.keys.specs.Pads.{under, Stretch, inputOf}
+use Rattle.drive.specs.Drive.{shapeOf}
+use Rattle.opening.specs.Mount.{mountAnswer, mountDone}
+use Rattle.nuggets.specs.Nugget.{recordOf, secretFor, storedIn}
+use Rattle.reading.specs.Read.{readBuffer}
+use Rattle.reports.specs.Counts.{movedIn, flakesIn}
+use Rattle.reports.specs.Report.{counted, reportOf}
+use Rattle.ledger.specs.Listing.{lastOf, NoneTwice}
+use Rattle.history.specs.World.{World, Call, read, write}
+use Rattle.history.specs.Step.{oldFor, answerTo, step, changesBy, writesAt}
+use Rattle.history.specs.History.{Start, begun, history, among}
+
+-- The drive keeps the shape and the salt of its format; so nothing below speaks of a smaller or another drive.
+abbrev pub ShapeKept : Type 0
+ShapeKept =
+    (start : Start) (calls : List Call)
+    → let w = history start calls in
+    (shapeOf (w .drive) ≡ start .shape) × (w .drive .salt ≡ start .salt)
+
+-- 1. "What is written is what is later read. A place never written reads as zero."
+-- An accepted read fills its buffer with what was last written there, zeros where nothing was.
+abbrev pub ReadsBack : Type 0
+ReadsBack =
+    (start : Start) (calls : List Call) (o : ℕ) (buffer : List ℕ)
+    → let w = history start calls in
+    answerTo w (read o buffer) ≡ A.Accepted
+    → readBuffer (w .drive) (w .vol) o buffer ≡ tab (length buffer) (λ i. w .contents (o + i))
+
+-- What was last written: byte i of an accepted write, if no accepted write after it covers the place.
+abbrev pub WrittenLast : Type 0
+WrittenLast =
+    (start : Start) (calls later : List Call) (o : ℕ) (bytes : List ℕ) (i : ℕ)
+    → let w = history start calls in
+    i < length bytes
+    → answerTo w (write o bytes) ≡ A.Accepted
+    → among (writesAt (o + i)) (step w (write o bytes)) later ≡ false
+    → history start (calls ++ (write o bytes ∷ later)) .contents (o + i) ≡ getD bytes i 0
+
+-- and 0 if no accepted write covers it
+abbrev pub NeverWritten : Type 0
+NeverWritten = (start : Start) (calls : List Call) (a : ℕ) → among (writesAt a) (begun start) calls ≡ false → history start calls .contents a ≡ 0
+
+-- 2. "List every enciphering by nugget, keycount and flake. No entry comes twice."
+abbrev pub NoEntryTwice : Type 0
+NoEntryTwice = (start : Start) (calls : List Call) → NoneTwice (history start calls .listing)
+
+-- 64 bytes of an entry's pad
+abbrev pub stretchOf : Entry → ℕ → Stretch
+stretchOf e j = record { keycount = e .keycount; flake = e .flake; place = j }
+
+-- The auditor's question: "Was any stretch of keystream ever laid over two different contents?" For a nugget's keys no
+-- nonce and block of ChaCha20 serve twice: two stretches made of the same ones are one stretch of one entry.
+abbrev pub NoStretchTwice : Type 0
+NoStretchTwice =
+    (start : Start) (calls : List Call) (i j a b : ℕ) (e g : Entry)
+    → let w = history start calls in
+    let size = w .drive .f in
+    getElem? (w .listing) i ≡ some e → getElem? (w .listing) j ≡ some g → a < size / 64 → b < size / 64 → e .nugget ≡ g .nugget
+    → inputOf size (stretchOf e a) ≡ inputOf size (stretchOf g b) → (i ≡ j) × (a ≡ b)
+
+-- 3. "Entries listed equal flakes now present plus, for each keycount rise, its nugget's flakes present just before."
+abbrev pub EntriesListed : Type 0
+EntriesListed =
+    (start : Start) (calls : List Call)
+    → let w = history start calls in
+    length (w .listing) ≡ flakesIn (w .drive .p) (w .vol) (w .drive .n) + w .retired
+
+-- the F bytes last written to a flake, by the contents of all offsets
+unfoldable pub plainIn : Shape → (ℕ → ℕ) → ℕ → ℕ → List ℕ
+plainIn s contents n f = tab (s .f) (λ b. contents (offsetAt s n f b))
+
+-- a flake is its contents under the pad last listed for it, and that pad is of the secret of its nugget's epoch
+pub record LastPad (w : World) (n f : ℕ) : Type 0 where
+  pub pad : Entry
+  pub last : lastOf n f (w .listing) ≡ some pad
+  pub laid : storedIn (shapeOf (w .drive)) (w .vol) n f
+      ≡ under (nuggetKey (pad .secret) (w .drive .salt) n) (pad .keycount) f (w .drive .f) (plainIn (shapeOf (w .drive)) (w .contents) n f)
+  pub secret : pad .secret ≡ secretFor (w .drive) (recordOf (w .vol) n .epoch)
+
+-- 4. "Each present flake is its contents under the pad last listed for it."
+abbrev pub UnderLastPad : Type 0
+UnderLastPad =
+    (start : Start) (calls : List Call) (n f : ℕ)
+    → let w = history start calls in
+    n < w .drive .n → f < w .drive .p → bit (recordOf (w .vol) n .journal) f ≡ true → LastPad w n f
+
+-- 5. "An image this drive left before its last accepted change never mounts against the present outside counter."
+-- Whatever secrets are brought.
+abbrev pub StaleNeverMounts : Type 0
+StaleNeverMounts =
+    (start : Start) (calls later : List Call) (present old : List ℕ)
+    → let w = history start calls in
+    among changesBy w later ≡ true → mountAnswer (w .vol) present old (history start (calls ++ later) .outside) ≡ A.Accepted → ⊥
+
+-- 6. No false alarm: no call is answered 1 to 7.
+abbrev pub NoFalseAlarm : Type 0
+NoFalseAlarm =
+    (start : Start) (calls : List Call) (c : Call)
+    → let a = answerTo (history start calls) c in
+    (a ≡ A.Accepted) ⊎ (8 ≤ numberOf a)
+
+-- A mount with the right secrets and outside counter is accepted and returns the very drive.
+abbrev pub MountsBack : Type 0
+MountsBack =
+    (start : Start) (calls : List Call) (any : List ℕ)
+    → let w = history start calls in
+    mountDone (w .vol) (w .secret) (oldFor w any) (w .outside) ≡ record { answer = A.Accepted; drive = w .drive }
+
+-- 7. "Report gives N, nuggets moved (epoch equal to the head's), left, flakes present, and share": those of the records.
+abbrev pub ReportTells : Type 0
+ReportTells =
+    (start : Start) (calls : List Call)
+    → let w = history start calls in
+    let n = w .drive .n in
+    reportOf (w .drive) (w .vol) ≡ counted A.Accepted n (movedIn (w .drive .epoch) (w .vol) n) (flakesIn (w .drive .p) (w .vol) n)
+
+-- The share is 100.00 exactly when nothing is left.
+abbrev pub ShareFull : Type 0
+ShareFull =
+    (start : Start) (calls : List Call)
+    → let r = reportOf (history start calls .drive) (history start calls .vol) in
+    (r .share ≡ 10000) ↔ (r .left ≡ 0)

@@ -1,0 +1,4 @@
+pub mod World
+pub mod Step
+pub mod History
+pub mod Demands
