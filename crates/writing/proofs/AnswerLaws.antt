@@ -1,0 +1,176 @@
+-- The answer of a write: the tests of one nugget, one turn over the nuggets that the range meets, and what an accepted one says.
+use mathlib.Core.Path.{_≡_, refl, sym, ap, _∙_}
+use mathlib.Core.Bool.{Bool, true, false}
+use mathlib.Core.Logic.{_⊎_, inl, inr}
+use mathlib.Core.List.{List}
+use Prim.Native.Nat.{ℕ, zero, suc, _+_, _-_, _^_, _<_, _≤_}
+use native.Mathlib.Nat.{pos-of-ne-zero}
+use native.Mathlib.Numerals.{add-one}
+use native.Mathlib.Omega.{arith}
+use borrow.Author.Tests.{eq-eqb, ne-eqb, eqb-true, eqb-false}
+use lib.Dec.{eqb}
+use Rattle.base.specs.Pick.{pick}
+use Rattle.base.proofs.PickLaws.{yes, no, told, clash}
+use Rattle.layout.specs.declared.Shape.{Shape}
+use Rattle.layout.specs.declared.Spot.{Spot}
+use Rattle.layout.specs.Shape.{inLimits}
+use Rattle.layout.specs.Spots.{spotAt, nowhere, capacity}
+use Rattle.layout.specs.Lent.{Lent}
+use Rattle.layout.proofs.Limits.{limits, capacity-le}
+use Rattle.layout.proofs.Places.{spot-inside}
+use Rattle.answers.specs.declared.Answer.{Answer}
+use Rattle.answers.specs.declared.Answer.the-variants as A
+use Rattle.answers.specs.Numbers.{accepts}
+use Rattle.answers.specs.Stages.{andThen}
+use Rattle.answers.proofs.StageLaws.{goes-on, stops, accepted-is}
+use Rattle.records.specs.declared.Record.{Record}
+use Rattle.records.specs.declared.Way.{Way}
+use Rattle.records.specs.declared.Way.the-variants.{Idle, Add, Rekey}
+use Rattle.records.specs.Rule.{wayOf, sweepWay, rekeys, atTop}
+use Rattle.drive.specs.declared.Drive.{Drive}
+use Rattle.drive.specs.Drive.{shapeOf, counterTop}
+use Rattle.drive.specs.Opening.{openingOf}
+use Rattle.drive.proofs.OpeningLaws.{opening-lent}
+use Rattle.nuggets.specs.declared.Nugget.{Nugget}
+use Rattle.nuggets.specs.Nugget.{recordOf, nuggetOf}
+use Rattle.nuggets.specs.Tests.{pathFor, flakesIn}
+use Rattle.nuggets.specs.Touched.{touchedOf, fitsIn}
+use Rattle.nuggets.proofs.TouchLaws.{fits-within}
+use Rattle.changes.specs.Change.{nuggetChange, testedTo}
+use Rattle.changes.specs.Write.{writeWay, writeAnswer}
+use Rattle.changes.proofs.SpanLaws.{still-to, idle-below, idle-above, tested-idle, tested-each, tested-next, tested-stays, change-room}
+use Rattle.writing.specs.declared.Span.{Span}
+use Rattle.writing.specs.Span.{spanOf, Room}
+
+-- what the code's numbers have to know of the range
+pub record Inside (s : Shape) (o len : ℕ) : Type 0 where
+  pub first : spotAt s o .nugget < s .n
+  pub last : spotAt s (o + (len - 1)) .nugget < s .n
+  pub few : s .n ≤ 16384
+  pub small : capacity s ≤ 4294967296
+
+pub inside : (s : Shape) (o len : ℕ) → inLimits s ≡ true → 0 < len → o + len ≤ capacity s → Inside s o len
+inside s o len h some fits =
+    let m = limits s h in
+    let p : 0 < s .p = omega (arith, m .flakes) in
+    let f : 0 < s .f = omega (arith, m .wide) in
+    record {
+      first = spot-inside s o p f (omega (arith, some, fits)) .nugget-is;
+      last = spot-inside s (o + (len - 1)) p f (omega (arith, some, fits)) .nugget-is;
+      few = m .few;
+      small = capacity-le s m;
+    }
+
+-- the spot of an offset, in a shape within limits
+pub spot-is : (s : Shape) (o : ℕ) {t : Spot} → t ≡ pick (inLimits s) (spotAt s o) nowhere → inLimits s ≡ true → t ≡ spotAt s o
+spot-is s o e h = e ∙ yes _ h refl
+
+pub span-is : (s : Shape) (o len : ℕ) {first last : Spot} → first ≡ spotAt s o → last ≡ spotAt s (o + (len - 1))
+    → _≡_ {A = Span} (record { first = first .nugget; end = last .nugget + 1 }) (spanOf s o len)
+span-is s o len e g = rw (e, g) refl
+
+-- the way of a nugget, by what the calls gave
+pub way-is : (d : Drive) (v : List ℕ) (o len n : ℕ) {r : Record} {s : Shape} {t : ℕ} {w : Way} → r ≡ recordOf v n → s ≡ shapeOf d → t ≡ touchedOf s o len n → w ≡ wayOf r t (d .epoch)
+    → w ≡ writeWay d v o len n
+way-is d v o len n er es et ew = ew ∙ rw (et, er, es)
+
+-- the tests of one nugget
+module _ (d : Drive) (v : List ℕ) (n : ℕ) where
+  pub rekey-path : {a : Answer} → a ≡ pathFor d v n → accepts a ≡ false → a ≡ nuggetChange d v n sweepWay
+  unfolding nuggetChange
+  rekey-path e h = e ∙ sym (stops (pathFor d v n) _ (ap accepts (sym e) ∙ h))
+
+  pub rekey-top : {a : Answer} {g : Nugget} → a ≡ pathFor d v n → accepts a ≡ true → g ≡ nuggetOf d v n → g .keycount ≡ 2 ^ 64 - 1 → A.KeycountTop ≡ nuggetChange d v n sweepWay
+  unfolding nuggetChange atTop
+  rekey-top e h eg k =
+      let top : recordOf v n .keycount ≡ 2 ^ 64 - 1 = ap (λ (x : Nugget). x .keycount) (sym eg) ∙ k in
+      sym (goes-on (pathFor d v n) _ (ap accepts (sym e) ∙ h) ∙ yes _ (eq-eqb _ _ top) refl)
+
+  pub rekey-flakes : {a r : Answer} {g : Nugget} {s : Shape} → a ≡ pathFor d v n → accepts a ≡ true → g ≡ nuggetOf d v n → (g .keycount ≡ 2 ^ 64 - 1 → ⊥) → s ≡ shapeOf d
+      → r ≡ flakesIn s v g (g .journal) → r ≡ nuggetChange d v n sweepWay
+  unfolding nuggetChange atTop
+  rekey-flakes {g = g} e h eg k es er =
+      let low : recordOf v n .keycount ≡ 2 ^ 64 - 1 → ⊥ = λ q. k (ap (λ (x : Nugget). x .keycount) eg ∙ q) in
+      er
+      ∙ ap (λ (x : Shape). flakesIn x v g (g .journal)) es
+      ∙ ap (λ (x : Nugget). flakesIn (shapeOf d) v x (x .journal)) eg
+      ∙ sym (goes-on (pathFor d v n) _ (ap accepts (sym e) ∙ h) ∙ no _ (ne-eqb _ _ low) refl)
+
+  pub change-idle : {way : Way} → way ≡ Idle → A.Accepted ≡ nuggetChange d v n way
+  unfolding nuggetChange
+  change-idle e = rw e
+
+  pub change-add : (t : ℕ) {way : Way} {r : Answer} → way ≡ Add t → r ≡ pathFor d v n → r ≡ nuggetChange d v n way
+  unfolding nuggetChange atTop andThen
+  change-add t e h = rw e (h ∙ go (told (accepts (pathFor d v n))))
+    where
+      go : (accepts (pathFor d v n) ≡ true) ⊎ (accepts (pathFor d v n) ≡ false) → pathFor d v n ≡ pick (accepts (pathFor d v n)) A.Accepted (pathFor d v n)
+      go (inl q) = accepted-is (pathFor d v n) q ∙ sym (yes _ q refl)
+      go (inr q) = sym (no _ q refl)
+
+  -- a rekey's tests don't ask what it touches
+  pub change-rekey : (t : ℕ) {way : Way} {r : Answer} → way ≡ Rekey t → r ≡ nuggetChange d v n sweepWay → r ≡ nuggetChange d v n way
+  unfolding nuggetChange atTop
+  change-rekey t e h = rw e h
+
+-- one turn over the nuggets that the range meets
+module _ (d : Drive) (v : List ℕ) (o len : ℕ) where
+  abbrev way : ℕ → Way
+  way = writeWay d v o len
+
+  pub span-start : inLimits (shapeOf d) ≡ true → testedTo d v (writeWay d v o len) (spotAt (shapeOf d) o .nugget) ≡ A.Accepted
+  unfolding testedTo
+  span-start h = still-to (testedTo d v way) 0 (spotAt (shapeOf d) o .nugget) (omega arith) (λ m a b. tested-idle way m (idle-below d v o len (limits (shapeOf d) h) m b) d v)
+
+  pub span-turn : (n : ℕ) {w : Way} {a : Answer} → testedTo d v (writeWay d v o len) n ≡ A.Accepted → w ≡ writeWay d v o len n → a ≡ nuggetChange d v n w
+      → testedTo d v (writeWay d v o len) (n + 1) ≡ a
+  span-turn n h ew ea = rw (add-one n) (tested-next d v way n h ∙ sym (ea ∙ ap (λ (x : Way). nuggetChange d v n x) ew))
+
+  pub span-off : (n : ℕ) {a : Answer} → n < d .n → testedTo d v (writeWay d v o len) (n + 1) ≡ a → accepts a ≡ false → a ≡ testedTo d v (writeWay d v o len) (d .n)
+  span-off n h e t = sym e ∙ sym (tested-stays d v way (d .n) (n + 1) (omega arith) (ap accepts e ∙ t))
+
+  pub span-end : (n : ℕ) → inLimits (shapeOf d) ≡ true → 0 < len → spotAt (shapeOf d) (o + (len - 1)) .nugget < n → n ≤ d .n → testedTo d v (writeWay d v o len) n ≡ A.Accepted
+      → A.Accepted ≡ testedTo d v (writeWay d v o len) (d .n)
+  span-end n h some past few e =
+      sym (still-to (testedTo d v way) n (d .n) few (λ m a b. tested-idle way m (idle-above d v o len (limits (shapeOf d) h) m some (omega (arith, past, a))) d v) ∙ e)
+
+-- the span of the drive's shape, by what the calls gave
+pub span-of-drive : (d : Drive) (o len : ℕ) {s : Shape} {r : Span} → s ≡ shapeOf d → r ≡ spanOf s o len → r ≡ spanOf (shapeOf d) o len
+span-of-drive d o len es e = e ∙ ap (λ (x : Shape). spanOf x o len) es
+
+pub span-few : (d : Drive) {s : Shape} {end : ℕ} → s ≡ shapeOf d → end ≤ s .n → end ≤ d .n
+span-few d es h = let e = ap (λ (x : Shape). x .n) es in omega (arith, h, e)
+
+-- the answer, by its tests
+module _ (d : Drive) (v : List ℕ) (o len : ℕ) where
+  pub answer-opening : {a : Answer} → a ≡ openingOf d v → accepts a ≡ false → a ≡ writeAnswer d v o len
+  unfolding writeAnswer
+  answer-opening e h = e ∙ sym (stops (openingOf d v) _ (ap accepts (sym e) ∙ h))
+
+  module _ {a : Answer} {s : Shape} (ea : a ≡ openingOf d v) (open′ : accepts a ≡ true) (es : s ≡ shapeOf d) where
+    opened : accepts (openingOf d v) ≡ true
+    opened = ap accepts (sym ea) ∙ open′
+
+    pub answer-past : fitsIn s o len ≡ false → A.PastEnd ≡ writeAnswer d v o len
+    unfolding writeAnswer
+    answer-past f = sym (goes-on (openingOf d v) _ opened ∙ no _ (ap (λ (x : Shape). fitsIn x o len) (sym es) ∙ f) refl)
+
+    module _ (f : fitsIn s o len ≡ true) where
+      within : fitsIn (shapeOf d) o len ≡ true
+      within = ap (λ (x : Shape). fitsIn x o len) (sym es) ∙ f
+
+      pub answer-empty : len ≡ 0 → A.Accepted ≡ writeAnswer d v o len
+      unfolding writeAnswer
+      answer-empty z = sym (goes-on (openingOf d v) _ opened ∙ yes _ within (yes _ (eq-eqb len 0 z) refl))
+
+      pub answer-top : (len ≡ 0 → ⊥) → d .counter ≡ counterTop → A.CounterTop ≡ writeAnswer d v o len
+      unfolding writeAnswer
+      answer-top z t = sym (goes-on (openingOf d v) _ opened ∙ yes _ within (no _ (ne-eqb len 0 z) (yes _ (eq-eqb _ _ t) refl)))
+
+      pub answer-tests : {r : Answer} → (len ≡ 0 → ⊥) → (d .counter ≡ counterTop → ⊥) → r ≡ testedTo d v (writeWay d v o len) (d .n) → r ≡ writeAnswer d v o len
+      unfolding writeAnswer
+      answer-tests z t e = e ∙ sym (goes-on (openingOf d v) _ opened ∙ yes _ within (no _ (ne-eqb len 0 z) (no _ (ne-eqb _ _ t) refl)))
+
+      -- what the tests of nuggets may ask
+      pub answer-lent : Lent (shapeOf d) v × (o + len ≤ capacity (shapeOf d))
+      answer-lent = (opening-lent d v opened, fits-within d o len refl within)

@@ -1,0 +1,129 @@
+// Document 01's write: all tests of all nuggets, then flakes and tags, records, leaves and paths, and the head.
+// It touches `nuggets`, `records` and `tree` for the tests, `drive`, `layout` and `answers`, and `laying` for every store.
+use answers::Answer;
+use drive::Drive;
+use layout::Shape;
+use records::Way;
+ghost use mathlib.Core.Path.{_≡_};
+ghost use mathlib.Core.Bool.{true};
+ghost use Prim.Native.Nat.{_+_, _<_, _≤_};
+ghost use lib.ListN.{length};
+ghost use Rattle.layout.specs.Shape.{inLimits};
+ghost use Rattle.layout.specs.Spots.{capacity};
+ghost use Rattle.layout.specs.Lent.{Lent};
+ghost use Rattle.records.specs.Rule.{sweepWay};
+ghost use Rattle.drive.specs.Drive.{shapeOf};
+ghost use Rattle.nuggets.specs.Tests.{pathFor};
+ghost use Rattle.changes.specs.Change.{nuggetChange, testedTo};
+ghost use Rattle.changes.specs.Write.{writeWay, writeAnswer};
+ghost use Rattle.writing.specs.Span.{spanOf};
+
+// The nuggets from the first up to the end.
+struct Span {
+    first: u32,
+    end: u32,
+}
+
+// The nuggets that a range of at least one byte meets.
+fn span_of(s: Shape, o: usize, len: usize) -> Span
+    requires { ⌜ (inLimits s ≡ true) × (0 < len) × (o + len ≤ capacity s) ⌝ }
+    ensures { λ r. ⌜ (r ≡ spanOf s o len) × (r .end ≤ s .n) ⌝ }
+{
+    let first = layout::spot_of(s, o);
+    let last = layout::spot_of(s, o + (len - 1));
+    Span {
+        first: first.nugget as u32,
+        end: (last.nugget + 1) as u32,
+    }
+}
+
+// What the write does to nugget n.
+fn way_at(d: Drive, vol: &[u8], o: usize, len: usize, n: u32) -> Way
+    requires { ⌜ Lent (shapeOf d) (now vol) × (0 < len) × (o + len ≤ capacity (shapeOf d)) × (n < d .n) ⌝ }
+    ensures { λ r. ⌜ r ≡ writeWay d (now (vol .entry)) o len n ⌝ }
+{
+    let r = records::read(vol, layout::record_at(n));
+    let t = nuggets::touched(drive::shape_of(d), o, len, n);
+    records::way_of(r, t, d.epoch)
+}
+
+fn test_path(d: Drive, vol: &[u8], n: u32) -> Answer
+    requires { ⌜ Lent (shapeOf d) (now vol) × (n < d .n) ⌝ }
+    ensures { λ r. ⌜ r ≡ pathFor d (now (vol .entry)) n ⌝ }
+{
+    let state = d.state;
+    tree::path(
+        vol,
+        drive::shape_of(d),
+        d.epoch,
+        drive::is_changing(state),
+        n,
+    )
+}
+
+// "path; 14; flakes, ascending": "a rekey tests all of J", whatever it touches.
+fn test_rekey(d: Drive, vol: &[u8], n: u32) -> Answer
+    requires { ⌜ Lent (shapeOf d) (now vol) × (n < d .n) ⌝ }
+    ensures { λ r. ⌜ r ≡ nuggetChange d (now (vol .entry)) n sweepWay ⌝ }
+{
+    let a = test_path(d, vol, n);
+    if answers::accepted(a) {
+        let g = nuggets::nugget_of(d, vol, n);
+        if g.keycount == 0xffff_ffff_ffff_ffff {
+            return Answer::KeycountTop;
+        }
+        return nuggets::flakes(vol, drive::shape_of(d), g, g.journal);
+    }
+    a
+}
+
+// "a write without rekey tests none": the path alone.
+fn test_nugget(d: Drive, vol: &[u8], n: u32, way: Way) -> Answer
+    requires { ⌜ Lent (shapeOf d) (now vol) × (n < d .n) ⌝ }
+    ensures { λ r. ⌜ r ≡ nuggetChange d (now (vol .entry)) n way ⌝ }
+{
+    match way {
+        Way::Idle => Answer::Accepted,
+        Way::Add(_) => test_path(d, vol, n),
+        Way::Rekey(_) => test_rekey(d, vol, n),
+    }
+}
+
+// "ascending, each": the nuggets that the range meets. Those outside it stay as they are and aren't tested.
+fn test_span(d: Drive, vol: &[u8], o: usize, len: usize) -> Answer
+    requires { ⌜ Lent (shapeOf d) (now vol) × (0 < len) × (o + len ≤ capacity (shapeOf d)) ⌝ }
+    ensures { λ r. ⌜ r ≡ testedTo d (now (vol .entry)) (writeWay d (now (vol .entry)) o len) (d .n) ⌝ }
+{
+    let span = span_of(drive::shape_of(d), o, len);
+    let mut n = span.first;
+    while n < span.end {
+        let way = way_at(d, vol, o, len, n);
+        let a = test_nugget(d, vol, n, way);
+        if answers::accepted(a) {
+            n += 1;
+        } else {
+            return a;
+        }
+    }
+    Answer::Accepted
+}
+
+// "All others start 1, 2, 7 head"; "Write: 8, 13 unless empty, nuggets."
+fn admit(d: Drive, vol: &[u8], offset: u64, len: usize) -> Answer
+    ensures { λ r. ⌜ r ≡ writeAnswer d (now (vol .entry)) offset len ⌝ }
+{
+    let a = drive::opening(d, vol);
+    if answers::accepted(a) {
+        if nuggets::fits(drive::shape_of(d), offset, len) {
+            if len == 0 {
+                return Answer::Accepted;
+            }
+            if d.counter == 0xffff_ffff_ffff_ffff {
+                return Answer::CounterTop;
+            }
+            return test_span(d, vol, offset as usize, len);
+        }
+        return Answer::PastEnd;
+    }
+    a
+}
