@@ -1,16 +1,16 @@
 -- The answer of a write: the tests of one nugget, one turn over the nuggets that the range meets, and what an accepted one says.
 use mathlib.Core.Path.{_≡_, refl, sym, ap, _∙_}
-use mathlib.Core.Bool.{Bool, true, false}
+use mathlib.Core.Bool.{true, false}
 use mathlib.Core.Logic.{_⊎_, inl, inr}
 use mathlib.Core.List.{List}
-use Prim.Native.Nat.{ℕ, zero, suc, _+_, _-_, _^_, _<_, _≤_}
-use native.Mathlib.Nat.{pos-of-ne-zero}
+use Prim.Native.Nat.{ℕ, _+_, _-_, _^_, _<_, _≤_}
 use native.Mathlib.Numerals.{add-one}
 use native.Mathlib.Omega.{arith}
-use borrow.Author.Tests.{eq-eqb, ne-eqb, eqb-true, eqb-false}
+use borrow.Author.Tests.{eq-eqb, ne-eqb, eqb-false, lt-ltb, le-ltb}
 use lib.Dec.{eqb}
+use lib.ListN.{length}
 use Rattle.base.specs.Pick.{pick}
-use Rattle.base.proofs.PickLaws.{yes, no, told, clash}
+use Rattle.base.proofs.PickLaws.{yes, no, told, both-on, both-off}
 use Rattle.layout.specs.declared.Shape.{Shape}
 use Rattle.layout.specs.declared.Spot.{Spot}
 use Rattle.layout.specs.Shape.{inLimits}
@@ -22,11 +22,11 @@ use Rattle.answers.specs.declared.Answer.{Answer}
 use Rattle.answers.specs.declared.Answer.the-variants as A
 use Rattle.answers.specs.Numbers.{accepts}
 use Rattle.answers.specs.Stages.{andThen}
-use Rattle.answers.proofs.StageLaws.{goes-on, stops, accepted-is}
+use Rattle.answers.proofs.StageLaws.{goes-on, stops, accepted-is, passed, missed}
 use Rattle.records.specs.declared.Record.{Record}
 use Rattle.records.specs.declared.Way.{Way}
 use Rattle.records.specs.declared.Way.the-variants.{Idle, Add, Rekey}
-use Rattle.records.specs.Rule.{wayOf, sweepWay, rekeys, atTop}
+use Rattle.records.specs.Rule.{wayOf, sweepWay, atTop}
 use Rattle.drive.specs.declared.Drive.{Drive}
 use Rattle.drive.specs.Drive.{shapeOf, counterTop}
 use Rattle.drive.specs.Opening.{openingOf}
@@ -36,9 +36,9 @@ use Rattle.nuggets.specs.Nugget.{recordOf, nuggetOf}
 use Rattle.nuggets.specs.Tests.{pathFor, flakesIn}
 use Rattle.nuggets.specs.Touched.{touchedOf, fitsIn}
 use Rattle.nuggets.proofs.TouchLaws.{fits-within}
-use Rattle.changes.specs.Change.{nuggetChange, testedTo}
-use Rattle.changes.specs.Write.{writeWay, writeAnswer}
-use Rattle.changes.proofs.SpanLaws.{still-to, idle-below, idle-above, tested-idle, tested-each, tested-next, tested-stays, change-room}
+use Rattle.changes.specs.Change.{nuggetChange, testedTo, settled}
+use Rattle.changes.specs.Write.{writeWay, writeAnswer, writes, writeWork, writtenDrive, writeDoneAt, writeVolumeAt, writeDone, writeVolume}
+use Rattle.changes.proofs.SpanLaws.{still-to, idle-below, idle-above, tested-idle, tested-each, tested-next, tested-stays, after, beyond, change-room}
 use Rattle.writing.specs.declared.Span.{Span}
 use Rattle.writing.specs.Span.{spanOf, Room}
 
@@ -174,3 +174,50 @@ module _ (d : Drive) (v : List ℕ) (o len : ℕ) where
       -- what the tests of nuggets may ask
       pub answer-lent : Lent (shapeOf d) v × (o + len ≤ capacity (shapeOf d))
       answer-lent = (opening-lent d v opened, fits-within d o len refl within)
+
+-- what an accepted write of at least one byte says
+pub record Granted (d : Drive) (v : List ℕ) (o len : ℕ) : Type 0 where
+  pub lent : Lent (shapeOf d) v
+  pub inRange : o + len ≤ capacity (shapeOf d)
+  pub room : Room d v o len
+  pub counterRoom : d .counter ≡ counterTop → ⊥
+
+pub write-told : (d : Drive) (v : List ℕ) (o len : ℕ) → 0 < len → accepts (writeAnswer d v o len) ≡ true → Granted d v o len
+unfolding writeAnswer
+write-told d v o len some e =
+    let (opens, rest) = after (openingOf d v) _ e in
+    let (fits, more) = passed (fitsIn (shapeOf d) o len) _ A.PastEnd refl rest in
+    let full : len ≡ 0 → ⊥ = λ z. omega (arith, z, some) in
+    let tests = ap accepts (sym (no {b = eqb len 0} A.Accepted (ne-eqb len 0 full) refl)) ∙ more in
+    let nuggets = beyond (eqb (d .counter) counterTop) A.CounterTop _ refl tests in
+    record {
+      lent = opening-lent d v opens;
+      inRange = fits-within d o len refl fits;
+      room = λ n h. change-room d v n (writeWay d v o len n) (tested-each d v (writeWay d v o len) (d .n) n h nuggets);
+      counterRoom = eqb-false (d .counter) counterTop (missed (eqb (d .counter) counterTop) A.CounterTop _ refl tests);
+    }
+
+-- the answer, with the drive and the volume that it leaves
+module _ (d : Drive) (v : List ℕ) (o : ℕ) (bytes : List ℕ) {a : Answer} (ea : a ≡ writeAnswer d v o (length bytes)) where
+  abbrev Met : Drive → List ℕ → Type 0
+  Met r w = (record { answer = a; drive = r } ≡ writeDone d v o bytes) × (w ≡ writeVolume d v o bytes)
+
+  met : {r : Drive} {w : List ℕ} → r ≡ writeDoneAt a d v o bytes .drive → w ≡ writeVolumeAt a d v o bytes → Met r w
+  unfolding writeDone writeVolume
+  met er ew =
+      (ap (λ (x : Drive). record { answer = a; drive = x }) er ∙ ap (λ (x : Answer). writeDoneAt x d v o bytes) ea, ew ∙ ap (λ (x : Answer). writeVolumeAt x d v o bytes) ea)
+
+  pub met-stored : accepts a ≡ true → 0 < length bytes → {r : Drive} {w : List ℕ} → r ≡ writtenDrive d v o bytes → w ≡ settled (writtenDrive d v o bytes) (writeWork d v o bytes)
+      → (record { answer = a; drive = r } ≡ writeDone d v o bytes) × (w ≡ writeVolume d v o bytes)
+  met-stored h some er ew =
+      let on : writes a bytes ≡ true = both-on h (lt-ltb 0 (length bytes) some) in
+      met (er ∙ sym (yes _ on refl)) (ew ∙ sym (yes _ on refl))
+
+  kept : writes a bytes ≡ false → (record { answer = a; drive = d } ≡ writeDone d v o bytes) × (v ≡ writeVolume d v o bytes)
+  kept off = met (sym (no _ off refl)) (sym (no _ off refl))
+
+  pub met-empty : accepts a ≡ true → length bytes ≤ 0 → (record { answer = a; drive = d } ≡ writeDone d v o bytes) × (v ≡ writeVolume d v o bytes)
+  met-empty h none = kept (both-on h (le-ltb 0 (length bytes) none))
+
+  pub met-refused : accepts a ≡ false → (record { answer = a; drive = d } ≡ writeDone d v o bytes) × (v ≡ writeVolume d v o bytes)
+  met-refused h = kept (both-off _ h)

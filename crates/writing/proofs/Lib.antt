@@ -1,1 +1,4 @@
 pub mod AnswerLaws
+pub mod StoreLaws
+pub mod Refused
+pub mod Outcomes

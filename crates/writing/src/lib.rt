@@ -1,6 +1,7 @@
 // Document 01's write: all tests of all nuggets, then flakes and tags, records, leaves and paths, and the head.
 // It touches `nuggets`, `records` and `tree` for the tests, `drive`, `layout` and `answers`, and `laying` for every store.
 use answers::Answer;
+use drive::Done;
 use drive::Drive;
 use layout::Shape;
 use records::Way;
@@ -12,11 +13,12 @@ ghost use Rattle.layout.specs.Shape.{inLimits};
 ghost use Rattle.layout.specs.Spots.{capacity};
 ghost use Rattle.layout.specs.Lent.{Lent};
 ghost use Rattle.records.specs.Rule.{sweepWay};
-ghost use Rattle.drive.specs.Drive.{shapeOf};
+ghost use Rattle.drive.specs.Drive.{shapeOf, counterTop};
 ghost use Rattle.nuggets.specs.Tests.{pathFor};
-ghost use Rattle.changes.specs.Change.{nuggetChange, testedTo};
-ghost use Rattle.changes.specs.Write.{writeWay, writeAnswer};
-ghost use Rattle.writing.specs.Span.{spanOf};
+ghost use Rattle.changes.specs.Laid.{laid};
+ghost use Rattle.changes.specs.Change.{nuggetChange, testedTo, padsFor, markedTo, tendedTo, settled};
+ghost use Rattle.changes.specs.Write.{writeWay, writeAnswer, newContents, writeWork, writtenDrive, writeDone, writeVolume};
+ghost use Rattle.writing.specs.Span.{spanOf, Room};
 
 // The nuggets from the first up to the end.
 struct Span {
@@ -126,4 +128,83 @@ fn admit(d: Drive, vol: &[u8], offset: u64, len: usize) -> Answer
         return Answer::PastEnd;
     }
     a
+}
+
+// Flakes and tags of the nuggets that the range meets; each nugget's own still stand as the tests saw them when its turn comes.
+fn lay_span(d: Drive, vol: &mut [u8], o: usize, bytes: &[u8])
+    requires { ⌜ Lent (shapeOf d) (now vol) × (0 < length (now bytes)) × (o + length (now bytes) ≤ capacity (shapeOf d))
+        × Room d (now vol) o (length (now bytes)) ⌝ }
+    ensures { λ _. ⌜ now (vol .exit) ≡ laid (shapeOf d) (d .salt) (newContents d (now (vol .entry)) o (now (bytes .entry)))
+        (padsFor d (now (vol .entry)) (writeWay d (now (vol .entry)) o (length (now (bytes .entry))))) (now (vol .entry)) ⌝ }
+{
+    let span = span_of(drive::shape_of(d), o, bytes.len());
+    let mut n = span.first;
+    while n < span.end {
+        let way = way_at(d, vol, o, bytes.len(), n);
+        laying::lay(d, &mut *vol, n, way, o, bytes);
+        n += 1;
+    }
+}
+
+// Their records.
+fn mark_span(d: Drive, vol: &mut [u8], o: usize, len: usize)
+    requires { ⌜ Lent (shapeOf d) (now vol) × (0 < len) × (o + len ≤ capacity (shapeOf d)) × Room d (now vol) o len ⌝ }
+    ensures { λ _. ⌜ now (vol .exit) ≡ markedTo (d .epoch) (writeWay d (now (vol .entry)) o len) (now (vol .entry)) (d .n) (now (vol .entry)) ⌝ }
+{
+    let span = span_of(drive::shape_of(d), o, len);
+    let mut n = span.first;
+    while n < span.end {
+        let way = way_at(d, vol, o, len, n);
+        laying::mark(d, &mut *vol, n, way);
+        n += 1;
+    }
+}
+
+// Their leaves and paths.
+fn tend_span(d: Drive, vol: &mut [u8], o: usize, len: usize)
+    requires { ⌜ Lent (shapeOf d) (now vol) × (0 < len) × (o + len ≤ capacity (shapeOf d)) ⌝ }
+    ensures { λ _. ⌜ now (vol .exit) ≡ tendedTo (shapeOf d) (writeWay d (now (vol .entry)) o len) (d .n) (now (vol .entry)) ⌝ }
+{
+    let s = drive::shape_of(d);
+    let span = span_of(s, o, len);
+    let mut n = span.first;
+    while n < span.end {
+        let way = way_at(d, vol, o, len, n);
+        laying::tend(&mut *vol, s, n, way);
+        n += 1;
+    }
+}
+
+// All stores, once all tests are passed.
+fn store(d: Drive, vol: &mut [u8], o: usize, bytes: &[u8]) -> Drive
+    requires { ⌜ Lent (shapeOf d) (now vol) × (0 < length (now bytes)) × (o + length (now bytes) ≤ capacity (shapeOf d))
+        × Room d (now vol) o (length (now bytes)) × (d .counter < counterTop) ⌝ }
+    ensures { λ r. ⌜ (r ≡ writtenDrive d (now (vol .entry)) o (now (bytes .entry)))
+        × (now (vol .exit) ≡ settled (writtenDrive d (now (vol .entry)) o (now (bytes .entry))) (writeWork d (now (vol .entry)) o (now (bytes .entry)))) ⌝ }
+{
+    lay_span(d, &mut *vol, o, bytes);
+    mark_span(d, &mut *vol, o, bytes.len());
+    tend_span(d, &mut *vol, o, bytes.len());
+    laying::advance(d, &mut *vol)
+}
+
+// "A refusal stores nothing and returns the drive as given"; an empty write too.
+pub fn write(d: Drive, vol: &mut [u8], offset: u64, bytes: &[u8]) -> Done
+    ensures { λ r. ⌜ (r ≡ writeDone d (now (vol .entry)) offset (now (bytes .entry)))
+        × (now (vol .exit) ≡ writeVolume d (now (vol .entry)) offset (now (bytes .entry))) ⌝ }
+{
+    let a = admit(d, vol, offset, bytes.len());
+    if answers::accepted(a) {
+        if 0 < bytes.len() {
+            let next = store(d, &mut *vol, offset as usize, bytes);
+            return Done {
+                answer: a,
+                drive: next,
+            };
+        }
+    }
+    Done {
+        answer: a,
+        drive: d,
+    }
 }
