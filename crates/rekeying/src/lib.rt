@@ -1,16 +1,19 @@
 // The change of the master secret: begin, sweep and finish, each tested whole before its first store.
-// It touches `nuggets`, `tree`, `reports`, `records` and `layout` for the tests, and `drive`, `answers` and `words`.
+// It touches `laying` for what a change stores, and `nuggets`, `tree`, `reports`, `records`, `layout`, `drive`, `answers` and `words`.
 mod admit;
 
 use drive::Done;
 use drive::Drive;
 use drive::State;
+use records::Way;
 ghost use mathlib.Core.Path.{_≡_};
-ghost use Prim.Native.Nat.{_<_, _≤_};
-ghost use lib.ListN.{length};
-ghost use Rattle.drive.specs.Drive.{counterTop};
-ghost use Rattle.changes.specs.Change.{settled};
-ghost use Rattle.changes.specs.Rekey.{epochTop, begunDrive, beginDone, beginVolume, finishedDrive, finishDone, finishVolume};
+ghost use mathlib.Core.Bool.{false};
+ghost use Prim.Native.Nat.{_<_};
+ghost use Rattle.layout.specs.Lent.{Lent};
+ghost use Rattle.records.specs.Rule.{sweepWay, atTop};
+ghost use Rattle.drive.specs.Drive.{shapeOf, counterTop};
+ghost use Rattle.nuggets.specs.Nugget.{recordOf};
+ghost use Rattle.changes.specs.Rekey.{epochTop, begunDrive, beginDone, beginVolume, sweepWork, sweepDone, sweepVolume, finishedDrive, finishDone, finishVolume};
 
 // "state changing, epoch plus 1, the old secret kept"
 fn begun(d: Drive, secret: [u8; 32]) -> Drive
@@ -56,15 +59,6 @@ fn finished(d: Drive) -> Drive
     }
 }
 
-// "renews the seal"
-fn settle(d: Drive, vol: &mut [u8])
-    requires { ⌜ 104 ≤ length (now vol) ⌝ }
-    ensures { λ _. ⌜ now (vol .exit) ≡ settled d (now (vol .entry)) ⌝ }
-{
-    let head = drive::head(d);
-    words::copy(vol, 0, &head);
-}
-
 // "Begin takes a new secret: state changing, epoch plus 1, the old secret kept."
 pub fn begin(d: Drive, vol: &mut [u8], secret: [u8; 32]) -> Done
     ensures { λ r. ⌜ (r ≡ beginDone d (now (vol .entry)) secret) × (now (vol .exit) ≡ beginVolume d (now (vol .entry)) secret) ⌝ }
@@ -72,7 +66,37 @@ pub fn begin(d: Drive, vol: &mut [u8], secret: [u8; 32]) -> Done
     let a = admit::begin(d, vol, secret);
     if answers::accepted(a) {
         let next = begun(d, secret);
-        settle(next, &mut *vol);
+        laying::settle(next, &mut *vol);
+        return Done {
+            answer: a,
+            drive: next,
+        };
+    }
+    Done {
+        answer: a,
+        drive: d,
+    }
+}
+
+// All that a sweep stores before the head: flakes and tags of the nugget, its record, its leaf and path.
+fn rekey(d: Drive, vol: &mut [u8], n: u32)
+    requires { ⌜ Lent (shapeOf d) (now vol) × (n < d .n) × (atTop sweepWay (recordOf (now vol) n) ≡ false) ⌝ }
+    ensures { λ _. ⌜ now (vol .exit) ≡ sweepWork d (now (vol .entry)) n ⌝ }
+{
+    let none = [0u8; 0];
+    laying::lay(d, &mut *vol, n, Way::Rekey(0), 0, &none);
+    laying::mark(d, &mut *vol, n, Way::Rekey(0));
+    laying::tend(&mut *vol, drive::shape_of(d), n, Way::Rekey(0));
+}
+
+// "Sweep takes a nugget and rekeys it with T empty."
+pub fn sweep(d: Drive, vol: &mut [u8], n: u32) -> Done
+    ensures { λ r. ⌜ (r ≡ sweepDone d (now (vol .entry)) n) × (now (vol .exit) ≡ sweepVolume d (now (vol .entry)) n) ⌝ }
+{
+    let a = admit::sweep(d, vol, n);
+    if answers::accepted(a) {
+        rekey(d, &mut *vol, n);
+        let next = laying::advance(d, &mut *vol);
         return Done {
             answer: a,
             drive: next,
@@ -91,7 +115,7 @@ pub fn finish(d: Drive, vol: &mut [u8]) -> Done
     let a = admit::finish(d, vol);
     if answers::accepted(a) {
         let next = finished(d);
-        settle(next, &mut *vol);
+        laying::settle(next, &mut *vol);
         return Done {
             answer: a,
             drive: next,
