@@ -160,7 +160,7 @@ fn mark_span(d: Drive, vol: &mut [u8], o: usize, len: usize)
     }
 }
 
-// Their leaves and paths.
+// Their leaves and paths. The records are marked by now and may give another way; which nuggets are idle doesn't rest on them.
 fn tend_span(d: Drive, vol: &mut [u8], o: usize, len: usize)
     requires { ⌜ Lent (shapeOf d) (now vol) × (0 < len) × (o + len ≤ capacity (shapeOf d)) ⌝ }
     ensures { λ _. ⌜ now (vol .exit) ≡ tendedTo (shapeOf d) (writeWay d (now (vol .entry)) o len) (d .n) (now (vol .entry)) ⌝ }
