@@ -22,7 +22,8 @@ use Rattle.reading.specs.Read.{readAnswer, readBuffer}
 use Rattle.reports.specs.declared.told.Report.{Report}
 use Rattle.reports.specs.Report.{reportOf}
 use Rattle.reports.specs.Stored.{storedAnswer}
-use Rattle.changes.specs.Rekey.{beginDone, beginVolume, finishDone, finishVolume}
+use Rattle.changes.specs.Rekey.{beginDone, beginVolume, sweepDone, sweepVolume, finishDone, finishVolume}
+use Rattle.changes.specs.Write.{writes, writeDone, writeVolume}
 
 -- the number and the answer's image tell this answer
 pub record Tells (a : Answer) (number : ℕ) (answer : List ℕ) : Type 0 where
@@ -77,3 +78,10 @@ Begun d v secret = Rekeyed (beginDone d v secret) (beginVolume d v secret)
 
 abbrev pub Finished : Drive → List ℕ → List ℕ → ℕ → List ℕ → List ℕ → List ℕ → Type 0
 Finished d v = Rekeyed (finishDone d v) (finishVolume d v)
+
+abbrev pub Swept : Drive → List ℕ → ℕ → List ℕ → ℕ → List ℕ → List ℕ → List ℕ → Type 0
+Swept d v n = Rekeyed (sweepDone d v n) (sweepVolume d v n)
+
+-- a write changes the drive if it is accepted and not empty
+abbrev pub Written : Drive → List ℕ → ℕ → List ℕ → List ℕ → ℕ → List ℕ → List ℕ → List ℕ → Type 0
+Written d v offset bytes = Changed (writeDone d v offset bytes) (writes (writeDone d v offset bytes .answer) bytes) (writeVolume d v offset bytes)

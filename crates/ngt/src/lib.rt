@@ -1,12 +1,14 @@
 // The C interface of the drive: each call with its drive and its answer as bytes.
 // It touches the calls' crates, and `packed` and `images` for the bytes.
+use answers::Answer;
 use drive::Drive;
 ghost use mathlib.Core.Path.{_≡_};
 ghost use mathlib.Core.List.{_++_};
 ghost use Rattle.words.specs.Le.{le};
 ghost use Rattle.layout.specs.Shape.{shape};
 ghost use Rattle.packed.specs.Image.{driveIn};
-ghost use Rattle.ngt.specs.Calls.{Formatted, Mounted, Filled, Reported, Shown, spanOf, imageAfter, Begun, Finished};
+ghost use Rattle.changes.specs.Write.{writes};
+ghost use Rattle.ngt.specs.Calls.{Formatted, Mounted, Filled, Reported, Shown, spanOf, imageAfter, Begun, Swept, Finished, Written};
 
 // Format, with the image of the drive that it hands back.
 #[no_mangle]
@@ -172,6 +174,27 @@ pub extern "C" fn ngt_begin(
     answers::number(a)
 }
 
+// Sweep, of one nugget.
+#[no_mangle]
+pub extern "C" fn ngt_sweep(
+    image: &mut [u8; 144],
+    vol: &mut [u8],
+    nugget: u32,
+    answer: &mut [u8; 16],
+) -> u32
+    ensures { λ r. ⌜ Swept (driveIn (now (image .entry))) (now (vol .entry)) nugget
+        (now (image .entry)) r (now (vol .exit)) (now (image .exit)) (now (answer .exit)) ⌝ }
+{
+    let given = *image;
+    let d = opened(given);
+    let done = rekeying::sweep(d, vol, nugget);
+    let a = done.answer;
+    let next = done.drive;
+    *image = image_after(answers::accepted(a), next, given);
+    *answer = images::answer_image(a);
+    answers::number(a)
+}
+
 // Finish.
 #[no_mangle]
 pub extern "C" fn ngt_finish(image: &mut [u8; 144], vol: &mut [u8], answer: &mut [u8; 16]) -> u32
@@ -184,6 +207,38 @@ pub extern "C" fn ngt_finish(image: &mut [u8; 144], vol: &mut [u8], answer: &mut
     let a = done.answer;
     let next = done.drive;
     *image = image_after(answers::accepted(a), next, given);
+    *answer = images::answer_image(a);
+    answers::number(a)
+}
+
+// Whether a write changes the drive: one of no bytes doesn't.
+fn writes_by(a: Answer, bytes: &[u8]) -> bool
+    ensures { λ r. ⌜ r ≡ writes a (now (bytes .entry)) ⌝ }
+{
+    if answers::accepted(a) {
+        return 0 < bytes.len();
+    }
+    false
+}
+
+// Write, from an offset on.
+#[no_mangle]
+pub extern "C" fn ngt_write(
+    image: &mut [u8; 144],
+    vol: &mut [u8],
+    offset: u64,
+    bytes: &[u8],
+    answer: &mut [u8; 16],
+) -> u32
+    ensures { λ r. ⌜ Written (driveIn (now (image .entry))) (now (vol .entry)) offset (now (bytes .entry))
+        (now (image .entry)) r (now (vol .exit)) (now (image .exit)) (now (answer .exit)) ⌝ }
+{
+    let given = *image;
+    let d = opened(given);
+    let done = writing::write(d, vol, offset, bytes);
+    let a = done.answer;
+    let next = done.drive;
+    *image = image_after(writes_by(a, bytes), next, given);
     *answer = images::answer_image(a);
     answers::number(a)
 }
