@@ -2,72 +2,26 @@
 
 Each call that is made of the second program here is made of the proved library too: random volumes with a history, garbage,
 and all that the second program's own checks make (each refusal alone and in pairs, one flipped bit in every byte, the tree's
-places, histories). NGT_SEED sets the seed; a failure prints it with the smallest case.
+places). NGT_SEED sets the seed; a failure prints it with the smallest case. `histories.py` has the histories.
 """
-import ctypes
 import random
-import struct
 import sys
 
-from proved import ROOT, SEED, Tally, left, library, room, slice_of
+from beside import Beside
+from proved import SEED, Tally, library
 
-sys.path.insert(0, str(ROOT / "second"))
-import calls  # noqa: E402
-import checks.tally  # noqa: E402
-from checks import edges, figures, flips, garbage, histories, places, refusals  # noqa: E402
-from checks.make import SALT, flipped  # noqa: E402
-from layout import layout  # noqa: E402
+import calls
+import checks.tally
+from checks import edges, figures, flips, garbage, places, refusals
+from checks.make import SALT, flipped
+from layout import layout
 
-U32, U64, SIZE = ctypes.c_uint32, ctypes.c_uint64, ctypes.c_size_t
 TOP = 2**64 - 1
 SHAPES = [(n, p, f) for n in (1, 2, 3, 4, 5, 6, 33) for p, f in ((1, 64), (2, 64), (3, 128), (4, 256), (64, 64))]
 
 
-class Beside:
-    """The proved library's calls, each held against the result that the second program gave."""
-
-    def __init__(self, proved, tally):
-        self.proved, self.tally = proved, tally
-        for name in ("format", "mount", "read", "report", "stored_flake"):
-            setattr(calls, name, self.both(name, getattr(calls, name), getattr(self, name)))
-
-    def both(self, name, second, mine):
-        def call(*words):
-            want = second(*words)
-            got, wanted = mine(want, *words)
-            answer = (want.answer.number, want.answer.image())
-            self.tally.same(name, words, got, answer + wanted, sum(len(word) for word in words if isinstance(word, bytes)))
-            return want
-        return call
-
-    def format(self, want, volume, n, p, f, salt, secret, outside):
-        vol, image, answer = room(volume), room(size=144), room(size=16)
-        said = self.proved.ngt_format(vol, SIZE(len(volume)), U32(n), U32(p), U32(f), salt, secret, U64(outside), image, answer)
-        return (said, left(answer), left(image), left(vol)), (want.drive.image(), want.volume)
-
-    def mount(self, want, volume, present, old, outside):
-        image, answer = room(size=144), room(size=16)
-        said = self.proved.ngt_mount(*slice_of(bytes(volume)), present, old, U64(outside), image, answer)
-        return (said, left(answer), left(image)), (want.drive.image(),)
-
-    def read(self, want, drive, volume, offset, buffer):
-        mine, answer = room(buffer), room(size=16)
-        said = self.proved.ngt_read(drive.image(), *slice_of(bytes(volume)), U64(offset), mine, SIZE(len(buffer)), answer)
-        return (said, left(answer), left(mine)), (want.buffer,)
-
-    def report(self, want, drive, volume):
-        report, answer = room(size=20), room(size=16)
-        said = self.proved.ngt_report(drive.image(), *slice_of(bytes(volume)), report, answer)
-        return (said, left(answer), left(report)), (struct.pack("<5I", *want.report),)
-
-    def stored_flake(self, want, drive, volume, nugget, flake):
-        span, answer = room(size=16), room(size=16)
-        said = self.proved.ngt_stored_flake(drive.image(), *slice_of(bytes(volume)), U32(nugget), U32(flake), span, answer)
-        return (said, left(answer), left(span)), (struct.pack("<QQ", *want.span),)
-
-
 def every(source, drive, volume):
-    """All five calls, with arguments at the edges and past them."""
+    """All nine calls, with arguments at the edges and past them."""
     number, other = source.choice(garbage.WORDS), source.choice(garbage.WORDS)
     counter = source.choice((drive.counter, drive.counter, 0, TOP))
     shape = source.choice(((drive.n, drive.p, drive.f), (number, other, 64), (number, 2, other)))
@@ -80,6 +34,10 @@ def every(source, drive, volume):
     for length in (0, source.choice((1, 10, 64, 65, 200, 700))):
         at = (0, 1, 63, 64, capacity, capacity - length, TOP, source.randrange(capacity + 1), source.getrandbits(64))
         calls.read(drive, volume, source.choice(at) % 2**64, source.randbytes(length))
+        calls.write(drive, volume, source.choice(at) % 2**64, source.randbytes(length))
+    calls.begin(drive, volume, source.choice((drive.present, drive.old, source.randbytes(32))))
+    calls.sweep(drive, volume, source.choice((0, drive.n - 1, drive.n, number)) % 2**32)
+    calls.finish(drive, volume)
 
 
 def lived(source, shape):
@@ -113,7 +71,7 @@ def main():
         for i in range(20):
             source = random.Random(f"{SEED} {shape} {i}")
             every(source, *lived(source, shape))
-    for group in (figures, refusals, edges, flips, places, histories):
+    for group in (figures, refusals, edges, flips, places):
         group.run(checks.tally.Tally(str(SEED)))
     return tally.close()
 

@@ -53,6 +53,7 @@ counts "the second program holds against the documents" python3 second/check.py
 counts "the primitives agree with independent ones" python3 tests/primitives.py
 counts "keys, pads, tags, leaves, nodes, path and whole agree with the second program" python3 tests/parts.py
 counts "the calls agree with the second program through the C interface" python3 tests/calls.py
+counts "histories of calls agree with the second program to the byte" python3 tests/histories.py
 counts "a host in C links the archive and runs" bash tests/host.sh
 counts "the sheet agrees with the second program" python3 tests/sheet.py
 echo "gate: $((SECONDS - started)) s in all"

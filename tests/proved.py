@@ -4,19 +4,36 @@ import os
 import pathlib
 import subprocess
 import sys
+import time
 
 ROOT = pathlib.Path(__file__).resolve().parent.parent
 SEED = int(os.environ.get("NGT_SEED", "1"))
 
 
-def library(crate):
-    made = ROOT / "target" / "shared"
-    made.mkdir(parents=True, exist_ok=True)
-    code, shared = made / f"{crate}.o", made / f"{crate}.so"
+def is_stale(shared):
+    """Whether anything that a library is made of is newer than it."""
+    if not shared.exists():
+        return True
+    made = shared.stat().st_mtime
+    return any(path.stat().st_mtime >= made for path in (*(ROOT / "crates").rglob("*"), ROOT / "crates.txt", ROOT / "tests/native.sh"))
+
+
+def build(crate, shared):
+    started, code = time.time(), shared.with_suffix(".o")
     built = subprocess.run(["bash", "tests/native.sh", crate, str(code)], cwd=ROOT, capture_output=True, text=True)
     if built.returncode:
         sys.exit(f"the library {crate} isn't built:\n{built.stdout}{built.stderr}")
     subprocess.run(["gcc", "-shared", "-o", shared, "-Wl,--whole-archive", code, "-Wl,--no-whole-archive"], check=True)
+    os.utime(shared, (started, started))
+
+
+def library(crate):
+    """Built once: two programs of one run share it."""
+    made = ROOT / "target" / "shared"
+    made.mkdir(parents=True, exist_ok=True)
+    shared = made / f"{crate}.so"
+    if is_stale(shared):
+        build(crate, shared)
     return ctypes.CDLL(str(shared))
 
 
@@ -51,6 +68,12 @@ class Tally:
         self.failed += 1
         if self.smallest is None or size < self.smallest[0]:
             self.smallest = (size, f"{what} differs, case {case}: got {got!r:.400}, wanted {wanted!r:.400}")
+
+    def join(self, other):
+        """Takes over what another tally counted."""
+        self.passed, self.failed = self.passed + other.passed, self.failed + other.failed
+        if other.smallest and (self.smallest is None or other.smallest[0] < self.smallest[0]):
+            self.smallest = other.smallest
 
     def close(self):
         if self.smallest:
