@@ -1,12 +1,13 @@
-/* A host in C that links the archive as it is shipped: it formats, mounts, reads, reports and shows a stored flake, and
- * sees refusals leave everything as it came. Its last line counts the checks. */
+/* A host in C that links the archive as it is shipped: it formats, mounts, reads, writes, changes the secret, reports and shows
+ * a stored flake, and sees refusals leave everything as it came. Its last line counts the checks. */
 #include "../include/ngt.h"
 #include <stdio.h>
 #include <string.h>
 
-enum { N = 3, P = 2, F = 64, LENGTH = 862, FLAKES = 478 };
+enum { N = 3, P = 2, F = 64, LENGTH = 862, RECORDS = 104, FLAKES = 478, ALL = N * P * F };
 
 static int passed, failed;
+static uint8_t vol[LENGTH], copy[LENGTH], drive[144], again[144], answer[16], blank[144], salt[16], secret[32], other[32];
 
 static void holds(const char *what, int fact) {
     if (fact) {
@@ -24,12 +25,22 @@ static uint64_t number(const uint8_t *at, int bytes) {
     return x;
 }
 
-int main(void) {
-    static uint8_t vol[LENGTH], copy[LENGTH];
-    uint8_t salt[16], secret[32], other[32], drive[144], again[144], blank[144], answer[16], report[20], span[16], text[100];
-    memset(vol, 0xa5, LENGTH), memset(salt, 1, 16), memset(secret, 2, 32), memset(other, 3, 32), memset(blank, 0, 144);
-    memcpy(copy, vol, LENGTH);
+static void keep(void) {
+    memcpy(copy, vol, LENGTH), memcpy(again, drive, 144);
+}
 
+static int as_kept(void) {
+    return memcmp(copy, vol, LENGTH) == 0 && memcmp(again, drive, 144) == 0;
+}
+
+/* A record's keycount, journal and epoch, as they stand in the volume. */
+static int record_is(int n, uint64_t keycount, uint64_t journal, uint64_t epoch) {
+    const uint8_t *at = vol + RECORDS + 18 * n;
+    return number(at, 8) == keycount && number(at + 8, 8) == journal && number(at + 16, 2) == epoch;
+}
+
+static void opens(void) {
+    memset(vol, 0xa5, LENGTH), memcpy(copy, vol, LENGTH);
     holds("a wrong length is refused by 2", ngt_format(vol, LENGTH - 1, N, P, F, salt, secret, 9, drive, answer) == 2 && answer[0] == 2);
     holds("a refused format hands back the blank drive", memcmp(drive, blank, 144) == 0);
     holds("a refused format stores nothing", memcmp(vol, copy, LENGTH) == 0);
@@ -38,29 +49,95 @@ int main(void) {
     holds("format is accepted", ngt_format(vol, LENGTH, N, P, F, salt, secret, 9, drive, answer) == 0 && number(answer, 16 / 2) == 0);
     holds("the counter is raised", number(drive + 40, 8) == 10 && number(vol + 32, 8) == 10);
     holds("the mark is there", memcmp(vol, "NGT\1\0", 5) == 0);
-
     holds("mount is accepted", ngt_mount(vol, LENGTH, secret, other, 10, again, answer) == 0);
     holds("mount gives the very drive", memcmp(drive, again, 144) == 0);
     holds("another secret is refused by 4", ngt_mount(vol, LENGTH, other, other, 10, again, answer) == 4 && memcmp(again, blank, 144) == 0);
     holds("another counter is refused by 6", ngt_mount(vol, LENGTH, secret, other, 9, again, answer) == 6);
+}
 
+static void looks(void) {
+    uint8_t text[100], report[20], span[16];
     memset(text, 7, sizeof text);
     holds("read is accepted", ngt_read(drive, vol, LENGTH, 100, text, 90, answer) == 0);
     holds("a place never written reads as zero", text[0] == 0 && text[89] == 0 && text[90] == 7);
     memset(text, 7, sizeof text);
-    holds("past the end is refused by 8", ngt_read(drive, vol, LENGTH, N * P * F - 9, text, 10, answer) == 8 && text[0] == 7);
-
+    holds("past the end is refused by 8", ngt_read(drive, vol, LENGTH, ALL - 9, text, 10, answer) == 8 && text[0] == 7);
     holds("report is accepted", ngt_report(drive, vol, LENGTH, report, answer) == 0);
     holds("report counts", number(report, 4) == 3 && number(report + 4, 4) == 3 && number(report + 8, 4) == 0 && number(report + 16, 4) == 10000);
     holds("stored flake is shown", ngt_stored_flake(drive, vol, LENGTH, 2, 1, span, answer) == 0);
     holds("its span is the flake's", number(span, 8) == FLAKES + 5 * F && number(span + 8, 8) == F);
     holds("no such flake is refused by 8", ngt_stored_flake(drive, vol, LENGTH, 2, 2, span, answer) == 8 && number(span + 8, 8) == 0);
-
-    vol[104] ^= 1;
+    vol[RECORDS] ^= 1;
     holds("a damaged record is told", ngt_report(drive, vol, LENGTH, report, answer) == 7 && number(answer + 4, 4) == 2 && number(answer + 8, 4) == 0);
     holds("a refused report has zeros", number(report, 4) == 0);
+    vol[RECORDS] ^= 1;
     holds("the blank drive is answered 1", ngt_report(blank, vol, LENGTH, report, answer) == 1);
+}
 
+static void writes(uint8_t *contents) {
+    uint8_t text[ALL];
+    for (int i = 0; i < 100; i++)
+        contents[60 + i] = (uint8_t)(3 * i + 1);
+    holds("a first write is accepted", ngt_write(drive, vol, LENGTH, 60, contents + 60, 100, answer) == 0);
+    holds("it takes the present keycount", record_is(0, 0, 3, 1) && record_is(1, 0, 1, 1) && record_is(2, 0, 0, 1));
+    holds("it raises the counter", number(drive + 40, 8) == 11 && number(vol + 32, 8) == 11);
+    contents[0] = 200;
+    holds("an overwrite is accepted", ngt_write(drive, vol, LENGTH, 0, contents, 1, answer) == 0);
+    holds("it is a rekey of all present flakes", record_is(0, 1, 3, 1) && number(drive + 40, 8) == 12);
+    holds("what is written is read", ngt_read(drive, vol, LENGTH, 0, text, ALL, answer) == 0 && memcmp(text, contents, ALL) == 0);
+    keep();
+    holds("an empty write is accepted and changes nothing", ngt_write(drive, vol, LENGTH, ALL, contents, 0, answer) == 0 && as_kept());
+    holds("a write past the end is refused by 8", ngt_write(drive, vol, LENGTH, ALL - 1, contents, 2, answer) == 8 && as_kept());
+    holds("an offset near 2^64 is refused by 8", ngt_write(drive, vol, LENGTH, UINT64_MAX, contents, 2, answer) == 8 && as_kept());
+    holds("a sweep of a steady drive is refused by 9", ngt_sweep(drive, vol, LENGTH, 0, answer) == 9 && as_kept());
+    holds("a finish of a steady drive is refused by 9", ngt_finish(drive, vol, LENGTH, answer) == 9 && as_kept());
+    holds("the present secret is refused by 10", ngt_begin(drive, vol, LENGTH, secret, answer) == 10 && as_kept());
+    vol[FLAKES + F] ^= 1, copy[FLAKES + F] ^= 1;
+    holds("a damaged flake stops a rekey", ngt_write(drive, vol, LENGTH, 0, contents, 1, answer) == 7 && as_kept());
+    holds("it is told", number(answer + 4, 4) == 4 && number(answer + 8, 4) == 0 && number(answer + 12, 4) == 1);
+    vol[FLAKES + F] ^= 1;
+}
+
+static void changes_secret(const uint8_t *contents) {
+    uint8_t text[ALL], report[20], opened[144];
+    holds("begin is accepted", ngt_begin(drive, vol, LENGTH, other, answer) == 0);
+    holds("the drive is changing", drive[12] == 1 && number(drive + 14, 2) == 2 && number(drive + 16, 2) == 1);
+    holds("it keeps the old secret", memcmp(drive + 80, other, 32) == 0 && memcmp(drive + 112, secret, 32) == 0);
+    keep();
+    holds("a second begin is refused by 9", ngt_begin(drive, vol, LENGTH, secret, answer) == 9 && as_kept());
+    holds("finish with nuggets left is refused by 11", ngt_finish(drive, vol, LENGTH, answer) == 11 && number(answer + 8, 4) == 3 && as_kept());
+    holds("no such nugget is refused by 8", ngt_sweep(drive, vol, LENGTH, N, answer) == 8 && as_kept());
+    holds("sweep is accepted", ngt_sweep(drive, vol, LENGTH, 0, answer) == 0 && record_is(0, 2, 3, 2) && number(drive + 40, 8) == 14);
+    holds("both secrets are read at once", ngt_read(drive, vol, LENGTH, 0, text, ALL, answer) == 0 && memcmp(text, contents, ALL) == 0);
+    holds("a report counts what has moved", ngt_report(drive, vol, LENGTH, report, answer) == 0 && report[4] == 1 && report[8] == 2 && report[12] == 3 && number(report + 16, 4) == 3333);
+    keep();
+    holds("a nugget moved is refused by 12", ngt_sweep(drive, vol, LENGTH, 0, answer) == 12 && as_kept());
+    holds("the other sweeps are accepted", ngt_sweep(drive, vol, LENGTH, 1, answer) == 0 && ngt_sweep(drive, vol, LENGTH, 2, answer) == 0);
+    memcpy(copy, vol, LENGTH);
+    holds("finish is accepted", ngt_finish(drive, vol, LENGTH, answer) == 0 && drive[12] == 0 && number(drive + 14, 2) == 2);
+    holds("no old secret is left", memcmp(drive + 112, blank, 32) == 0 && memcmp(vol + 40, blank, 32) == 0);
+    holds("all is read under the new secret", ngt_read(drive, vol, LENGTH, 0, text, ALL, answer) == 0 && memcmp(text, contents, ALL) == 0);
+    holds("it mounts", ngt_mount(vol, LENGTH, other, blank, 17, opened, answer) == 0 && memcmp(opened, drive, 144) == 0);
+    holds("the image left before is refused by 6", ngt_mount(copy, LENGTH, other, secret, 17, opened, answer) == 6 && memcmp(opened, blank, 144) == 0);
+}
+
+static void spent(void) {
+    uint8_t byte = 1;
+    holds("a counter reaches its top", ngt_format(vol, LENGTH, N, P, F, salt, secret, UINT64_MAX - 1, drive, answer) == 0);
+    keep();
+    holds("a write is then refused by 13", ngt_write(drive, vol, LENGTH, 0, &byte, 1, answer) == 13 && as_kept());
+    holds("a begin is then refused by 13", ngt_begin(drive, vol, LENGTH, other, answer) == 13 && as_kept());
+    holds("an empty write is accepted all the same", ngt_write(drive, vol, LENGTH, 0, &byte, 0, answer) == 0 && as_kept());
+}
+
+int main(void) {
+    static uint8_t contents[ALL];
+    memset(salt, 1, 16), memset(secret, 2, 32), memset(other, 3, 32);
+    opens();
+    looks();
+    writes(contents);
+    changes_secret(contents);
+    spent();
     printf("%d passed, %d failed\n", passed, failed);
     return failed ? 1 : 0;
 }
