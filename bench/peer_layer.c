@@ -1,0 +1,284 @@
+/* Write and read of document 01 in plain C: what the proved calls are timed against. The design is the same, test by test and
+ * store by store. A rekey deciphers every present flake, also one that the new bytes cover wholly. */
+#include "peer_layer.h"
+#include <string.h>
+
+void peer_chacha20(uint8_t *d, size_t n, const uint8_t key[32], const uint8_t nonce[12], uint32_t counter);
+void peer_poly1305(uint8_t tag[16], const uint8_t *m, size_t n, const uint8_t key[32]);
+void peer_blake2s(uint8_t out[32], const uint8_t *m, size_t n, const uint8_t *key, size_t key_len);
+
+enum { HEAD = 104, FRONT = 72, RECORD = 18, TAG = 16, NODE = 32, NO_PLACE = 0, AT_HEAD, AT_RECORD, AT_NODE, AT_FLAKE };
+
+typedef struct {
+    uint32_t n, p, f, leaves, epoch, changing;
+    uint64_t counter, contents;
+    size_t tags, tree, flakes, length;
+    const uint8_t *salt, *node, *present, *old;
+} Open;
+
+typedef struct {
+    uint64_t keycount, journal;
+    uint32_t epoch;
+} Record;
+
+static uint64_t get(const uint8_t *at, int bytes) {
+    uint64_t x = 0;
+    while (bytes-- > 0)
+        x = x << 8 | at[bytes];
+    return x;
+}
+
+static void put(uint8_t *at, uint64_t x, int bytes) {
+    for (int i = 0; i < bytes; i++)
+        at[i] = (uint8_t)(x >> 8 * i);
+}
+
+static uint32_t say(uint8_t answer[16], uint32_t number, uint32_t kind, uint32_t first, uint32_t second) {
+    put(answer, number, 4), put(answer + 4, kind, 4), put(answer + 8, first, 4), put(answer + 12, second, 4);
+    return number;
+}
+
+static size_t node_at(const Open *o, uint32_t i) { return o->tree + NODE * ((size_t)i - 1); }
+static size_t tag_at(const Open *o, uint32_t n, uint32_t f) { return o->tags + TAG * ((size_t)n * o->p + f); }
+static size_t flake_at(const Open *o, uint32_t n, uint32_t f) { return o->flakes + ((size_t)n * o->p + f) * o->f; }
+
+static int in_limits(const Open *o, uint32_t state, uint32_t leaving) {
+    if (o->n < 1 || o->n > 16384 || o->p < 1 || o->p > 64 || o->f < 64 || o->f > 4096 || o->f % 64 || state > 1)
+        return 0;
+    return state ? o->epoch >= 2 && leaving == o->epoch - 1 : o->epoch >= 1;
+}
+
+/* Tests 1 and 2. */
+static uint32_t open_image(Open *o, const uint8_t image[144], size_t vol_len, uint8_t answer[16]) {
+    o->n = (uint32_t)get(image, 4), o->p = (uint32_t)get(image + 4, 4), o->f = (uint32_t)get(image + 8, 4);
+    o->changing = image[12], o->epoch = (uint32_t)get(image + 14, 2), o->counter = get(image + 40, 8);
+    o->salt = image + 24, o->node = image + 48, o->present = image + 80, o->old = image + 112;
+    if (!in_limits(o, image[12], (uint32_t)get(image + 16, 2)))
+        return say(answer, 1, NO_PLACE, 0, 0);
+    for (o->leaves = 1; o->leaves < o->n;)
+        o->leaves *= 2;
+    o->contents = (uint64_t)o->n * o->p * o->f;
+    o->tags = HEAD + RECORD * (size_t)o->n;
+    o->tree = o->tags + TAG * (size_t)o->n * o->p;
+    o->flakes = o->tree + NODE * (2 * (size_t)o->leaves - 1);
+    o->length = o->flakes + o->contents;
+    return vol_len == o->length ? 0 : say(answer, 2, NO_PLACE, 0, 0);
+}
+
+static void make_head(const Open *o, uint64_t counter, const uint8_t *node, uint8_t head[HEAD]) {
+    uint8_t message[1 + FRONT + NODE], check[19] = {'O'};
+    memcpy(head, "NGT\1\0", 5), head[5] = (uint8_t)o->changing;
+    put(head + 6, o->epoch, 2), put(head + 8, o->n, 4), put(head + 12, o->p, 2), put(head + 14, o->f, 2);
+    memcpy(head + 16, o->salt, 16), put(head + 32, counter, 8), memset(head + 40, 0, 32);
+    if (o->changing) {
+        memcpy(check + 1, o->salt, 16), put(check + 17, o->epoch, 2);
+        peer_blake2s(head + 40, check, sizeof check, o->old, 32);
+    }
+    message[0] = 'H';
+    memcpy(message + 1, head, FRONT), memcpy(message + 1 + FRONT, node, NODE);
+    peer_blake2s(head + FRONT, message, sizeof message, o->present, 32);
+}
+
+/* 1, 2, 7 head, 8. */
+static uint32_t first_tests(Open *o, const uint8_t image[144], const uint8_t *vol, size_t vol_len, uint64_t offset, size_t len, uint8_t answer[16]) {
+    uint8_t head[HEAD];
+    if (open_image(o, image, vol_len, answer))
+        return answer[0];
+    make_head(o, o->counter, o->node, head);
+    if (memcmp(head, vol, HEAD) || memcmp(o->node, vol + node_at(o, 1), NODE))
+        return say(answer, 7, AT_HEAD, 0, 0);
+    return offset > o->contents || len > o->contents - offset ? say(answer, 8, NO_PLACE, 0, 0) : 0;
+}
+
+static Record record_of(const uint8_t *vol, uint32_t n) {
+    const uint8_t *at = vol + HEAD + RECORD * (size_t)n;
+    return (Record){get(at, 8), get(at + 8, 8), (uint32_t)get(at + 16, 2)};
+}
+
+static void make_leaf(const Open *o, const uint8_t *vol, uint32_t n, uint8_t made[NODE]) {
+    uint8_t message[23 + TAG * 64] = {'L'};
+    put(message + 1, n, 4);
+    memcpy(message + 5, vol + HEAD + RECORD * (size_t)n, RECORD);
+    memcpy(message + 23, vol + tag_at(o, n, 0), TAG * (size_t)o->p);
+    peer_blake2s(made, message, 23 + TAG * (size_t)o->p, NULL, 0);
+}
+
+static void make_inner(const Open *o, const uint8_t *vol, uint32_t i, uint8_t made[NODE]) {
+    uint8_t message[1 + 2 * NODE] = {'T'};
+    memcpy(message + 1, vol + node_at(o, 2 * i), 2 * NODE);
+    peer_blake2s(made, message, sizeof message, NULL, 0);
+}
+
+static uint32_t path(const Open *o, const uint8_t *vol, uint32_t n, uint8_t answer[16]) {
+    uint8_t made[NODE];
+    Record r = record_of(vol, n);
+    if ((o->p < 64 && r.journal >> o->p) || (r.epoch != o->epoch && !(o->changing && r.epoch == o->epoch - 1)))
+        return say(answer, 7, AT_RECORD, n, 0);
+    make_leaf(o, vol, n, made);
+    if (memcmp(made, vol + node_at(o, o->leaves + n), NODE))
+        return say(answer, 7, AT_RECORD, n, 0);
+    for (uint32_t i = (o->leaves + n) / 2; i >= 1; i /= 2) {
+        make_inner(o, vol, i, made);
+        if (memcmp(made, vol + node_at(o, i), NODE))
+            return say(answer, 7, AT_NODE, i, 0);
+    }
+    return 0;
+}
+
+static void renew(const Open *o, uint8_t *vol, uint32_t n) {
+    uint8_t made[NODE];
+    make_leaf(o, vol, n, made);
+    memcpy(vol + node_at(o, o->leaves + n), made, NODE);
+    for (uint32_t i = (o->leaves + n) / 2; i >= 1; i /= 2) {
+        make_inner(o, vol, i, made);
+        memcpy(vol + node_at(o, i), made, NODE);
+    }
+}
+
+static void nugget_key(const Open *o, uint32_t n, uint32_t epoch, uint8_t key[32]) {
+    uint8_t message[21] = {'N'};
+    memcpy(message + 1, o->salt, 16), put(message + 17, n, 4);
+    peer_blake2s(key, message, sizeof message, epoch == o->epoch ? o->present : o->old, 32);
+}
+
+static void make_tag(const uint8_t key[32], uint64_t keycount, uint32_t f, const uint8_t *stored, size_t size, uint8_t tag[TAG]) {
+    uint8_t message[11] = {'F'}, tag_key[32];
+    put(message + 1, f, 2), put(message + 3, keycount, 8);
+    peer_blake2s(tag_key, message, sizeof message, key, 32);
+    peer_poly1305(tag, stored, size, tag_key);
+}
+
+/* Bytes start to start + len of flake f's pad laid over d. */
+static void lay(uint8_t *d, size_t start, size_t len, uint32_t size, const uint8_t key[32], uint64_t keycount, uint32_t f) {
+    uint8_t nonce[12] = {0}, first[64] = {0};
+    uint32_t block = f * (size / 64) + (uint32_t)(start / 64);
+    size_t skip = start % 64, n = 0;
+    put(nonce + 4, keycount, 8);
+    if (skip) {
+        peer_chacha20(first, 64, key, nonce, block++);
+        for (; n < 64 - skip && n < len; n++)
+            d[n] ^= first[skip + n];
+    }
+    peer_chacha20(d + n, len - n, key, nonce, block);
+}
+
+static uint32_t flakes(const Open *o, const uint8_t *vol, uint32_t n, const Record *r, uint64_t mask, uint8_t answer[16]) {
+    uint8_t key[32], tag[TAG];
+    nugget_key(o, n, r->epoch, key);
+    for (uint32_t f = 0; f < o->p; f++) {
+        if (!(mask >> f & 1))
+            continue;
+        make_tag(key, r->keycount, f, vol + flake_at(o, n, f), o->f, tag);
+        if (memcmp(tag, vol + tag_at(o, n, f), TAG))
+            return say(answer, 7, AT_FLAKE, n, f);
+    }
+    return 0;
+}
+
+/* The part of flake f of nugget n that a range meets: where it begins in the flake, its length, and where in the range. */
+static size_t part_of(const Open *o, uint32_t n, uint32_t f, uint64_t offset, size_t len, size_t *start, size_t *taken) {
+    uint64_t first = ((uint64_t)n * o->p + f) * o->f, last = first + o->f, end = offset + len;
+    uint64_t from = offset > first ? offset : first, to = end < last ? end : last;
+    if (from >= to)
+        return 0;
+    *start = (size_t)(from - first), *taken = (size_t)(from - offset);
+    return (size_t)(to - from);
+}
+
+static uint64_t touched(const Open *o, uint32_t n, uint64_t offset, size_t len) {
+    uint64_t mask = 0;
+    size_t start, taken;
+    for (uint32_t f = 0; f < o->p; f++)
+        if (part_of(o, n, f, offset, len, &start, &taken))
+            mask |= (uint64_t)1 << f;
+    return mask;
+}
+
+uint32_t peer_read(const uint8_t image[144], const uint8_t *vol, size_t vol_len, uint64_t offset, uint8_t *buf, size_t len, uint8_t answer[16]) {
+    Open o;
+    uint8_t key[32];
+    size_t start, taken, part;
+    if (first_tests(&o, image, vol, vol_len, offset, len, answer))
+        return answer[0];
+    uint64_t nugget = (uint64_t)o.p * o.f, first = offset / nugget, end = len ? (offset + len - 1) / nugget + 1 : first;
+    for (uint32_t n = (uint32_t)first; n < end; n++) {
+        Record r = record_of(vol, n);
+        if (path(&o, vol, n, answer) || flakes(&o, vol, n, &r, r.journal & touched(&o, n, offset, len), answer))
+            return answer[0];
+    }
+    for (uint32_t n = (uint32_t)first; n < end; n++) {
+        Record r = record_of(vol, n);
+        nugget_key(&o, n, r.epoch, key);
+        for (uint32_t f = 0; f < o.p; f++) {
+            if (!(part = part_of(&o, n, f, offset, len, &start, &taken)))
+                continue;
+            if (r.journal >> f & 1) {
+                memcpy(buf + taken, vol + flake_at(&o, n, f) + start, part);
+                lay(buf + taken, start, part, o.f, key, r.keycount, f);
+            } else {
+                memset(buf + taken, 0, part);
+            }
+        }
+    }
+    return say(answer, 0, NO_PLACE, 0, 0);
+}
+
+static int needs_rekey(const Open *o, const Record *r, uint64_t mask) { return (r->journal & mask) || r->epoch != o->epoch; }
+
+static uint32_t write_tests(const Open *o, const uint8_t *vol, uint32_t n, uint64_t mask, uint8_t answer[16]) {
+    Record r = record_of(vol, n);
+    if (path(o, vol, n, answer))
+        return answer[0];
+    if (!needs_rekey(o, &r, mask))
+        return 0;
+    if (r.keycount == UINT64_MAX)
+        return say(answer, 14, NO_PLACE, 0, 0);
+    return flakes(o, vol, n, &r, r.journal, answer);
+}
+
+static void change(const Open *o, uint8_t *vol, uint32_t n, uint64_t mask, uint64_t offset, const uint8_t *bytes, size_t len) {
+    uint8_t *at = vol + HEAD + RECORD * (size_t)n, was[32], key[32];
+    size_t start, taken, part;
+    Record r = record_of(vol, n);
+    int rekey = needs_rekey(o, &r, mask);
+    uint64_t keycount = r.keycount + (rekey ? 1 : 0), fresh = rekey ? r.journal | mask : mask;
+    nugget_key(o, n, r.epoch, was), nugget_key(o, n, o->epoch, key);
+    for (uint32_t f = 0; f < o->p; f++) {
+        uint8_t *flake = vol + flake_at(o, n, f);
+        if (!(fresh >> f & 1))
+            continue;
+        if (r.journal >> f & 1)
+            lay(flake, 0, o->f, o->f, was, r.keycount, f);
+        else
+            memset(flake, 0, o->f);
+        if ((part = part_of(o, n, f, offset, len, &start, &taken)))
+            memcpy(flake + start, bytes + taken, part);
+        lay(flake, 0, o->f, o->f, key, keycount, f);
+        make_tag(key, keycount, f, flake, o->f, vol + tag_at(o, n, f));
+    }
+    put(at, keycount, 8), put(at + 8, r.journal | mask, 8), put(at + 16, o->epoch, 2);
+    renew(o, vol, n);
+}
+
+uint32_t peer_write(uint8_t image[144], uint8_t *vol, size_t vol_len, uint64_t offset, const uint8_t *bytes, size_t len, uint8_t answer[16]) {
+    Open o;
+    if (first_tests(&o, image, vol, vol_len, offset, len, answer))
+        return answer[0];
+    if (len == 0)
+        return say(answer, 0, NO_PLACE, 0, 0);
+    if (o.counter == UINT64_MAX)
+        return say(answer, 13, NO_PLACE, 0, 0);
+    uint64_t nugget = (uint64_t)o.p * o.f;
+    uint32_t first = (uint32_t)(offset / nugget), end = (uint32_t)((offset + len - 1) / nugget + 1);
+    for (uint32_t n = first; n < end; n++)
+        if (write_tests(&o, vol, n, touched(&o, n, offset, len), answer))
+            return answer[0];
+    for (uint32_t n = first; n < end; n++)
+        change(&o, vol, n, touched(&o, n, offset, len), offset, bytes, len);
+    put(image + 40, o.counter + 1, 8), memcpy(image + 48, vol + node_at(&o, 1), NODE);
+    if (!o.changing)
+        memset(image + 112, 0, 32), memset(image + 16, 0, 2);
+    image[13] = 0, memset(image + 18, 0, 6);
+    make_head(&o, o.counter + 1, image + 48, vol);
+    return say(answer, 0, NO_PLACE, 0, 0);
+}

@@ -1,0 +1,6 @@
+/* The peer's calls: those of include/ngt.h. */
+#include <stddef.h>
+#include <stdint.h>
+
+uint32_t peer_read(const uint8_t image[144], const uint8_t *vol, size_t vol_len, uint64_t offset, uint8_t *buf, size_t len, uint8_t answer[16]);
+uint32_t peer_write(uint8_t image[144], uint8_t *vol, size_t vol_len, uint64_t offset, const uint8_t *bytes, size_t len, uint8_t answer[16]);
