@@ -28,9 +28,9 @@ def given_image(drive):
     return bytes(image)
 
 
-def left_image(given, want):
-    """A refusal leaves the image to the byte. An accepted change stores it anew, zeros where nothing is meant."""
-    if want.answer.number:
+def left_image(given, drive, want):
+    """Where the drive comes back as given no byte is stored. A change stores the image anew, zeros where nothing is meant."""
+    if want.drive == drive:
         return given
     return (want.drive._replace(leaving=0) if want.drive.state == STEADY else want.drive).image()
 
@@ -73,7 +73,7 @@ class Beside:
 
     def changes(self, call, want, drive, volume, *values):
         given, got = self.on_drive(call, drive, volume, values)
-        return got, (left_image(given, want), want.volume)
+        return got, (left_image(given, drive, want), want.volume)
 
     def read(self, want, drive, volume, offset, buffer):
         mine = room(buffer)
