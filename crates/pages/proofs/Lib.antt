@@ -1,3 +1,4 @@
 pub mod PageLaws
 pub mod MountLaws
 pub mod Outcomes
+pub mod Examples

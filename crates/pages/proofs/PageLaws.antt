@@ -93,6 +93,19 @@ unfolding marked flakesText
 flakes-some [] {at = at} {a = a} f n = absurd (n (omega (arith, f .behind)))
 flakes-some (b ∷ fs) f n = f
 
+-- the key's word, by the epoch and the state
+pub key-new : (d : Drive) (e : ℕ) → e ≡ d .epoch → isChanging (d .state) ≡ true → t-key ++ t-new ≡ t-key ++ keyText d e
+unfolding keyText
+key-new d e h c = rw (eq-eqb e (d .epoch) h, c)
+
+pub key-present : (d : Drive) (e : ℕ) → e ≡ d .epoch → isChanging (d .state) ≡ false → t-key ++ t-present ≡ t-key ++ keyText d e
+unfolding keyText
+key-present d e h c = rw (eq-eqb e (d .epoch) h, c)
+
+pub key-old : (d : Drive) (e : ℕ) → (e ≡ d .epoch → ⊥) → t-key ++ t-old ≡ t-key ++ keyText d e
+unfolding keyText
+key-old d e h = rw (ne-eqb e (d .epoch) h)
+
 -- how far the pieces of a nugget's line reach
 key-le : (d : Drive) (e : ℕ) → length (t-key ++ keyText d e) ≤ 12
 unfolding keyText

@@ -1,6 +1,6 @@
+use Rattle.pages.proofs.PageLaws.{key-new, key-present, key-old}
+use Rattle.line.proofs.PutLaws.{put-as}
 use mathlib.Core.Path.{sym, _∙_}
-use borrow.Author.Tests.{eq-eqb, ne-eqb}
-use Rattle.pages.specs.Page.{keyText}
 use borrow.Author.Needs.{needs}
 use Rattle.pages.proofs.put_key.Statement.{statement}
 use Rattle.pages.proofs.put_key.Tie as tie
@@ -18,8 +18,7 @@ same-length : tie.Need-same-length
 same-length c = search needs
 
 returns : tie.Need-returns
-unfolding keyText
-returns c = rw (eq-eqb _ _ (c .before .before .before .before .before .before .before .if1 .taken), sym (c .before .before .before .before .before .before .is-changing .ensures) ∙ c .before .before .before .before .before .if2 .taken) (c .before .before .put .ensures)
+returns c = let a = c .before .before .before .before .before .before .before .before .before .before .args in put-as _ _ (key-new (a .d) (a .epoch) (c .before .before .before .before .before .before .before .if1 .taken) (sym (c .before .before .before .before .before .before .is-changing .ensures) ∙ c .before .before .before .before .before .if2 .taken)) (c .before .before .put .ensures)
 
 slice-aggregate-put-2 : tie.Need-slice-aggregate-put-2
 slice-aggregate-put-2 c = search needs
@@ -31,8 +30,7 @@ same-length-2 : tie.Need-same-length-2
 same-length-2 c = search needs
 
 returns-2 : tie.Need-returns-2
-unfolding keyText
-returns-2 c = rw (eq-eqb _ _ (c .before .before .before .before .before .before .before .if1 .taken), sym (c .before .before .before .before .before .before .is-changing .ensures) ∙ c .before .before .before .before .before .if2 .left) (c .before .before .put2 .ensures)
+returns-2 c = let a = c .before .before .before .before .before .before .before .before .before .before .args in put-as _ _ (key-present (a .d) (a .epoch) (c .before .before .before .before .before .before .before .if1 .taken) (sym (c .before .before .before .before .before .before .is-changing .ensures) ∙ c .before .before .before .before .before .if2 .left)) (c .before .before .put2 .ensures)
 
 slice-aggregate-put-3 : tie.Need-slice-aggregate-put-3
 slice-aggregate-put-3 c = search needs
@@ -44,8 +42,7 @@ same-length-3 : tie.Need-same-length-3
 same-length-3 c = search needs
 
 returns-3 : tie.Need-returns-3
-unfolding keyText
-returns-3 c = rw (ne-eqb _ _ (c .before .before .before .before .before .if1 .left)) (c .before .before .put3 .ensures)
+returns-3 c = let a = c .before .before .before .before .before .before .before .before .args in put-as _ _ (key-old (a .d) (a .epoch) (c .before .before .before .before .before .if1 .left)) (c .before .before .put3 .ensures)
 
 pub put-key-spec : {M : Type 1} → statement M
 put-key-spec =
