@@ -1,6 +1,6 @@
-# `make test` is the whole gate. `make bench` measures; it is no part of the gate. `make sheet` proves and builds the sheet, and
-# runs it on the sample volume.
-.PHONY: test bench sheet
+# `make test` is the whole gate. `make bench` measures; it is no part of the gate. `make sheet` and `make audit` prove and build
+# the sheet and the auditor's page, and run them on the sample volume.
+.PHONY: test bench sheet audit
 
 test:
 	@bash tests/gate.sh
@@ -12,3 +12,8 @@ sheet:
 	@tests/needs.sh
 	@rt check sheet
 	@tests/run_built.sh sheet < crates/sheet/stdin
+
+audit:
+	@tests/needs.sh
+	@rt check audit
+	@tests/run_built.sh audit < crates/audit/stdin

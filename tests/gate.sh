@@ -56,5 +56,6 @@ counts "the calls agree with the second program through the C interface" python3
 counts "histories of calls agree with the second program to the byte" python3 tests/histories.py
 counts "a host in C links the archive and runs" bash tests/host.sh
 counts "the sheet agrees with the second program" python3 tests/sheet.py
+counts "the auditor's page agrees with the second program" python3 tests/audit.py
 echo "gate: $((SECONDS - started)) s in all"
 echo "$passed passed, 0 failed"

@@ -1,4 +1,4 @@
-"""The sheet's lines, the sample, and the script runner; also as programs of their own."""
+"""The sheet's lines, the auditor's pages, the sample, and the script runner; also as programs of their own."""
 
 import hashlib
 import os
@@ -7,6 +7,7 @@ import subprocess
 import sys
 import tempfile
 
+import audit
 import calls
 import run as runner
 import sample
@@ -19,6 +20,11 @@ from checks.make import OLD, PRESENT, SALT, Spec, flipped, made
 
 HERE = os.path.dirname(os.path.dirname(os.path.abspath(__file__)))
 SAMPLE_LINE = b"nuggets=3 moved=1 left=2 flakes=2 share=33.33\n"
+SAMPLE_PAGE = SAMPLE_LINE + b"""nugget=0 key=new epoch=2 keycount=1 flakes=1
+nugget=1 key=old epoch=1 keycount=0 flakes=-
+nugget=2 key=old epoch=1 keycount=0 flakes=0
+counter=5
+"""
 CLASSES = ["form"] * 3 + ["key"] * 3 + ["altered"] + ["request"] * 5 + ["spent"] * 3
 
 
@@ -91,6 +97,25 @@ def refusals(tally):
     tally.same("61,513 bytes", sheet.line(bytes(73) + mark), b"refused=2 class=form\n")
 
 
+def pages(tally):
+    drive, volume = made(Spec(3, 2, 64, 1, 2, 9, [[1, 2, 2], [4, 0, 1], [0, 3, 1]]))
+    good = sheet_input(drive, volume)
+    tally.same("page while changing", audit.page(good), b"""nuggets=3 moved=1 left=2 flakes=3 share=33.33
+nugget=0 key=new epoch=2 keycount=1 flakes=1
+nugget=1 key=old epoch=1 keycount=4 flakes=-
+nugget=2 key=old epoch=1 keycount=0 flakes=0,1
+counter=9
+""")
+    steady = made(Spec(1, 64, 64, 0, 3, 2**64 - 1, [[2**64 - 1, 2**64 - 1, 3]]))
+    tally.same("page when steady", audit.page(sheet_input(*steady)),
+               b"nuggets=1 moved=1 left=0 flakes=64 share=100.00\n"
+               b"nugget=0 key=present epoch=3 keycount=18446744073709551615 flakes="
+               + b",".join(b"%d" % f for f in range(64)) + b"\ncounter=18446744073709551615\n")
+    for data in (b"", good[:71], good[:-1], flipped(good, 0), flipped(good, 32), flipped(good, 64), flipped(good, 72 + 104)):
+        tally.same("page of a refusal", audit.page(data), sheet.line(data))
+    tally.same("page of the sample", audit.page(sample.sample()), SAMPLE_PAGE)
+
+
 def started(name, *arguments, given=b""):
     done = subprocess.run([sys.executable, os.path.join(HERE, name), *arguments], input=given,
                           capture_output=True, timeout=60)
@@ -106,6 +131,7 @@ def programs(tally):
         tally.same("sample again", data, sample.sample())
         tally.same("sample's hash", hashlib.sha256(data).hexdigest(), SAMPLE_HASH)
         tally.same("sheet.py", started("sheet.py", given=data), (0, SAMPLE_LINE))
+        tally.same("audit.py", started("audit.py", given=data), (0, SAMPLE_PAGE))
         tally.same("sheet.py refuses", started("sheet.py", given=data[:-1]),
                    (0, b"refused=2 class=form\n"))
         with open(path, "w", encoding="utf-8") as script:
@@ -185,5 +211,5 @@ def script(tally):
 
 
 def run(tally):
-    for part in (lines, images, refusals, programs, script):
+    for part in (lines, images, refusals, pages, programs, script):
         part(tally)

@@ -1,0 +1,60 @@
+"""Inputs of the programs that read secrets, counter and volume, and the comparison of a built one with the second program.
+
+NGT_SEED sets the seed; a failure prints it with the case.
+"""
+import os
+import pathlib
+import random
+import subprocess
+import sys
+
+ROOT = pathlib.Path(__file__).resolve().parent.parent
+sys.path.insert(0, str(ROOT / "second"))
+import sample  # noqa: E402
+import sheet  # noqa: E402
+from layout import layout  # noqa: E402
+
+# Every answer that a mount can give.
+REFUSALS = [f"refused={number} ".encode() for number in range(1, 8)]
+SEED = int(os.environ.get("NGT_SEED", "1"))
+
+
+def flipped(data, byte, bit):
+    changed = bytearray(data)
+    changed[byte] ^= 1 << bit
+    return bytes(changed)
+
+
+def around_the_sample(source, volume_flips):
+    """The sample, every length that decides, and one flipped bit in each byte before the records and in some behind them."""
+    good = sample.sample()
+    lay = layout(3, 2, 64)
+    yield "the sample", good
+    for n in (0, 1, 71, 72, 73, 175, 176, 177, len(good) - 1, sheet.MOST - 1, sheet.MOST, sheet.MOST + 1):
+        yield f"{n} bytes", (good + bytes(sheet.MOST + 1))[:n]
+    for byte in range(72):
+        yield f"byte {byte} of the secrets and the counter", flipped(good, byte, source.randrange(8))
+    for byte in range(104):
+        yield f"byte {byte} of the head", flipped(good, 72 + byte, source.randrange(8))
+    for byte in source.sample(range(104, lay.length), volume_flips):
+        yield f"byte {byte} of the volume", flipped(good, 72 + byte, source.randrange(8))
+
+
+def compare(program, second, cases, shown):
+    """Runs the built program and the second one on each case; the last line counts. Each of the words shown has to come up."""
+    passed = failed = 0
+    missing = set(shown)
+    for name, data in cases(random.Random(SEED)):
+        ran = subprocess.run([ROOT / "tests/run_built.sh", program], input=data, capture_output=True)
+        wanted = second(data)
+        missing -= {words for words in missing if words in wanted}
+        if ran.returncode == 0 and ran.stdout == wanted:
+            passed += 1
+        else:
+            failed += 1
+            print(f"seed {SEED}, {name}: {ran.stdout!r} {ran.stderr!r}, and not {wanted!r}")
+    for words in sorted(missing):
+        failed += 1
+        print(f"seed {SEED}: no case shows {words!r}")
+    print(f"{passed} passed, {failed} failed")
+    sys.exit(1 if failed else 0)
