@@ -14,7 +14,7 @@ use Rattle.layout.proofs.Limits.{limits}
 use Rattle.records.specs.declared.Way.{Way}
 use Rattle.records.specs.Journal.{bit}
 use Rattle.records.specs.Record.{Widths}
-use Rattle.records.specs.Rule.{touchedBy, atTop}
+use Rattle.records.specs.Rule.{touchedBy, turned, atTop}
 use Rattle.drive.specs.declared.Drive.{Drive}
 use Rattle.drive.specs.declared.State.{State}
 use Rattle.drive.specs.declared.State.the-variants.{Steady, Changing}
@@ -94,6 +94,12 @@ module _ (w : World) (x : Sound w) (way : ℕ → Way) (new : ℕ → ℕ → Li
           long = λ n f a b. ap length (r .news n f a b) ∙ plain-long n f;
         }
 
+    -- each record is the one turned in its nugget's way
+    pub worked-turns : (n : ℕ) → n < w .drive .n
+        → recordOf (settled (advanced (w .drive) (worked (w .drive) (w .vol) way new)) (worked (w .drive) (w .vol) way new)) n
+        ≡ turned (way n) (w .drive .epoch) (recordOf (w .vol) n)
+    worked-turns n h = record-after d v way new due n h
+
     abbrev e : Drive
     e = advanced d (worked d v way new)
 
@@ -113,7 +119,7 @@ module _ (w : World) (x : Sound w) (way : ℕ → Way) (new : ℕ → ℕ → Li
           presents = refl;
           olds = λ changing. kept-changing (d .state) (d .old) changing;
           counts = refl;
-          turns = λ n h. record-after d v way new due n h;
+          turns = worked-turns;
           lists = refl;
           retires = refl;
           enciphers = λ n f a b on. rw (← r .news n f a b) (put-after d v way new due n f a b on .stored);

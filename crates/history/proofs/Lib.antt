@@ -8,5 +8,6 @@ pub mod Sound
 pub mod Changed
 pub mod Ways
 pub mod Steps
+pub mod Written
 pub mod Counters
 pub mod Demands

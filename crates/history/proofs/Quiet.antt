@@ -8,7 +8,7 @@ use native.Mathlib.Omega.{arith}
 use lib.Bits.{bitAnd}
 use lib.Dec.{eqb, ltb}
 use lib.ListN.{length}
-use borrow.Author.Tests.{eq-eqb, eqb-true, ltb-true, leb-true}
+use borrow.Author.Tests.{eq-eqb, ne-eqb, eqb-true, ltb-true, leb-true}
 use Rattle.base.specs.Pick.{pick}
 use Rattle.base.proofs.PickLaws.{yes, no, told, both-left}
 use Rattle.answers.specs.declared.Answer.{Answer}
@@ -54,6 +54,10 @@ Quiet a = (a ≡ A.Accepted) ⊎ (8 ≤ numberOf a)
 quiet-pick : (b : Bool) {x y : Answer} → Quiet x → Quiet y → Quiet (pick b x y)
 quiet-pick true p q = p
 quiet-pick false p q = q
+
+taken-pick : (b : Bool) {x y : Answer} → x ≡ A.Accepted → y ≡ A.Accepted → pick b x y ≡ A.Accepted
+taken-pick true p q = p
+taken-pick false p q = q
 
 -- two stages, by either of the two forms
 quiet-stages : (a b : Answer) → Quiet a → Quiet b → Quiet (pick (accepts a) b a)
@@ -162,6 +166,28 @@ module _ (d : Drive) (v : List ℕ) (x : Untouched d v) where
   unfolding testedTo
   tested-quiet way zero h = inl refl
   tested-quiet way (suc n) h = quiet-then (testedTo d v way n) _ (tested-quiet way n (omega arith)) (nugget-change n (way n) (omega arith))
+
+  -- with no keycount at its top a change is accepted
+  nugget-taken : (n : ℕ) (way : Way) → n < d .n → atTop way (recordOf v n) ≡ false → nuggetChange d v n way ≡ A.Accepted
+  unfolding nuggetChange andThen
+  nugget-taken n way h room =
+      taken-pick (idles way) refl
+      (yes _ (ap accepts (path-quiet n h)) (no _ room (taken-pick (rekeys way) (flakes-quiet n (recordOf v n .journal) h (λ f e. e)) refl)))
+
+  tested-taken : (way : ℕ → Way) → ((n : ℕ) → n < d .n → atTop (way n) (recordOf v n) ≡ false) → (n : ℕ) → n ≤ d .n → testedTo d v way n ≡ A.Accepted
+  unfolding testedTo andThen
+  tested-taken way room zero h = refl
+  tested-taken way room (suc n) h =
+      yes _ (ap accepts (tested-taken way room n (omega arith))) (nugget-taken n (way n) (omega arith) (room n (omega arith)))
+
+  -- 8, 13 and 14 aside, a write is accepted
+  pub write-taken : (o len : ℕ) → fitsIn (shapeOf d) o len ≡ true → (d .counter ≡ counterTop → ⊥)
+      → ((n : ℕ) → n < d .n → atTop (writeWay d v o len n) (recordOf v n) ≡ false) → writeAnswer d v o len ≡ A.Accepted
+  unfolding writeAnswer andThen
+  write-taken o len fit low room =
+      yes _ (ap accepts (x .opens))
+      (yes _ fit
+      (taken-pick (eqb len 0) refl (no _ (ne-eqb (d .counter) counterTop low) (tested-taken (writeWay d v o len) room (d .n) (omega arith)))))
 
   pub write-quiet : (o len : ℕ) → Quiet (writeAnswer d v o len)
   unfolding writeAnswer

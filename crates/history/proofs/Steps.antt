@@ -90,6 +90,17 @@ start-sound x =
       inv = fresh-inv (x .shape) (x .salt) (x .secret) (x .outside) (x .salted) (lent .limited);
     })
 
+-- what it hands out: a fresh drive, and each nugget with nothing in it
+pub begun-drive : (x : Start) → begun x .drive ≡ freshDrive (x .shape) (x .salt) (x .secret) (x .outside)
+unfolding begun formatDone
+begun-drive x = rw (x .accepted) refl
+
+pub begun-record : (x : Start) (n : ℕ) → n < x .shape .n → recordOf (begun x .vol) n ≡ freshRecord
+unfolding begun formatVolume
+begun-record x n h =
+    let (lent, top) = format-lent (x .shape) (x .outside) (x .given) (ap accepts (x .accepted)) in
+    rw (x .accepted) (fresh-record (x .shape) (x .salt) (x .secret) (x .outside) (x .salted) (lent .limited) n h)
+
 kept-any : (s : State) (old any : List ℕ) → keptOld s (pick (isChanging s) old any) ≡ keptOld s old
 kept-any Steady old any = refl
 kept-any (Changing epoch) old any = refl

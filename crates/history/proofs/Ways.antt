@@ -18,7 +18,7 @@ use Rattle.records.specs.declared.Record.{Record}
 use Rattle.records.specs.declared.Way.{Way}
 use Rattle.records.specs.declared.Way.the-variants.{Idle}
 use Rattle.records.specs.Journal.{bit}
-use Rattle.records.specs.Rule.{touchedBy, atTop}
+use Rattle.records.specs.Rule.{touchedBy, turned, atTop}
 use Rattle.records.proofs.MaskLaws.{bit-with, with-lt}
 use Rattle.records.proofs.RuleLaws.{way-touched}
 use Rattle.drive.specs.Drive.{shapeOf}
@@ -35,7 +35,7 @@ use Rattle.history.specs.Demands.{plainIn}
 use Rattle.history.proofs.Taken.{Sweeps, Writes}
 use Rattle.history.proofs.View.{reads-plain}
 use Rattle.history.proofs.Sound.{Sound, plain-same}
-use Rattle.history.proofs.Changed.{Ready, worked-sound}
+use Rattle.history.proofs.Changed.{Ready, worked-turns, worked-sound}
 
 -- bytes laid over what was written to a flake
 written-plain : (s : Shape) (o : ℕ) (bytes : List ℕ) (n f : ℕ) (contents : ℕ → ℕ)
@@ -100,6 +100,10 @@ module _ (w : World) (x : Sound w) where
               ∙ sym (plain-after n f);
           rest = λ n f h l e. plain-after n f ∙ missed-plain (shapeOf (w .drive)) o bytes n f (w .contents) (off n f l e);
         }
+
+    pub written-turns : (n : ℕ) → n < w .drive .n → recordOf (settled (writtenDrive (w .drive) (w .vol) o bytes) (writeWork (w .drive) (w .vol) o bytes)) n
+        ≡ turned (ways n) (w .drive .epoch) (recordOf (w .vol) n)
+    written-turns n h = worked-turns w x ways (newContents (w .drive) (w .vol) o bytes) after ready n h
 
     pub written-sound : Sound (left w (writtenDrive (w .drive) (w .vol) o bytes) (settled (writtenDrive (w .drive) (w .vol) o bytes) (writeWork (w .drive) (w .vol) o bytes))
         (padsFor (w .drive) (w .vol) ways) (w .secret) (w .old) after)
