@@ -1,5 +1,5 @@
 pub mod Limits
 pub mod Height
 pub mod Places
-pub mod Figures
+pub mod Refused
 pub mod Outcomes

@@ -1,0 +1,17 @@
+-- The shapes that document 01 names as out of limits, by computation.
+use mathlib.Core.Path.{_≡_, refl}
+use mathlib.Core.Bool.{Bool, true, not}
+use mathlib.Core.List.{[], _∷_}
+use Rattle.base.specs.Lists.{every}
+use Rattle.layout.specs.Shape.{shape, inLimits}
+use Rattle.layout.specs.declared.Shape.{Shape}
+
+-- "N 16,385, F 96, F 4,160, P 65", none of anything, and the largest of each
+abbrev pub outOf : Shape → Bool
+outOf s = not (inLimits s)
+
+pub refused : every outOf
+    (shape 16385 2 64 ∷ shape 3 2 96 ∷ shape 3 2 4160 ∷ shape 3 65 64 ∷ shape 0 2 64 ∷ shape 3 0 64 ∷ shape 3 2 0 ∷ shape 4294967295 2 64
+    ∷ shape 3 4294967295 64 ∷ shape 3 2 4294967295 ∷ []) ≡ true
+unfolding every inLimits
+refused = refl
