@@ -1,5 +1,5 @@
 // The calls on a drive that is lent: "The open drive is one record that the calls change where it stands".
-// It touches `opening`, `reading` and `reports`, whose by-value calls each function here wraps, and `drive` and `answers`.
+// It touches `opening`, `reading`, `reports`, `writing` and `rekeying`, whose by-value calls the functions here wrap, and `drive` and `answers`.
 use answers::Answer;
 use drive::Drive;
 use reports::Report;
@@ -11,6 +11,8 @@ ghost use Rattle.opening.specs.Mount.{mountDone};
 ghost use Rattle.reading.specs.Read.{readAnswer, readBuffer};
 ghost use Rattle.reports.specs.Report.{reportOf};
 ghost use Rattle.reports.specs.Stored.{storedAnswer, storedFlake};
+ghost use Rattle.changes.specs.Write.{writeDone, writeVolume};
+ghost use Rattle.changes.specs.Rekey.{beginDone, beginVolume, sweepDone, sweepVolume, finishDone, finishVolume};
 
 // "Format takes N, P, F, salt, secret and the outside counter."
 pub fn format_at(
@@ -73,4 +75,52 @@ pub fn stored_flake_at<'v>(d: &Drive, vol: &'v [u8], nugget: u32, flake: u32) ->
 {
     let c = *d;
     reports::stored_flake(c, vol, nugget, flake)
+}
+
+// Document 01's write.
+pub fn write_at(d: &mut Drive, vol: &mut [u8], offset: u64, bytes: &[u8]) -> Answer
+    ensures { λ r. ⌜ (r ≡ writeDone (now (d .entry)) (now (vol .entry)) offset (now (bytes .entry)) .answer)
+        × ((now (d .exit) ≡ writeDone (now (d .entry)) (now (vol .entry)) offset (now (bytes .entry)) .drive)
+        × (now (vol .exit) ≡ writeVolume (now (d .entry)) (now (vol .entry)) offset (now (bytes .entry)))) ⌝ }
+{
+    let c = *d;
+    let r = writing::write(c, vol, offset, bytes);
+    *d = r.drive;
+    r.answer
+}
+
+// "Begin takes a new secret: state changing, epoch plus 1, the old secret kept."
+pub fn begin_at(d: &mut Drive, vol: &mut [u8], secret: [u8; 32]) -> Answer
+    ensures { λ r. ⌜ (r ≡ beginDone (now (d .entry)) (now (vol .entry)) secret .answer)
+        × ((now (d .exit) ≡ beginDone (now (d .entry)) (now (vol .entry)) secret .drive)
+        × (now (vol .exit) ≡ beginVolume (now (d .entry)) (now (vol .entry)) secret)) ⌝ }
+{
+    let c = *d;
+    let r = rekeying::begin(c, vol, secret);
+    *d = r.drive;
+    r.answer
+}
+
+// "Sweep takes a nugget and rekeys it with T empty."
+pub fn sweep_at(d: &mut Drive, vol: &mut [u8], nugget: u32) -> Answer
+    ensures { λ r. ⌜ (r ≡ sweepDone (now (d .entry)) (now (vol .entry)) nugget .answer)
+        × ((now (d .exit) ≡ sweepDone (now (d .entry)) (now (vol .entry)) nugget .drive)
+        × (now (vol .exit) ≡ sweepVolume (now (d .entry)) (now (vol .entry)) nugget)) ⌝ }
+{
+    let c = *d;
+    let r = rekeying::sweep(c, vol, nugget);
+    *d = r.drive;
+    r.answer
+}
+
+// "Finish makes the state steady and zeroes the check."
+pub fn finish_at(d: &mut Drive, vol: &mut [u8]) -> Answer
+    ensures { λ r. ⌜ (r ≡ finishDone (now (d .entry)) (now (vol .entry)) .answer)
+        × ((now (d .exit) ≡ finishDone (now (d .entry)) (now (vol .entry)) .drive)
+        × (now (vol .exit) ≡ finishVolume (now (d .entry)) (now (vol .entry)))) ⌝ }
+{
+    let c = *d;
+    let r = rekeying::finish(c, vol);
+    *d = r.drive;
+    r.answer
 }
