@@ -1,4 +1,6 @@
 pub mod Names
 pub mod Steps
 pub mod Statements
+pub mod Shown
+pub mod Changed
 pub mod Outcomes
