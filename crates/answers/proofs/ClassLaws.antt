@@ -1,6 +1,6 @@
 -- The class of each range of numbers, and answers told apart by number and what they carry.
 use mathlib.Core.Path.{_≡_, refl}
-use Prim.Native.Nat.{ℕ, _≤_, _<_}
+use Prim.Native.Nat.{ℕ, _≤_}
 use native.Mathlib.Omega.{arith}
 use borrow.Author.Tests.{le-leb, lt-leb}
 use Rattle.base.proofs.PickLaws.{yes, no}

@@ -1,13 +1,13 @@
 -- Answers by stages: each test either refuses or hands on to what comes behind it.
 use mathlib.Core.Path.{_≡_, refl, sym, _∙_, ap}
 use mathlib.Core.Bool.{Bool, true, false}
-use Prim.Native.Nat.{_-_}
 use Rattle.base.specs.Pick.{pick}
 use Rattle.answers.specs.declared.Answer.{Answer}
 use Rattle.answers.specs.declared.Answer.the-variants as A
 use Rattle.answers.specs.Numbers.{accepts}
 use Rattle.answers.specs.Stages.{andThen}
-use Rattle.base.proofs.PickLaws.{clash}
+use Rattle.base.proofs.PickLaws.{clash, told}
+use mathlib.Core.Logic.{_⊎_, inl, inr}
 
 -- a stage that accepts, and one that refuses
 pub goes-on : (a next : Answer) → accepts a ≡ true → andThen a next ≡ next
@@ -17,6 +17,14 @@ goes-on a next e = rw e refl
 pub stops : (a next : Answer) → accepts a ≡ false → andThen a next ≡ a
 unfolding andThen
 stops a next e = rw e refl
+
+-- two stages accept only if each does
+pub both-stages : (a next : Answer) → accepts (andThen a next) ≡ true → (accepts a ≡ true) × (accepts next ≡ true)
+both-stages a next e = go (told (accepts a))
+  where
+    go : (accepts a ≡ true) ⊎ (accepts a ≡ false) → (accepts a ≡ true) × (accepts next ≡ true)
+    go (inl h) = (h, ap accepts (sym (goes-on a next h)) ∙ e)
+    go (inr h) = absurd (clash e (ap accepts (stops a next h) ∙ h))
 
 -- a stage's next test, with what follows the stage
 pub past : (b : Bool) (x : Answer) {y : Answer} (r next : Answer) → accepts r ≡ false → andThen x next ≡ y → andThen (pick b x r) next ≡ pick b y r
@@ -28,9 +36,10 @@ pub passed : (b : Bool) (x r : Answer) → accepts r ≡ false → accepts (pick
 passed true x r f e = (refl, e)
 passed false x r f e = let z : _≡_ {A = Bool} false true = sym f ∙ e in (z, cc)
 
-pub missed : (b : Bool) (x r : Answer) → accepts x ≡ false → accepts (pick b x r) ≡ true → b ≡ false
-missed true x r f e = sym e ∙ f
-missed false x r f e = refl
+-- a test that refuses did not hold, and what comes behind it accepts
+pub spared : (b : Bool) (x r : Answer) → accepts x ≡ false → accepts (pick b x r) ≡ true → (b ≡ false) × (accepts r ≡ true)
+spared true x r f e = absurd (clash e f)
+spared false x r f e = (refl, e)
 
 -- whatever isn't acceptance refuses
 pub refuses : (a : Answer) → (a ≡ A.Accepted → ⊥) → accepts a ≡ false

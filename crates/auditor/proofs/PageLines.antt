@@ -1,8 +1,7 @@
 -- The lines of a page, one after another.
 use mathlib.Core.Path.{_≡_, refl, ap, _∙_}
-use mathlib.Core.Bool.{true}
+use mathlib.Core.Bool.{true, false}
 use mathlib.Core.Logic.{_⊎_, inl, inr}
-use mathlib.Core.Bool.{false}
 use mathlib.Core.List.{List, [], _++_, append-assoc}
 use Prim.Native.Nat.{ℕ, zero, suc, _/_, _%_, _<_, _≤_}
 use native.Mathlib.Omega.{arith}
@@ -10,13 +9,13 @@ use lib.Dec.{eqb}
 use borrow.Author.Tests.{eqb-true, eqb-false}
 use Rattle.base.proofs.PickLaws.{no, told}
 use Rattle.drive.specs.declared.Drive.{Drive}
-use Rattle.nuggets.specs.Nugget.{recordOf}
 use Rattle.line.specs.Decimal.{decimal}
 use Rattle.line.specs.Texts.{t-nuggets, t-moved, t-left, t-flakes, t-share}
 use Rattle.line.specs.Lines.{newline, shareText, reportLine}
 use Rattle.pages.specs.Page.{nuggetText, nuggetLine, nuggetLines}
 use Rattle.auditor.specs.Reading.{upTo, past, linesFrom, lineAt}
 use Rattle.auditor.proofs.ReadLaws.{free, free-append, up-to, up-to-free, past-free, past-to, decimal-free, far-newline}
+use Rattle.tree.specs.Path.{recordOf}
 
 -- a text that ends in its only newline
 abbrev pub Line : List ℕ → Type 0

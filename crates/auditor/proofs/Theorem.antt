@@ -2,7 +2,7 @@
 use mathlib.Core.Path.{_≡_, refl, sym, ap, _∙_}
 use mathlib.Core.Bool.{true}
 use mathlib.Core.List.{List, [], _++_}
-use Prim.Native.Nat.{ℕ, suc, _+_, _-_, _^_, _<_, _≤_}
+use Prim.Native.Nat.{ℕ, suc, _-_, _^_, _<_}
 use native.Mathlib.Nat.{lt-of-lt-of-le, le-refl}
 use native.Mathlib.Omega.{arith}
 use lib.Dec.{leb, lit≤}
@@ -25,7 +25,7 @@ use Rattle.tree.proofs.WholeLaws.{whole-formed}
 use Rattle.keys.specs.Keys.{nuggetKey}
 use Rattle.drive.specs.declared.Drive.{Drive}
 use Rattle.drive.specs.Drive.{shapeOf, isChanging}
-use Rattle.nuggets.specs.Nugget.{recordOf, keyFor}
+use Rattle.nuggets.specs.Nugget.{keyFor}
 use Rattle.opening.specs.Mount.{wholeIn, openedDrive}
 use Rattle.opening.proofs.HeadBack.{Opened, opened}
 use Rattle.reports.specs.Report.{reportAnswer, reportOf}
@@ -41,6 +41,7 @@ use Rattle.auditor.proofs.ListLaws.{times-present, times-above}
 use Rattle.auditor.proofs.LineLaws.{LineTold, line-told, counter-told, counter-free}
 use Rattle.auditor.proofs.PageLines.{Line, report-is-line, last-ends, last-text, from-next, lines-through, nugget-line}
 use Rattle.auditor.proofs.KeyLaws.{key-word, secret-named}
+use Rattle.tree.specs.Path.{recordOf}
 
 -- a drive whose volume is what it has to be
 module _ (d : Drive) (v : List ℕ) (lent : Lent (shapeOf d) v) (bytes : Bytes v) (whole : wholeIn d v ≡ A.Accepted) where

@@ -9,11 +9,12 @@ use Rattle.records.specs.Journal.{bit}
 use Rattle.keys.specs.Keys.{nuggetKey}
 use Rattle.drive.specs.declared.Drive.{Drive}
 use Rattle.drive.specs.Drive.{isChanging}
-use Rattle.nuggets.specs.Nugget.{recordOf, keyFor}
+use Rattle.nuggets.specs.Nugget.{keyFor}
 use Rattle.reports.specs.Report.{reportOf}
 use Rattle.line.specs.Lines.{newline, reportLine}
 use Rattle.pages.specs.Words.{t-new, t-old, t-present}
 use Rattle.auditor.specs.Reading.{linesFrom, lineAt, toldOf, counterTold, times}
+use Rattle.tree.specs.Path.{recordOf}
 
 -- "One less means: under the old secret": `old` exactly if the epoch is one less than the head's. Else it is `new`, in a steady drive `present`.
 unfoldable pub keyWord : Drive → ℕ → List ℕ

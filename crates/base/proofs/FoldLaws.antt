@@ -1,29 +1,22 @@
 -- Folds join, a test of every element is a rule at each place, and the test of equality is equality.
-use mathlib.Core.Path.{_≡_, refl, ap₂, _∙_}
+use mathlib.Core.Path.{_≡_, refl, ap₂}
 use mathlib.Core.Bool.{Bool, true, false}
 use mathlib.Core.List.{List, [], _∷_, _++_}
-use Prim.Native.Nat.{ℕ, zero, suc, _<_}
-use native.Mathlib.Nat.{le-of-suc-le-suc, not-suc-le-zero}
+use Prim.Native.Nat.{ℕ, suc, _<_}
 use native.Mathlib.Omega.{arith}
 use lib.Dec.{eqb}
 use lib.ListN.{length, getD, drop}
 use lib.Seq.{drop-cons}
 use borrow.Author.Tests.{eqb-true, eq-eqb, ne-eqb}
 use Rattle.base.specs.Pick.{both}
-use Rattle.base.specs.Lists.{fold, every, same}
-use Rattle.base.proofs.PickLaws.{both-left, both-right, both-on, both-off}
+use Rattle.base.specs.Lists.{fold, same}
+use Rattle.base.proofs.PickLaws.{both-left, both-right, both-on}
 
 -- two pieces one after the other are the joined piece
 pub fold-append : {S A : Type 0} (f : S → A → S) (s : S) (a b : List A) → fold f s (a ++ b) ≡ fold f (fold f s a) b
 unfolding fold
 fold-append f s [] b = refl
 fold-append f s (x ∷ a) b = fold-append f (f s x) a b
-
-pub every-at : {A : Type 0} (f : A → Bool) (d : A) (l : List A) → every f l ≡ true → (k : ℕ) → k < length l → f (getD l k d) ≡ true
-unfolding every
-every-at f d [] e k h = absurd (not-suc-le-zero h)
-every-at f d (a ∷ l) e zero h = both-left (f a) (every f l) e
-every-at f d (a ∷ l) e (suc k) h = every-at f d l (both-right (f a) (every f l) e) k (le-of-suc-le-suc h)
 
 -- lists that pass the test of equality are equal, and equal lists pass
 pub same-true : (a b : List ℕ) → same a b ≡ true → a ≡ b

@@ -2,10 +2,10 @@
 use mathlib.Core.Path.{_≡_, refl, ap, sym, _∙_}
 use mathlib.Core.List.{List, [], _∷_, _++_, append-assoc, append-nil}
 use Prim.Native.Nat.{ℕ, zero, suc, _+_, _-_, _<_, _≤_}
-use native.Mathlib.Nat.{suc-add, zero-add, add-suc, add-zero, add-sub-cancel-left}
+use native.Mathlib.Nat.{suc-add, zero-add, add-suc, add-zero, add-sub-cancel-left, le-refl}
 use native.Mathlib.Numerals.{add-one}
 use native.Mathlib.Omega.{arith}
-use lib.ListN.{length, getD, take, drop, set, length-append, length-take, length-drop, drop-of-length-le}
+use lib.ListN.{length, getD, take, drop, set, length-append, length-take, length-drop, drop-of-length-le, replicate}
 use lib.Seq.{sets, sets-eq, take-at, drop-at, drop-drop, length-take-le, take-take, set-comm, take-set-le, drop-set-lt, getD-take, getD-drop, take-nil, take-add, drop-cons, ext-getD}
 use Rattle.base.specs.Lists.{part}
 
@@ -123,3 +123,27 @@ part-below at n m v w h e =
 -- n bytes from a place on, copied over all of z
 pub copied : (z v : List ℕ) (at n : ℕ) → length z ≡ n → at + n ≤ length v → sets z 0 (take (at + n - at) (drop at v)) ≡ part at n v
 copied z v at n e h = rw (add-sub-cancel-left at n) (sets-full z (part at n v) (length-part at n v h ∙ sym e))
+
+-- a byte after a run of stores
+pub sets-below : (l : List ℕ) (at : ℕ) (vs : List ℕ) (i : ℕ) → i < at → getD (sets l at vs) i 0 ≡ getD l i 0
+sets-below l at vs i h =
+    sym (getD-take at (sets l at vs) i 0 h) ∙ ap (λ (x : List ℕ). getD x i 0) (take-sets at l at vs (le-refl at)) ∙ getD-take at l i 0 h
+
+pub sets-above : (l : List ℕ) (at : ℕ) (vs : List ℕ) (i : ℕ) → at + length vs ≤ i → getD (sets l at vs) i 0 ≡ getD l i 0
+sets-above l at vs i h =
+    let e : i + 0 ≡ i = omega arith in
+    ap (λ (x : ℕ). getD (sets l at vs) x 0) (sym e)
+    ∙ sym (getD-drop i (sets l at vs) 0 0)
+    ∙ ap (λ (x : List ℕ). getD x 0 0) (drop-sets i l at vs h)
+    ∙ getD-drop i l 0 0
+    ∙ ap (λ (x : ℕ). getD l x 0) e
+
+pub sets-inside : (l : List ℕ) (at n : ℕ) (vs : List ℕ) (i : ℕ) → length vs ≡ n → at + n ≤ length l → i < n → getD (sets l at vs) (at + i) 0 ≡ getD vs i 0
+sets-inside l at n vs i e room h =
+    sym (getD-part at n (sets l at vs) i 0 h) ∙ ap (λ (x : List ℕ). getD x i 0) (part-sets l at n vs e room)
+
+-- the end of a run of equal values
+pub drop-replicate : {A : Type 0} (n k : ℕ) (a : A) → drop n (replicate k a) ≡ replicate (k - n) a
+drop-replicate zero k a = let e : k - 0 ≡ k = omega arith in rw e
+drop-replicate (suc n) zero a = let e : 0 - suc n ≡ 0 = omega arith in rw e
+drop-replicate (suc n) (suc k) a = let e : suc k - suc n ≡ k - n = omega arith in rw e (drop-replicate n k a)

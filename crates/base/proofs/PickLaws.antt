@@ -36,6 +36,10 @@ both-on h e = rw h e
 pub both-off : {a : Bool} (b : Bool) → a ≡ false → both a b ≡ false
 both-off b h = rw h refl
 
+pub both-no : (a : Bool) → both a false ≡ false
+both-no true = refl
+both-no false = refl
+
 -- no test both holds and fails
 pub clash : {b : Bool} → b ≡ true → b ≡ false → ⊥
 clash p q = let e : _≡_ {A = Bool} true false = sym p ∙ q in let w : _≡_ {A = ℕ} 0 1 = cc in omega arith

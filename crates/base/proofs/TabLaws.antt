@@ -5,10 +5,9 @@ use Prim.Native.Nat.{ℕ, zero, suc, _+_, _<_, _≤_}
 use native.Mathlib.Numerals.{add-one}
 use native.Mathlib.Nat.{add-zero, add-suc}
 use native.Mathlib.Omega.{arith}
-use lib.ListN.{length, getD, take, drop, set, length-append, drop-of-length-le}
+use lib.ListN.{length, getD, take, drop, set, length-append, drop-of-length-le, List·getD-append, replicate, replicate-append-replicate}
 use lib.Seq.{drop-cons, set-at, getD-at, take-at, drop-at, drop-drop, sets, ext-getD}
 use Rattle.base.proofs.PartLaws.{sets-append, length-part, getD-part}
-use lib.ListN.{List·getD-append, replicate, replicate-append-replicate}
 use lib.Dec.{ltb}
 use mathlib.Core.Bool.{true, false}
 use mathlib.Core.Logic.{_⊎_, inl, inr}

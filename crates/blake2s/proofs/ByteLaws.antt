@@ -2,7 +2,7 @@
 use mathlib.Core.Path.{_≡_, sym, _∙_}
 use mathlib.Core.Bool.{Bool}
 use mathlib.Core.List.{List, append-nil}
-use Prim.Native.Nat.{ℕ, zero, suc, _+_, _-_, _*_, _%_, _^_, _<_, _≤_}
+use Prim.Native.Nat.{ℕ, suc, _+_, _-_, _*_, _%_, _^_, _<_, _≤_}
 use native.Mathlib.Nat.{zero-add}
 use native.Mathlib.Numerals.{add-one}
 use native.Mathlib.Omega.{arith}
@@ -14,11 +14,7 @@ use Rattle.words.specs.Le.{le, serialised}
 use Rattle.words.proofs.LeLaws.{length-serialised}
 use Rattle.blake2s.specs.Compress.{rounds, vector, compress, joinedAt}
 use Rattle.blake2s.specs.Hash.{padded}
-
-drop-replicate : {A : Type 0} (n k : ℕ) (a : A) → drop n (replicate k a) ≡ replicate (k - n) a
-drop-replicate zero k a = let e : k - 0 ≡ k = omega arith in rw e
-drop-replicate (suc n) zero a = let e : 0 - suc n ≡ 0 = omega arith in rw e
-drop-replicate (suc n) (suc k) a = let e : suc k - suc n ≡ k - n = omega arith in rw e (drop-replicate n k a)
+use Rattle.base.proofs.PartLaws.{drop-replicate}
 
 -- bytes laid over zeros are padded
 pub sets-zeros : (l : List ℕ) → length l ≤ 64 → sets (replicate 64 0) 0 l ≡ padded l

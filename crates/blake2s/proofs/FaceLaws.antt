@@ -166,12 +166,3 @@ length-hash key m = length-serialised _ ∙ rw (length-compress _ _ _ _)
 pub hash-bytes : (key m : List ℕ) → Bytes (blake2s key m)
 unfolding blake2s hashed
 hash-bytes key m = serialised-bytes _
-
--- what `finish` gives has 32 bytes, from any state
-pub length-finished : (s : State) → length (finished s) ≡ 32
-unfolding finished
-length-finished s = length-serialised _ ∙ rw (length-compress _ _ _ _)
-
-pub finished-bytes : (s : State) → Bytes (finished s)
-unfolding finished
-finished-bytes s = serialised-bytes _

@@ -4,14 +4,13 @@ use mathlib.Core.List.{List, [], _∷_, _++_, append-assoc, append-nil}
 use Prim.Native.Nat.{ℕ, _+_, _*_, _≤_}
 use native.Mathlib.Omega.{arith}
 use native.Mathlib.Numerals.{add-one}
-use lib.Dec.{lit<}
-use lib.ListN.{length, set, drop, length-append, drop-of-length-le}
+use lib.ListN.{length, set, drop, drop-of-length-le}
 use lib.Seq.{sets}
 use Rattle.base.specs.Lists.{tab}
 use Rattle.base.proofs.TabLaws.{length-tab}
 use Rattle.base.proofs.PartLaws.{grows}
 use Rattle.words.specs.Le.{le, Bytes, wordsOf, serialised}
-use Rattle.words.proofs.LeLaws.{length-le, le-bytes, bytes-append, length-serialised, serialised-bytes}
+use Rattle.words.proofs.LeLaws.{length-le, length-serialised, serialised-bytes}
 use Rattle.chacha20.specs.ChaCha20.{added, start, blockFrom, blockOf, twentyRounds}
 
 -- a word more at the end

@@ -3,7 +3,7 @@ use Rattle.words.proofs.LeLaws.{bytes-append}
 use mathlib.Core.Path.{_≡_, refl, sym, _∙_}
 use mathlib.Core.Logic.{_⊎_, ⊎-elim}
 use mathlib.Core.List.{List, [], _++_, append-assoc, append-nil}
-use Prim.Native.Nat.{ℕ, zero, suc, _+_, _-_, _*_, _^_, _<_, _≤_}
+use Prim.Native.Nat.{ℕ, zero, suc, _+_, _-_, _*_, _^_, _≤_}
 use native.Mathlib.Nat.{add-zero, add-suc}
 use native.Mathlib.Omega.{arith}
 use borrow.Author.Tests.{leb-true, leb-false}
@@ -50,10 +50,6 @@ module _ (key nonce : List ℕ) (counter : ℕ) where
   pub keystream-front : (k m n : ℕ) → k ≤ 64 * m → k ≤ 64 * n → take k (keystream key nonce counter m) ≡ take k (keystream key nonce counter n)
   keystream-front k m n h l =
       ⊎-elim (λ e. sym (keystream-longer k m n h (leb-true m n e))) (λ e. keystream-longer k n m l (omega (arith, leb-false m n e))) (told (leb m n))
-
-  pub length-encrypted : (text : List ℕ) → length (encrypted key nonce counter text) ≡ length text
-  unfolding encrypted
-  length-encrypted text = length-xorl text _
 
   -- laying twice gives the bytes back
   pub encrypted-back : (text : List ℕ) → encrypted key nonce counter (encrypted key nonce counter text) ≡ text

@@ -5,7 +5,7 @@ use lib.ListN.{length, getD, set}
 use lib.Bits.{bitXor}
 use Rattle.base.specs.Lists.{tab}
 use Rattle.words.specs.Word.{add32, rotl}
-use Rattle.words.specs.Le.{le, wordsOf, serialised}
+use Rattle.words.specs.Le.{wordsOf, serialised}
 use Rattle.words.specs.Xor.{xorl}
 use Rattle.chacha20.specs.declared.Quad.{Quad}
 

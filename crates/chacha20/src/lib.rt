@@ -1,7 +1,6 @@
 // The stream cipher ChaCha20: RFC 8439, sections 2.1 to 2.4.
 // It touches `words`, and of `base` the definitions alone.
 ghost use mathlib.Core.Path.{_≡_};
-ghost use mathlib.Core.List.{List};
 ghost use Prim.Native.Nat.{_+_, _-_, _*_, _<_, _≤_, min};
 ghost use lib.ListN.{length};
 ghost use lib.Seq.{sets};

@@ -1,7 +1,6 @@
 -- Cells of the volume that don't meet: a store in one leaves the other.
 use mathlib.Core.Path.{_≡_}
 use mathlib.Core.Logic.{_⊎_, inl, inr, ⊎-elim}
-use mathlib.Core.Bool.{true, false}
 use mathlib.Core.List.{List}
 use Prim.Native.Nat.{ℕ, _+_, _*_, _<_, _≤_}
 use native.Mathlib.Omega.{arith}
@@ -13,9 +12,8 @@ use Rattle.base.specs.Lists.{part}
 use Rattle.base.proofs.PickLaws.{told}
 use Rattle.base.proofs.PartLaws.{part-sets-above, part-sets-below}
 use Rattle.layout.specs.declared.Shape.{Shape}
-use Rattle.layout.specs.Shape.{leaves}
-use Rattle.layout.specs.Parts.{recordAt, tagsAt, treeAt, flakesAt, tagAt, flakeAt, nodeAt}
-use Rattle.layout.proofs.Places.{apart, index-told, record-inside, tag-inside, node-inside}
+use Rattle.layout.specs.Parts.{flakesAt, tagAt, flakeAt}
+use Rattle.layout.proofs.Places.{apart, index-told}
 
 -- m bytes from a on and n bytes from b on share none
 abbrev pub Apart : ℕ → ℕ → ℕ → ℕ → Type 0

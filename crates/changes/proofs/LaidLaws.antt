@@ -1,29 +1,27 @@
 -- Flakes and tags as the list of encipherings lays them: what each entry puts, and what it leaves.
-use mathlib.Core.Path.{_≡_, refl, ap, sym, _∙_}
-use mathlib.Core.Logic.{_⊎_, inl, inr, ⊎-elim}
-use mathlib.Core.Bool.{Bool, true, false}
+use mathlib.Core.Path.{_≡_, refl, _∙_}
+use mathlib.Core.Logic.{inl, inr}
 use mathlib.Core.List.{List, [], _∷_, _++_}
-use Prim.Native.Nat.{ℕ, zero, suc, _+_, _-_, _*_, _<_, _≤_}
+use Prim.Native.Nat.{ℕ, _+_, _*_, _<_, _≤_}
 use native.Mathlib.Omega.{arith}
 use lib.ListN.{length}
 use lib.Seq.{sets, length-sets}
-use Rattle.base.specs.Pick.{pick}
 use Rattle.base.specs.Lists.{part}
 use Rattle.base.proofs.PartLaws.{part-sets}
 use Rattle.words.proofs.XorLaws.{length-xorl}
 use Rattle.layout.specs.declared.Shape.{Shape}
 use Rattle.layout.specs.Shape.{leaves}
 use Rattle.layout.specs.Lent.{Lent}
-use Rattle.layout.specs.Parts.{recordAt, tagsAt, treeAt, flakesAt, lengthOf, tagAt, flakeAt, nodeAt}
-use Rattle.layout.proofs.Places.{record-inside, tag-inside, node-inside, flake-inside, parts-inside}
-use Rattle.records.specs.Listing.{Entry, entry, padsOf}
+use Rattle.layout.specs.Parts.{tagsAt, tagAt, flakeAt, nodeAt}
+use Rattle.layout.proofs.Places.{tag-inside, node-inside, flake-inside, parts-inside}
+use Rattle.records.specs.Listing.{Entry}
 use Rattle.keys.specs.Keys.{nuggetKey}
 use Rattle.keys.specs.Pads.{padOf, under}
 use Rattle.keys.specs.Tags.{tagOf}
 use Rattle.keys.proofs.TagLaws.{length-tag}
 use Rattle.nuggets.specs.Nugget.{storedIn}
 use Rattle.changes.specs.Laid.{laidFlake, laidEntry, laid}
-use Rattle.changes.proofs.Each.{Each, each-map, Of, each-pads}
+use Rattle.changes.proofs.Each.{Each}
 use Rattle.changes.proofs.CellLaws.{Apart, part-apart, Other, flakes-apart, tags-apart}
 
 -- the encipherings of two lists, one after the other

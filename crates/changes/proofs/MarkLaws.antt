@@ -1,30 +1,28 @@
 -- Records stored one after another: what each nugget's record is then, and what they leave.
 use mathlib.Core.Path.{_≡_, refl, ap, sym, _∙_}
 use mathlib.Core.Logic.{_⊎_, inl, inr, ⊎-elim}
-use mathlib.Core.Bool.{Bool, true, false}
+use mathlib.Core.Bool.{true, false}
 use mathlib.Core.List.{List}
-use Prim.Native.Nat.{ℕ, zero, suc, _+_, _-_, _*_, _<_, _≤_}
+use Prim.Native.Nat.{ℕ, zero, suc, _+_, _<_, _≤_}
 use native.Mathlib.Omega.{arith}
 use lib.ListN.{length}
 use lib.Seq.{sets, length-sets}
-use Rattle.base.specs.Pick.{pick}
 use Rattle.base.specs.Lists.{part}
 use Rattle.base.proofs.PickLaws.{yes, no, told, clash}
 use Rattle.layout.specs.declared.Shape.{Shape}
 use Rattle.layout.specs.Lent.{Lent}
-use Rattle.layout.specs.Parts.{recordAt, tagsAt, lengthOf}
-use Rattle.layout.proofs.Places.{record-inside, parts-inside}
+use Rattle.layout.specs.Parts.{recordAt, tagsAt}
 use Rattle.records.specs.declared.Record.{Record}
 use Rattle.records.specs.declared.Way.{Way}
 use Rattle.records.specs.declared.Way.the-variants.{Idle, Add, Rekey}
-use Rattle.records.specs.Record.{recordBytes, recordIn, Widths}
+use Rattle.records.specs.Record.{recordBytes, Widths}
 use Rattle.records.specs.Rule.{turned}
 use Rattle.records.proofs.RecordLaws.{length-record, read-stored}
 use Rattle.records.proofs.RuleLaws.{turned-idle}
-use Rattle.nuggets.specs.Nugget.{recordOf}
 use Rattle.changes.specs.Change.{idles, marked, markedTo}
 use Rattle.changes.proofs.CellLaws.{Apart, part-apart, ordered}
 use Rattle.changes.proofs.PadsLaws.{record-told}
+use Rattle.tree.specs.Path.{recordOf}
 
 -- an idle way is Idle
 pub idle-is : (way : Way) → idles way ≡ true → way ≡ Idle
@@ -82,9 +80,6 @@ module _ (head : ℕ) (way : ℕ → Way) (v : List ℕ) where
   -- all that stands before and behind the records
   pub marks-above : (s : Shape) (at k m : ℕ) (w : List ℕ) → m ≤ s .n → tagsAt s ≤ at → part at k (markedTo head way v m w) ≡ part at k w
   marks-above s at k m w h c = marks-leave at k m w (λ n low off. inr (omega (arith, low, h, c)))
-
-  pub marks-head : (m : ℕ) (w : List ℕ) → part 0 104 (markedTo head way v m w) ≡ part 0 104 w
-  marks-head m w = marks-leave 0 104 m w (λ n low off. inl (omega arith))
 
   -- records not reached yet
   pub marks-later : (n m : ℕ) (w : List ℕ) → m ≤ n → part (recordAt n) 18 (markedTo head way v m w) ≡ part (recordAt n) 18 w

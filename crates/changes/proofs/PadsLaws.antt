@@ -1,36 +1,28 @@
 -- A nugget's encipherings and a call's, laid: which flakes and tags they put, and what they leave.
-use mathlib.Core.Path.{_≡_, refl, ap, sym, _∙_}
-use mathlib.Core.Logic.{_⊎_, inl, inr, ⊎-elim}
-use mathlib.Core.Bool.{Bool, true, false}
-use mathlib.Core.List.{List, [], _∷_, _++_}
-use Prim.Native.Nat.{ℕ, zero, suc, _+_, _-_, _*_, _<_, _≤_}
+use mathlib.Core.Path.{_≡_, ap, sym, _∙_}
+use mathlib.Core.Bool.{Bool}
+use mathlib.Core.List.{List}
+use Prim.Native.Nat.{ℕ, _+_, _*_, _<_, _≤_}
 use native.Mathlib.Omega.{arith}
-use lib.ListN.{length}
-use Rattle.base.specs.Pick.{pick}
 use Rattle.base.specs.Lists.{part}
-use Rattle.base.proofs.PickLaws.{told, clash}
 use Rattle.base.proofs.PartLaws.{part-part}
 use Rattle.words.specs.Le.{num}
 use Rattle.layout.specs.declared.Shape.{Shape}
 use Rattle.layout.specs.Shape.{leaves}
-use Rattle.layout.specs.Lent.{Lent}
 use Rattle.layout.specs.Parts.{recordAt, tagsAt, tagAt, flakeAt, nodeAt}
 use Rattle.layout.proofs.Places.{record-inside}
 use Rattle.records.specs.declared.Record.{Record}
 use Rattle.records.specs.declared.Way.{Way}
 use Rattle.records.specs.Record.{recordIn}
-use Rattle.records.specs.Journal.{bit}
-use Rattle.records.specs.Rule.{enciphered, keycountAfter}
-use Rattle.records.specs.Listing.{Entry, entry, padsOf, padsBy, padsTo}
+use Rattle.records.specs.Listing.{Entry, padsOf, padsTo}
 use Rattle.nodes.specs.Nodes.{nodeIn}
-use Rattle.keys.specs.Keys.{nuggetKey}
 use Rattle.keys.specs.Pads.{under}
-use Rattle.keys.specs.Tags.{tagOf}
-use Rattle.nuggets.specs.Nugget.{recordOf, storedIn}
-use Rattle.changes.specs.Laid.{laidFlake, laidEntry, laid}
+use Rattle.nuggets.specs.Nugget.{storedIn}
+use Rattle.changes.specs.Laid.{laid}
 use Rattle.changes.proofs.Each.{Each, each-map, Of, each-pads, chosen, Below, each-to}
-use Rattle.changes.proofs.CellLaws.{Other, differ}
-use Rattle.changes.proofs.LaidLaws.{laid-append, length-laid, laid-lent, laid-leaves, flake-put, tag-put, Long, Clear, Stands, clear-below, clear-node, clear-flake, clear-tag}
+use Rattle.changes.proofs.CellLaws.{Other}
+use Rattle.changes.proofs.LaidLaws.{laid-leaves, Long, Clear, Stands, clear-below, clear-node, clear-flake, clear-tag}
+use Rattle.tree.specs.Path.{recordOf}
 
 -- a record is told by its 18 bytes
 pub record-told : (at : ℕ) (v w : List ℕ) → part at 18 v ≡ part at 18 w → recordIn at v ≡ recordIn at w
@@ -44,12 +36,6 @@ record-told at v w e =
     piece : (a n : ℕ) → a + n ≤ 18 → (b : ℕ) → at + a ≡ b → part b n v ≡ part b n w
     piece a n h b q =
         ap (λ (x : ℕ). part x n v) (sym q) ∙ sym (part-part a n at 18 v h) ∙ ap (λ (x : List ℕ). part a n x) e ∙ part-part a n at 18 w h ∙ ap (λ (x : ℕ). part x n w) q
-
--- entries of one nugget, and of all below m, are the volume's
-pub of-stands : (s : Shape) (n k : ℕ) (x : List ℕ) (g : ℕ → Bool) (p : ℕ) → n < s .n → p ≤ s .p → Each (Stands s) (padsOf n k x g p)
-of-stands s n k x g p a b =
-    each-map (Of n g p) (Stands s) (padsOf n k x g p)
-    (λ e o. let own = o .own in let few = o .few in record { nugget = omega (arith, own, a); flake = omega (arith, few, b) }) (each-pads n k x g p)
 
 pub to-stands : (s : Shape) (way : ℕ → Way) (records : ℕ → Record) (x : List ℕ) (m : ℕ) → m ≤ s .n → Each (Stands s) (padsTo (s .p) way records x m)
 to-stands s way records x m h =

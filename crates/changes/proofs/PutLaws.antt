@@ -1,9 +1,9 @@
 -- After a call's encipherings: each flake that is listed is its new contents under its pad, with its tag; every other is as it was.
 use mathlib.Core.Path.{_≡_, refl, ap, sym, _∙_}
-use mathlib.Core.Logic.{_⊎_, inl, inr, ⊎-elim}
+use mathlib.Core.Logic.{_⊎_, ⊎-elim}
 use mathlib.Core.Bool.{Bool, true, false}
-use mathlib.Core.List.{List, [], _∷_, _++_}
-use Prim.Native.Nat.{ℕ, zero, suc, _+_, _-_, _*_, _<_, _≤_}
+use mathlib.Core.List.{List, [], _∷_}
+use Prim.Native.Nat.{ℕ, zero, suc, _<_, _≤_}
 use native.Mathlib.Omega.{arith}
 use Rattle.base.specs.Pick.{pick}
 use Rattle.base.specs.Lists.{part}
@@ -20,10 +20,10 @@ use Rattle.keys.specs.Keys.{nuggetKey}
 use Rattle.keys.specs.Pads.{under}
 use Rattle.keys.specs.Tags.{tagOf}
 use Rattle.nuggets.specs.Nugget.{storedIn}
-use Rattle.changes.specs.Laid.{laidFlake, laidEntry, laid}
+use Rattle.changes.specs.Laid.{laidEntry, laid}
 use Rattle.changes.proofs.Each.{Each, each-map, Of, each-pads}
 use Rattle.changes.proofs.CellLaws.{ordered}
-use Rattle.changes.proofs.LaidLaws.{laid-append, laid-lent, flake-put, tag-put, Long, Stands}
+use Rattle.changes.proofs.LaidLaws.{laid-append, laid-lent, flake-put, tag-put, Long}
 use Rattle.changes.proofs.PadsLaws.{Far, laid-stored, laid-tag, of-far}
 
 -- a flake and its tag in two volumes

@@ -1,30 +1,27 @@
 -- The head stored last: it is the drive's, and nothing behind it changes.
-use mathlib.Core.Path.{_≡_, refl, ap, sym, _∙_}
+use mathlib.Core.Path.{_≡_, sym, _∙_}
 use mathlib.Core.Logic.{_⊎_, ⊎-elim}
 use mathlib.Core.List.{List}
-use Prim.Native.Nat.{ℕ, _+_, _*_, _<_, _≤_}
+use Prim.Native.Nat.{ℕ, _*_, _≤_}
 use native.Mathlib.Omega.{arith}
 use lib.ListN.{length}
-use lib.Seq.{sets, length-sets}
+use lib.Seq.{length-sets}
 use Rattle.base.specs.Lists.{part}
 use Rattle.base.proofs.PartLaws.{part-sets, part-sets-above}
 use Rattle.layout.specs.declared.Shape.{Shape}
-use Rattle.layout.specs.Shape.{leaves}
 use Rattle.layout.specs.Lent.{Lent}
 use Rattle.layout.specs.Parts.{recordAt, tagAt, flakeAt, nodeAt}
-use Rattle.layout.proofs.Places.{parts-inside, node-inside}
-use Rattle.nodes.specs.Alike.{Alike}
+use Rattle.layout.proofs.Places.{parts-inside}
 use Rattle.nodes.specs.Nodes.{nodeIn}
 use Rattle.tree.specs.Good.{AllGood, Beside}
 use Rattle.tree.proofs.RenewLaws.{all-but, none-left, but-more}
 use Rattle.tree.proofs.ChangeLaws.{changed-but}
 use Rattle.drive.specs.declared.Drive.{Drive}
-use Rattle.drive.specs.Drive.{shapeOf}
 use Rattle.drive.specs.Head.{headOf}
-use Rattle.nuggets.specs.Nugget.{recordOf}
 use Rattle.changes.specs.Change.{settled}
 use Rattle.changes.proofs.PadsLaws.{record-told}
 use Rattle.changes.proofs.PutLaws.{Same}
+use Rattle.tree.specs.Path.{recordOf}
 
 module _ (s : Shape) (d : Drive) (w : List ℕ) (long : length (headOf d) ≡ 104) where
   pub settled-lent : Lent s w → Lent s (settled d w)

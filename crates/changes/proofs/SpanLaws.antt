@@ -2,14 +2,14 @@
 use mathlib.Core.Path.{_≡_, refl, sym, _∙_, ap}
 use mathlib.Core.Bool.{Bool, true, false}
 use mathlib.Core.Logic.{_⊎_, inl, inr}
-use mathlib.Core.List.{List, [], append-nil}
+use mathlib.Core.List.{List, append-nil}
 use Prim.Native.Nat.{ℕ, zero, suc, _+_, _-_, _*_, _/_, _<_, _≤_, max, min}
 use native.Mathlib.Nat.{le-div-iff-mul-le, div-lt-iff-lt-mul, mul-le-mul-right}
 use native.Mathlib.Omega.{arith}
 use borrow.Author.Tests.{ltb-true, eqb-true, eqb-false}
 use lib.Dec.{ltb, eqb}
 use Rattle.base.specs.Pick.{pick, both}
-use Rattle.base.proofs.PickLaws.{both-left, both-right, both-off, alike, clash, told, yes, no}
+use Rattle.base.proofs.PickLaws.{both-left, both-right, alike, clash, told, yes, no}
 use Rattle.layout.specs.declared.Shape.{Shape}
 use Rattle.layout.specs.Spots.{spotAt, offsetAt}
 use Rattle.layout.proofs.Limits.{Limits}
@@ -17,25 +17,25 @@ use Rattle.answers.specs.declared.Answer.{Answer}
 use Rattle.answers.specs.declared.Answer.the-variants as A
 use Rattle.answers.specs.Numbers.{accepts}
 use Rattle.answers.specs.Stages.{andThen}
-use Rattle.answers.proofs.StageLaws.{goes-on, stops, missed, accepted-is}
+use Rattle.answers.proofs.StageLaws.{goes-on, stops, both-stages, spared, accepted-is}
 use Rattle.records.specs.declared.Record.{Record}
 use Rattle.records.specs.declared.Way.{Way}
 use Rattle.records.specs.declared.Way.the-variants.{Idle, Add, Rekey}
 use Rattle.records.specs.Journal.{shareNone}
-use Rattle.records.specs.Rule.{wayOf, rekeys, atTop}
-use Rattle.records.specs.Listing.{padsTo, padsBy}
+use Rattle.records.specs.Rule.{wayOf, atTop}
+use Rattle.records.specs.Listing.{padsTo}
 use Rattle.records.proofs.BitLaws.{same-bits, bit-empty}
 use Rattle.records.proofs.MaskLaws.{bit-with}
 use Rattle.records.proofs.RuleLaws.{way-idle}
 use Rattle.records.proofs.ListingLaws.{pads-idle}
 use Rattle.drive.specs.declared.Drive.{Drive}
 use Rattle.drive.specs.Drive.{shapeOf}
-use Rattle.nuggets.specs.Nugget.{recordOf}
-use Rattle.nuggets.specs.Tests.{pathFor, flakesOf}
+use Rattle.nuggets.specs.Tests.{pathFor}
 use Rattle.nuggets.specs.Touched.{meets, touchedOf}
 use Rattle.nuggets.proofs.TouchLaws.{touched-none}
 use Rattle.changes.specs.Change.{idles, nuggetChange, testedTo, marked, markedTo, tended, tendedTo}
 use Rattle.changes.specs.Write.{writeWay}
+use Rattle.tree.specs.Path.{recordOf}
 
 -- a step by step account that stands still from a on
 pub still : {A : Type 0} (f : ℕ → A) (a k : ℕ) → ((m : ℕ) → a ≤ m → m < a + k → f (suc m) ≡ f m) → f (a + k) ≡ f a
@@ -150,35 +150,10 @@ module _ (d : Drive) (v : List ℕ) (way : ℕ → Way) where
           let same : testedTo d v way k ≡ testedTo d v way n = f (omega (arith, h, eqb-false n (suc k) q)) in
           stops (testedTo d v way k) _ (ap accepts same ∙ e) ∙ same
 
--- both of two stages that accept
-pub after : (a next : Answer) → accepts (andThen a next) ≡ true → (accepts a ≡ true) × (accepts next ≡ true)
-after a next e = go (told (accepts a))
-  where
-    go : (accepts a ≡ true) ⊎ (accepts a ≡ false) → (accepts a ≡ true) × (accepts next ≡ true)
-    go (inl h) = (h, ap accepts (sym (goes-on a next h)) ∙ e)
-    go (inr h) = absurd (clash e (ap accepts (stops a next h) ∙ h))
-
--- what comes behind a test that didn't refuse
-pub beyond : (b : Bool) (x r : Answer) → accepts x ≡ false → accepts (pick b x r) ≡ true → accepts r ≡ true
-beyond true x r f e = absurd (clash e f)
-beyond false x r f e = e
-
 -- what an accepted nugget says: its path, its keycount, and its flakes where it is rekeyed
 module _ (d : Drive) (v : List ℕ) (n : ℕ) where
   pub change-room : (way : Way) → accepts (nuggetChange d v n way) ≡ true → atTop way (recordOf v n) ≡ false
   unfolding nuggetChange atTop
   change-room Idle e = refl
   change-room (Add t) e = refl
-  change-room (Rekey t) e = missed _ _ _ refl (after (pathFor d v n) _ e .1)
-
-  pub change-path : (way : Way) → idles way ≡ false → accepts (nuggetChange d v n way) ≡ true → accepts (pathFor d v n) ≡ true
-  unfolding nuggetChange
-  change-path Idle h e = absurd (clash refl h)
-  change-path (Add t) h e = after (pathFor d v n) _ e .0
-  change-path (Rekey t) h e = after (pathFor d v n) _ e .0
-
-  pub change-flakes : (way : Way) → rekeys way ≡ true → accepts (nuggetChange d v n way) ≡ true → accepts (flakesOf d v n (recordOf v n .journal)) ≡ true
-  unfolding nuggetChange atTop
-  change-flakes Idle h e = absurd (clash h refl)
-  change-flakes (Add t) h e = absurd (clash h refl)
-  change-flakes (Rekey t) h e = beyond (atTop (Rekey t) (recordOf v n)) A.KeycountTop _ refl (after (pathFor d v n) _ e .1)
+  change-room (Rekey t) e = spared _ _ _ refl (both-stages (pathFor d v n) _ e .1) .0

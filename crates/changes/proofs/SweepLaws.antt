@@ -20,7 +20,7 @@ use Rattle.records.specs.Rule.{sweepWay}
 use Rattle.records.specs.Listing.{Entry, padsBy, padsTo}
 use Rattle.drive.specs.declared.Drive.{Drive}
 use Rattle.drive.specs.Drive.{shapeOf}
-use Rattle.nuggets.specs.Nugget.{recordOf, nuggetOf, contentsOf}
+use Rattle.nuggets.specs.Nugget.{nuggetOf, contentsOf}
 use Rattle.nuggets.proofs.PieceLaws.{length-contents}
 use Rattle.changes.specs.Laid.{over, written, laidEntry, laid}
 use Rattle.changes.specs.Change.{padsFor, marked, markedTo, tended, tendedTo, worked}
@@ -30,6 +30,7 @@ use Rattle.changes.proofs.Each.{Each, each-map}
 use Rattle.changes.proofs.LaidLaws.{Stands}
 use Rattle.changes.proofs.PadsLaws.{to-stands, laid-record}
 use Rattle.changes.proofs.SpanLaws.{still-to, pads-idle-to, marked-idle, tended-idle}
+use Rattle.tree.specs.Path.{recordOf}
 
 pub way-own : (n : ℕ) → sweepWays n n ≡ sweepWay
 way-own n = yes _ (eq-eqb n n refl) refl

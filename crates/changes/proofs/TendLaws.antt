@@ -1,12 +1,10 @@
 -- Leaves and paths renewed one nugget after another: what stands outside the tree stays, and the tree is good at the end.
-use mathlib.Core.Path.{_≡_, refl, ap, sym, _∙_}
-use mathlib.Core.Logic.{_⊎_, inl, inr, ⊎-elim}
-use mathlib.Core.Bool.{Bool, true, false}
+use mathlib.Core.Path.{_≡_, refl, ap, _∙_}
+use mathlib.Core.Logic.{_⊎_, ⊎-elim}
+use mathlib.Core.Bool.{true, false}
 use mathlib.Core.List.{List}
-use Prim.Native.Nat.{ℕ, zero, suc, _+_, _<_, _≤_}
+use Prim.Native.Nat.{ℕ, zero, suc, _<_, _≤_}
 use native.Mathlib.Omega.{arith}
-use lib.ListN.{length}
-use Rattle.base.specs.Pick.{pick}
 use Rattle.base.proofs.PickLaws.{yes, no, told, clash}
 use Rattle.layout.specs.declared.Shape.{Shape}
 use Rattle.layout.specs.Lent.{Lent}
@@ -17,7 +15,6 @@ use Rattle.tree.specs.Good.{AllGood, GoodBut}
 use Rattle.tree.specs.Renewed.{renewed}
 use Rattle.tree.proofs.RenewLaws.{renewed-outside, renewed-but, none-left, but-more}
 use Rattle.changes.specs.Change.{idles, tended, tendedTo}
-use Rattle.changes.proofs.CellLaws.{ordered}
 
 module _ (s : Shape) (way : Way) (n : ℕ) (w : List ℕ) where
   pub tend-idle : idles way ≡ true → tended s way n w ≡ w

@@ -1,20 +1,19 @@
 -- The volume after a change of nuggets, part by part: records, flakes with their tags, and the tree.
 use mathlib.Core.Path.{_≡_, refl, ap, sym, _∙_}
 use mathlib.Core.Logic.{_⊎_, inl, inr, ⊎-elim}
-use mathlib.Core.Bool.{Bool, true, false}
+use mathlib.Core.Bool.{true, false}
 use mathlib.Core.List.{List}
-use Prim.Native.Nat.{ℕ, zero, suc, _+_, _-_, _*_, _<_, _≤_}
+use Prim.Native.Nat.{ℕ, _+_, _-_, _*_, _<_, _≤_}
 use native.Mathlib.Omega.{arith}
-use lib.ListN.{length, take, drop}
+use lib.ListN.{drop}
 use lib.Seq.{drop-drop}
 use Rattle.base.specs.Lists.{part}
 use Rattle.base.proofs.PickLaws.{told, clash}
 use Rattle.base.proofs.PartLaws.{part-below}
 use Rattle.layout.specs.declared.Shape.{Shape}
-use Rattle.layout.specs.Shape.{leaves}
 use Rattle.layout.specs.Lent.{Lent}
-use Rattle.layout.specs.Parts.{recordAt, tagsAt, treeAt, flakesAt, lengthOf, tagAt, flakeAt, nodeAt}
-use Rattle.layout.proofs.Places.{apart, record-inside, tag-inside, node-inside, flake-inside, parts-inside}
+use Rattle.layout.specs.Parts.{recordAt, treeAt, flakesAt, tagAt, flakeAt, nodeAt}
+use Rattle.layout.proofs.Places.{apart, record-inside, tag-inside, node-inside, parts-inside}
 use Rattle.records.specs.declared.Record.{Record}
 use Rattle.records.specs.declared.Way.{Way}
 use Rattle.records.specs.declared.Way.the-variants.{Idle, Add, Rekey}
@@ -24,25 +23,24 @@ use Rattle.records.specs.Rule.{enciphered, keycountAfter, turned}
 use Rattle.records.specs.Listing.{Entry}
 use Rattle.records.proofs.BitLaws.{bit-empty}
 use Rattle.nodes.specs.Alike.{Alike, Outside}
-use Rattle.nodes.specs.Nodes.{nodeIn, recordPart, tagsPart}
 use Rattle.nodes.proofs.StoreLaws.{outside-alike}
 use Rattle.nodes.proofs.Bounds.{tags-inside}
-use Rattle.tree.specs.Good.{AllGood, GoodBut, Beside}
+use Rattle.tree.specs.Good.{AllGood, Beside}
 use Rattle.tree.proofs.RenewLaws.{all-but, but-more}
 use Rattle.tree.proofs.ChangeLaws.{changed-but}
 use Rattle.keys.specs.Keys.{nuggetKey}
 use Rattle.drive.specs.declared.Drive.{Drive}
 use Rattle.drive.specs.Drive.{shapeOf}
-use Rattle.nuggets.specs.Nugget.{recordOf, storedIn}
 use Rattle.changes.specs.Laid.{laid}
-use Rattle.changes.specs.Change.{idles, padsFor, markedTo, tendedTo, worked}
-use Rattle.changes.proofs.Each.{Each, each-map, chosen, Below, each-to}
-use Rattle.changes.proofs.CellLaws.{Apart, ordered}
+use Rattle.changes.specs.Change.{idles, padsFor, markedTo, worked}
+use Rattle.changes.proofs.Each.{each-map, chosen, Below, each-to}
+use Rattle.changes.proofs.CellLaws.{ordered}
 use Rattle.changes.proofs.LaidLaws.{laid-lent, laid-leaves, Long, Clear}
 use Rattle.changes.proofs.PadsLaws.{record-told, to-stands, laid-below, laid-record, laid-node}
 use Rattle.changes.proofs.PutLaws.{Same, Under, same-trans, under-same, to-kept, to-put}
-use Rattle.changes.proofs.MarkLaws.{idle-is, marks-lent, marks-above, marks-idle, marks-put}
+use Rattle.changes.proofs.MarkLaws.{marks-lent, marks-above, marks-idle, marks-put}
 use Rattle.changes.proofs.TendLaws.{LeftFrom, tends-outside, tends-lent, tends-good}
+use Rattle.tree.specs.Path.{recordOf}
 
 -- parts behind the tree
 part-behind : (at n m : ℕ) (v w : List ℕ) → m ≤ at → drop m w ≡ drop m v → part at n w ≡ part at n v

@@ -20,9 +20,9 @@ use Rattle.tree.specs.Renewed.{renewed}
 use Rattle.drive.specs.declared.Drive.{Drive}
 use Rattle.drive.specs.Drive.{shapeOf, keptOld}
 use Rattle.drive.specs.Head.{headOf}
-use Rattle.nuggets.specs.Nugget.{recordOf}
 use Rattle.nuggets.specs.Tests.{pathFor, flakesOf}
 use Rattle.changes.specs.Laid.{laid}
+use Rattle.tree.specs.Path.{recordOf}
 
 -- the nugget stays as it is
 abbrev pub idles : Way → Bool

@@ -18,10 +18,11 @@ use Rattle.drive.specs.declared.Done.{Done}
 use Rattle.drive.specs.declared.State.the-variants.{Steady, Changing}
 use Rattle.drive.specs.Drive.{shapeOf, isChanging, zeros, counterTop}
 use Rattle.drive.specs.Opening.{openingOf}
-use Rattle.nuggets.specs.Nugget.{recordOf, contentsOf}
+use Rattle.nuggets.specs.Nugget.{contentsOf}
 use Rattle.nuggets.specs.Tests.{pathFor, flakesOf}
 use Rattle.reports.specs.Counts.{movedIn}
 use Rattle.changes.specs.Change.{padsFor, worked, advanced, settled}
+use Rattle.tree.specs.Path.{recordOf}
 
 -- "Epoch: 1 to 65,535"
 abbrev pub epochTop : ℕ

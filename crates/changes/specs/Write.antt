@@ -16,10 +16,11 @@ use Rattle.drive.specs.declared.Drive.{Drive}
 use Rattle.drive.specs.declared.Done.{Done}
 use Rattle.drive.specs.Drive.{shapeOf, counterTop}
 use Rattle.drive.specs.Opening.{openingOf}
-use Rattle.nuggets.specs.Nugget.{recordOf, contentsOf}
+use Rattle.nuggets.specs.Nugget.{contentsOf}
 use Rattle.nuggets.specs.Touched.{touchedOf, fitsIn}
 use Rattle.changes.specs.Laid.{written}
 use Rattle.changes.specs.Change.{testedTo, padsFor, worked, advanced, settled}
+use Rattle.tree.specs.Path.{recordOf}
 
 -- the way of each nugget under a write of len bytes from offset o on
 abbrev pub writeWay : Drive → List ℕ → ℕ → ℕ → ℕ → Way

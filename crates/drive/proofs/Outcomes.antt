@@ -6,7 +6,7 @@ use Rattle.base.specs.Outcome.{Unique}
 use Rattle.base.proofs.OutcomeLaws.{only}
 use Rattle.drive.specs.declared.Drive.{Drive}
 use Rattle.drive.specs.declared.State.{State}
-use Rattle.drive.specs.Drive.{shapeOf, isChanging, blankDrive}
+use Rattle.drive.specs.Drive.{shapeOf, isChanging, keptOld, blankDrive}
 use Rattle.drive.specs.Head.{stateByte, checkIn, frontIn, headOf}
 use Rattle.drive.specs.Opening.{epochFits, inForm, headStands, openingOf}
 
@@ -18,6 +18,9 @@ shape-of d = only (shapeOf d)
 
 pub is-changing : (s : State) → Unique (λ r. r ≡ isChanging s)
 is-changing s = only (isChanging s)
+
+pub kept-old : (s : State) (old : List ℕ) → Unique (λ r. r ≡ keptOld s old)
+kept-old s old = only (keptOld s old)
 
 pub state-byte : (s : State) → Unique (λ r. r ≡ stateByte s)
 state-byte s = only (stateByte s)

@@ -10,7 +10,7 @@ ghost use lib.ListN.{length};
 ghost use Rattle.words.specs.Le.{le};
 ghost use Rattle.layout.specs.Shape.{inLimits};
 ghost use Rattle.layout.specs.Parts.{lengthOf};
-ghost use Rattle.drive.specs.Drive.{shapeOf, isChanging, blankDrive};
+ghost use Rattle.drive.specs.Drive.{shapeOf, isChanging, keptOld, blankDrive};
 ghost use Rattle.drive.specs.Head.{stateByte, numbersOf, checkIn, frontIn, headOf};
 ghost use Rattle.drive.specs.Opening.{epochFits, inForm, headStands, openingOf};
 
@@ -74,6 +74,16 @@ pub fn is_changing(state: State) -> bool
     match state {
         State::Steady => false,
         State::Changing(_) => true,
+    }
+}
+
+// "an accepted change or mount leaves zeros there"
+pub fn kept_old(state: State, old: [u8; 32]) -> [u8; 32]
+    ensures { λ r. ⌜ r ≡ keptOld state old ⌝ }
+{
+    match state {
+        State::Steady => [0u8; 32],
+        State::Changing(_) => old,
     }
 }
 

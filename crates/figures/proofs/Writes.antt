@@ -15,7 +15,7 @@ use Rattle.records.specs.Listing.{padsTo}
 use Rattle.records.proofs.ListingLaws.{length-padsBy}
 use Rattle.drive.specs.declared.Drive.{Drive}
 use Rattle.drive.specs.Drive.{shapeOf, counterTop}
-use Rattle.nuggets.specs.Nugget.{recordOf}
+use Rattle.tree.specs.Path.{recordOf}
 use Rattle.nuggets.specs.Touched.{touchedOf}
 use Rattle.reports.specs.Counts.{flakesIn}
 use Rattle.opening.specs.Format.{freshDrive}

@@ -9,7 +9,7 @@ use Rattle.layout.specs.Spots.{spotAt}
 use Rattle.layout.specs.declared.Shape.{Shape}
 use Rattle.line.specs.Lines.{shareText}
 use Rattle.drive.specs.Drive.{counterTop}
-use Rattle.nuggets.specs.Nugget.{recordOf}
+use Rattle.tree.specs.Path.{recordOf}
 use Rattle.reports.specs.Counts.{flakesIn, shareOf}
 use Rattle.history.specs.World.{World, write}
 use Rattle.history.specs.History.{Start, history}

@@ -17,14 +17,14 @@ use Rattle.records.specs.declared.Record.{Record}
 use Rattle.records.specs.declared.Way.{Way}
 use Rattle.records.specs.Journal.{bit}
 use Rattle.records.specs.Record.{Widths}
-use Rattle.records.specs.Rule.{touchedBy, enciphered, keycountAfter, journalAfter, epochAfter, turned, atTop}
+use Rattle.records.specs.Rule.{touchedBy, keycountAfter, journalAfter, epochAfter, turned, atTop}
 use Rattle.records.proofs.RuleLaws.{well-formed-after, widths-after}
 use Rattle.keys.specs.Keys.{nuggetKey}
 use Rattle.drive.specs.declared.Drive.{Drive}
 use Rattle.drive.specs.Drive.{shapeOf, isChanging, keptOld}
 use Rattle.drive.specs.Head.{headOf}
 use Rattle.drive.specs.Opening.{inForm}
-use Rattle.nuggets.specs.Nugget.{secretFor, recordOf, keyFor}
+use Rattle.nuggets.specs.Nugget.{secretFor, keyFor}
 use Rattle.nuggets.specs.Tests.{goodFlake, flakeGood}
 use Rattle.opening.proofs.Reopens.{length-head}
 use Rattle.changes.specs.Change.{worked, advanced, settled}
@@ -35,8 +35,10 @@ use Rattle.changes.proofs.ViewLaws.{worked-lent, worked-record, worked-put, wor
 use Rattle.changes.proofs.SettleLaws.{settled-record, settled-same, settled-good}
 use Rattle.ledger.specs.Step.{Fits}
 use Rattle.ledger.proofs.TurnLaws.{Adds, Rekeyed, turn-told, touched-lt}
-use Rattle.history.proofs.Quiet.{Untouched, opening-told, untouched-lent}
+use Rattle.history.proofs.Quiet.{Untouched, untouched-lent}
 use Rattle.history.proofs.Heads.{settled-opens, tag-kept}
+use Rattle.drive.proofs.OpeningLaws.{opening-told}
+use Rattle.tree.specs.Path.{recordOf}
 
 -- a flake laid under its nugget's key and keycount has the right tag
 tag-laid : (e : Drive) (z : List ℕ) (n f : ℕ) (key : List ℕ) (k : ℕ) (c : List ℕ) → Under (shapeOf e) n f key k c z → keyFor e z n ≡ key

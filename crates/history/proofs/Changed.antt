@@ -19,12 +19,11 @@ use Rattle.drive.specs.declared.Drive.{Drive}
 use Rattle.drive.specs.declared.State.{State}
 use Rattle.drive.specs.declared.State.the-variants.{Steady, Changing}
 use Rattle.drive.specs.Drive.{shapeOf, isChanging, keptOld, counterTop}
-use Rattle.nuggets.specs.Nugget.{recordOf}
 use Rattle.changes.specs.Change.{padsFor, worked, advanced, settled}
 use Rattle.ledger.specs.Totals.{risen}
 use Rattle.ledger.specs.Ledger.{Ledger}
 use Rattle.ledger.specs.Step.{Fits, Step}
-use Rattle.ledger.proofs.StepLaws.{formed-journal, formed-epoch, keeps}
+use Rattle.ledger.proofs.StepLaws.{keeps}
 use Rattle.history.specs.World.{World}
 use Rattle.history.specs.Step.{left}
 use Rattle.history.specs.Demands.{plainIn}
@@ -32,6 +31,8 @@ use Rattle.history.proofs.Quiet.{untouched-lent}
 use Rattle.history.proofs.View.{kitOf, viewOf, ledgerOf}
 use Rattle.history.proofs.After.{Due, record-after, put-after, kept-after, untouched-after}
 use Rattle.history.proofs.Sound.{Sound, counter-room}
+use Rattle.records.proofs.RuleLaws.{formed-journal, formed-epoch}
+use Rattle.tree.specs.Path.{recordOf}
 
 kept-twice : (s : State) (a b : List ℕ) → keptOld s a ≡ b → keptOld s b ≡ b
 kept-twice Steady a b e = e

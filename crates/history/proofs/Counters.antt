@@ -15,7 +15,7 @@ use Rattle.opening.specs.Mount.{openedDrive, mountAnswer}
 use Rattle.opening.proofs.HeadBack.{opened}
 use Rattle.opening.proofs.Reopens.{drive-back}
 use Rattle.changes.specs.Change.{advanced}
-use Rattle.changes.specs.Write.{writes, writeDone}
+use Rattle.changes.specs.Write.{writeDone}
 use Rattle.changes.specs.Rekey.{begunDrive, beginDone, sweepDone, finishedDrive, finishDone}
 use Rattle.history.specs.World.{World, Call, mount, read, write, begin, sweep, finish, report, stored}
 use Rattle.history.specs.Step.{left, mounted, step, changesBy}

@@ -1,6 +1,5 @@
 -- The demands, read off what stays true through every history.
 use mathlib.Core.Path.{_≡_, refl, ap, _∙_}
-use mathlib.Core.Bool.{true}
 use mathlib.Core.Logic.{inl}
 use mathlib.Core.List.{List, _∷_, _++_}
 use mathlib.Core.Option.{some}
@@ -19,7 +18,7 @@ use Rattle.keys.specs.Pads.{Size, Stretch, Lies}
 use Rattle.keys.proofs.Stretches.{no-stretch-twice as stretches-apart}
 use Rattle.drive.specs.declared.Done.{Done}
 use Rattle.drive.specs.Drive.{shapeOf}
-use Rattle.nuggets.specs.Nugget.{recordOf, byteOf}
+use Rattle.nuggets.specs.Nugget.{byteOf}
 use Rattle.reading.specs.Read.{readBuffer}
 use Rattle.reading.proofs.AnswerLaws.{read-lent}
 use Rattle.reports.specs.Counts.{flakesIn}
@@ -40,6 +39,7 @@ use Rattle.history.proofs.Sound.{Sound}
 use Rattle.history.proofs.Steps.{start-sound, sound, mount-back}
 use Rattle.history.proofs.Runs.{run-append, run-kept, step-writes}
 use Rattle.history.proofs.Counters.{baseOf, run-base, run-raised, head-counter}
+use Rattle.tree.specs.Path.{recordOf}
 
 begun-base : (x : Start) → baseOf (begun x .drive) ≡ (x .shape, x .salt)
 unfolding begun formatDone freshDrive

@@ -24,13 +24,15 @@ use Rattle.drive.specs.Drive.{shapeOf, isChanging}
 use Rattle.drive.specs.Head.{headOf}
 use Rattle.drive.specs.Opening.{epochFits as driveFits, inForm, headStands, openingOf}
 use Rattle.drive.proofs.HeadLaws.{form-limits}
-use Rattle.nuggets.specs.Nugget.{secretFor, recordOf, keyFor, storedIn}
+use Rattle.nuggets.specs.Nugget.{secretFor, keyFor, storedIn}
 use Rattle.nuggets.specs.Tests.{goodFlake, flakeGood}
 use Rattle.opening.proofs.Reopens.{length-head}
 use Rattle.changes.specs.Change.{settled}
 use Rattle.changes.proofs.PutLaws.{Same}
 use Rattle.changes.proofs.SettleLaws.{settled-lent, settled-head, settled-record, settled-same, settled-node, settled-good}
-use Rattle.history.proofs.Quiet.{Untouched, opening-told}
+use Rattle.history.proofs.Quiet.{Untouched}
+use Rattle.drive.proofs.OpeningLaws.{opening-told}
+use Rattle.tree.specs.Path.{recordOf}
 
 -- a drive in form opens the volume on which its head was stored last
 pub settled-opens : (d : Drive) (w : List ℕ) → length (d .salt) ≡ 16 → inForm d ≡ true → length w ≡ lengthOf (shapeOf d) → nodeIn (shapeOf d) w 1 ≡ d .node

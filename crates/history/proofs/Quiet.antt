@@ -8,14 +8,13 @@ use native.Mathlib.Omega.{arith}
 use lib.Bits.{bitAnd}
 use lib.Dec.{eqb, ltb}
 use lib.ListN.{length}
-use borrow.Author.Tests.{eq-eqb, ne-eqb, eqb-true, ltb-true, leb-true}
+use borrow.Author.Tests.{eq-eqb, ne-eqb, ltb-true, leb-true}
 use Rattle.base.specs.Pick.{pick}
 use Rattle.base.proofs.PickLaws.{yes, no, told, both-left}
 use Rattle.answers.specs.declared.Answer.{Answer}
 use Rattle.answers.specs.declared.Answer.the-variants as A
 use Rattle.answers.specs.Numbers.{numberOf, accepts}
 use Rattle.answers.specs.Stages.{andThen}
-use Rattle.answers.proofs.StageLaws.{granted}
 use Rattle.layout.specs.declared.Shape.{Shape}
 use Rattle.layout.specs.Lent.{Lent}
 use Rattle.layout.specs.Parts.{lengthOf}
@@ -26,17 +25,17 @@ use Rattle.records.specs.declared.Way.{Way}
 use Rattle.records.specs.Journal.{bit}
 use Rattle.records.specs.Rule.{rekeys, atTop, sweepWay}
 use Rattle.records.proofs.BitLaws.{bit-and}
-use Rattle.tree.specs.Path.{formed}
+use Rattle.tree.specs.Path.{formed, recordOf}
 use Rattle.tree.specs.Whole.{wholeOf}
 use Rattle.tree.specs.Good.{AllGood}
 use Rattle.tree.proofs.PathLaws.{good-path}
 use Rattle.tree.proofs.WholeLaws.{good-whole}
 use Rattle.drive.specs.declared.Drive.{Drive}
 use Rattle.drive.specs.Drive.{shapeOf, isChanging, counterTop}
-use Rattle.drive.specs.Opening.{inForm, headStands, openingOf}
-use Rattle.drive.proofs.OpeningLaws.{opening-lent}
+use Rattle.drive.specs.Opening.{openingOf}
+use Rattle.drive.proofs.OpeningLaws.{opening-lent, opening-told}
 use Rattle.nuggets.specs.declared.Nugget.{Nugget}
-use Rattle.nuggets.specs.Nugget.{recordOf, nuggetOf}
+use Rattle.nuggets.specs.Nugget.{nuggetOf}
 use Rattle.nuggets.specs.Tests.{goodFlake, flakeGood, passes, flakesUp, flakesIn, flakesOf, pathFor, nuggetRead}
 use Rattle.nuggets.specs.Touched.{touchedOf, fitsIn}
 use Rattle.reading.specs.Read.{nuggetsUp, nuggetsIn, nuggetsOf, readAnswer}
@@ -73,20 +72,6 @@ pub record Untouched (d : Drive) (v : List ℕ) : Type 0 where
   pub good : AllGood (shapeOf d) v
   pub well : (n : ℕ) → n < d .n → formed (shapeOf d) (d .epoch) (isChanging (d .state)) v n ≡ true
   pub tags : (n f : ℕ) → n < d .n → f < d .p → bit (recordOf v n .journal) f ≡ true → flakeGood d v n f ≡ true
-
--- what the tests of an accepted opening tell
-pub record Opened (d : Drive) (v : List ℕ) : Type 0 where
-  pub form : inForm d ≡ true
-  pub long : length v ≡ lengthOf (shapeOf d)
-  pub stands : headStands d v ≡ true
-
-pub opening-told : (d : Drive) (v : List ℕ) → openingOf d v ≡ A.Accepted → Opened d v
-unfolding openingOf
-opening-told d v e =
-    let t₁ = granted (inForm d) _ A.Limits refl e in
-    let t₂ = granted (eqb (length v) (lengthOf (shapeOf d))) _ A.Length refl (t₁ .1) in
-    let t₃ = granted (headStands d v) _ (A.Altered _) refl (t₂ .1) in
-    record { form = t₁ .0; long = eqb-true (length v) (lengthOf (shapeOf d)) (t₂ .0); stands = t₃ .0 }
 
 -- flakes that pass one by one
 flakes-pass : (s : Shape) (v : List ℕ) (g : Nugget) (mask k f : ℕ) → ((i : ℕ) → f ≤ i → i < f + k → bit mask i ≡ true → goodFlake s v g i ≡ true)

@@ -13,7 +13,7 @@ use Rattle.drive.specs.declared.State.{State}
 use Rattle.drive.specs.declared.State.the-variants.{Steady, Changing}
 use Rattle.drive.specs.Drive.{shapeOf, isChanging, zeros, counterTop}
 use Rattle.drive.specs.Opening.{epochFits}
-use Rattle.nuggets.specs.Nugget.{secretFor, recordOf}
+use Rattle.nuggets.specs.Nugget.{secretFor}
 use Rattle.opening.proofs.Reopens.{Handed}
 use Rattle.changes.specs.Change.{settled}
 use Rattle.changes.specs.Rekey.{begunDrive, finishedDrive}
@@ -30,6 +30,7 @@ use Rattle.history.proofs.Quiet.{Untouched}
 use Rattle.history.proofs.Taken.{Begins, Finishes}
 use Rattle.history.proofs.View.{kitOf, viewOf, ledgerOf}
 use Rattle.history.proofs.Heads.{headed, headed-record, headed-stored, headed-untouched, begin-fits, finish-fits}
+use Rattle.tree.specs.Path.{recordOf}
 
 pub record Sound (w : World) : Type 0 where
   -- nothing is altered

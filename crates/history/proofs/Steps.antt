@@ -9,7 +9,7 @@ use lib.Dec.{leb, ltb}
 use lib.ListN.{length}
 use borrow.Author.Tests.{leb-true, ltb-true, ltb-false, le-ltb}
 use Rattle.base.specs.Pick.{pick, both}
-use Rattle.base.proofs.PickLaws.{yes, no, told, clash, both-left, both-right}
+use Rattle.base.proofs.PickLaws.{yes, told, clash, both-left, both-right}
 use Rattle.base.proofs.TabLaws.{tab-const}
 use Rattle.answers.specs.declared.Answer.the-variants as A
 use Rattle.answers.specs.Numbers.{accepts}
@@ -24,7 +24,6 @@ use Rattle.drive.specs.declared.Done.{Done}
 use Rattle.drive.specs.declared.State.{State}
 use Rattle.drive.specs.declared.State.the-variants.{Steady, Changing}
 use Rattle.drive.specs.Drive.{isChanging, keptOld}
-use Rattle.nuggets.specs.Nugget.{recordOf}
 use Rattle.opening.specs.Format.{freshRecord, planted, freshDrive, freshVolume, formatDone, formatVolume}
 use Rattle.opening.specs.Mount.{mountDone}
 use Rattle.opening.proofs.FormatLaws.{format-lent}
@@ -46,6 +45,7 @@ use Rattle.history.proofs.Taken.{begins, sweeps, finishes, writes-some}
 use Rattle.history.proofs.View.{kitOf, viewOf}
 use Rattle.history.proofs.Sound.{Sound, same-sound, begun-sound, finished-sound}
 use Rattle.history.proofs.Ways.{written-sound, swept-sound}
+use Rattle.tree.specs.Path.{recordOf}
 
 -- a fresh drive and volume
 module _ (s : Shape) (salt secret : List ℕ) (outside : ℕ) (salted : length salt ≡ 16) (limited : inLimits s ≡ true) where

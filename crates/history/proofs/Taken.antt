@@ -10,10 +10,9 @@ use borrow.Author.Tests.{eqb-true, eqb-false, ltb-true, ltb-false, ne-eqb}
 use Rattle.base.specs.Pick.{pick}
 use Rattle.base.specs.Lists.{same}
 use Rattle.base.proofs.PickLaws.{told}
-use Rattle.answers.specs.declared.Answer.{Answer}
 use Rattle.answers.specs.declared.Answer.the-variants as A
 use Rattle.answers.specs.Numbers.{accepts}
-use Rattle.answers.proofs.StageLaws.{passed, missed}
+use Rattle.answers.proofs.StageLaws.{passed, both-stages, spared}
 use Rattle.layout.specs.Spots.{capacity}
 use Rattle.records.specs.Journal.{many}
 use Rattle.records.specs.Rule.{sweepWay, atTop}
@@ -22,7 +21,6 @@ use Rattle.tree.specs.Whole.{wholeOf}
 use Rattle.drive.specs.declared.Drive.{Drive}
 use Rattle.drive.specs.Drive.{shapeOf, isChanging, counterTop}
 use Rattle.drive.specs.Opening.{openingOf}
-use Rattle.nuggets.specs.Nugget.{recordOf}
 use Rattle.nuggets.specs.Tests.{pathFor}
 use Rattle.nuggets.specs.Touched.{fitsIn}
 use Rattle.nuggets.proofs.TouchLaws.{fits-within}
@@ -30,11 +28,8 @@ use Rattle.reports.specs.Counts.{isMoved, movedIn}
 use Rattle.changes.specs.Change.{testedTo}
 use Rattle.changes.specs.Write.{writeWay, writeAnswer}
 use Rattle.changes.specs.Rekey.{epochTop, beginAnswer, sweepAnswer, leftIn, finishAnswer}
-use Rattle.changes.proofs.SpanLaws.{tested-each, after, beyond, change-room}
-
--- a test that refuses did not hold, and what comes behind it accepts
-spared : (b : Bool) (x r : Answer) → accepts x ≡ false → accepts (pick b x r) ≡ true → (b ≡ false) × (accepts r ≡ true)
-spared b x r f e = (missed b x r f e, beyond b x r f e)
+use Rattle.changes.proofs.SpanLaws.{tested-each, change-room}
+use Rattle.tree.specs.Path.{recordOf}
 
 pub record Begins (d : Drive) : Type 0 where
   pub steady : isChanging (d .state) ≡ false
@@ -44,7 +39,7 @@ pub record Begins (d : Drive) : Type 0 where
 pub begins : (d : Drive) (v secret : List ℕ) → accepts (beginAnswer d v secret) ≡ true → Begins d
 unfolding beginAnswer
 begins d v secret e =
-    let t₁ = after (openingOf d v) _ e in
+    let t₁ = both-stages (openingOf d v) _ e in
     let t₂ = spared (isChanging (d .state)) A.State _ refl (t₁ .1) in
     let t₃ = spared (same secret (d .present)) A.SameSecret _ refl (t₂ .1) in
     let t₄ = spared (eqb (d .epoch) epochTop) A.EpochTop _ refl (t₃ .1) in
@@ -60,10 +55,10 @@ pub record Sweeps (d : Drive) (v : List ℕ) (n : ℕ) : Type 0 where
 pub sweeps : (d : Drive) (v : List ℕ) (n : ℕ) → accepts (sweepAnswer d v n) ≡ true → Sweeps d v n
 unfolding sweepAnswer
 sweeps d v n e =
-    let t₁ = after (openingOf d v) _ e in
+    let t₁ = both-stages (openingOf d v) _ e in
     let t₂ = passed (isChanging (d .state)) _ A.State refl (t₁ .1) in
     let t₃ = passed (ltb n (d .n)) _ A.PastEnd refl (t₂ .1) in
-    let t₄ = after (pathFor d v n) _ (t₃ .1) in
+    let t₄ = both-stages (pathFor d v n) _ (t₃ .1) in
     let t₅ = spared (eqb (recordOf v n .epoch) (d .epoch)) A.Moved _ refl (t₄ .1) in
     let t₆ = spared (eqb (d .counter) counterTop) A.CounterTop _ refl (t₅ .1) in
     let t₇ = spared (atTop sweepWay (recordOf v n)) A.KeycountTop _ refl (t₆ .1) in
@@ -93,9 +88,9 @@ pub record Finishes (d : Drive) (v : List ℕ) : Type 0 where
 pub finishes : (d : Drive) (v : List ℕ) → accepts (finishAnswer d v) ≡ true → Finishes d v
 unfolding finishAnswer
 finishes d v e =
-    let t₁ = after (openingOf d v) _ e in
+    let t₁ = both-stages (openingOf d v) _ e in
     let t₂ = passed (isChanging (d .state)) _ A.State refl (t₁ .1) in
-    let t₃ = after (wholeOf (shapeOf d) (d .epoch) (isChanging (d .state)) v) _ (t₂ .1) in
+    let t₃ = both-stages (wholeOf (shapeOf d) (d .epoch) (isChanging (d .state)) v) _ (t₂ .1) in
     let t₄ = spared (ltb 0 (leftIn d v)) (A.Left (leftIn d v)) _ refl (t₃ .1) in
     let t₅ = spared (eqb (d .counter) counterTop) A.CounterTop _ refl (t₄ .1) in
     let all : movedIn (d .epoch) v (d .n) ≡ d .n = omega (arith, ltb-false 0 (leftIn d v) (t₄ .0), many-le (d .n) (isMoved (d .epoch) v)) in
@@ -113,7 +108,7 @@ pub record Writes (d : Drive) (v : List ℕ) (o len : ℕ) : Type 0 where
 pub writes-some : (d : Drive) (v : List ℕ) (o len : ℕ) → 0 < len → accepts (writeAnswer d v o len) ≡ true → Writes d v o len
 unfolding writeAnswer
 writes-some d v o len some e =
-    let t₁ = after (openingOf d v) _ e in
+    let t₁ = both-stages (openingOf d v) _ e in
     let t₂ = passed (fitsIn (shapeOf d) o len) _ A.PastEnd refl (t₁ .1) in
     let t₃ : accepts (pick (eqb (d .counter) counterTop) A.CounterTop (testedTo d v (writeWay d v o len) (d .n))) ≡ true =
     rw (ne-eqb len 0 (λ z. omega (arith, z))) at (t₂ .1) in

@@ -7,12 +7,13 @@ use Rattle.keys.specs.Keys.{nuggetKey}
 use Rattle.keys.specs.Pads.{padOf}
 use Rattle.drive.specs.declared.Drive.{Drive}
 use Rattle.drive.specs.Drive.{shapeOf, isChanging}
-use Rattle.nuggets.specs.Nugget.{secretFor, recordOf, keyFor, storedIn, contentsIn, contentsOf}
+use Rattle.nuggets.specs.Nugget.{secretFor, keyFor, storedIn, contentsIn, contentsOf}
 use Rattle.ledger.specs.Ledger.{Kit, Ledger, secretAt, contents}
 use Rattle.ledger.specs.Invariant.{Inv}
 use Rattle.ledger.proofs.Theorems.{finds}
 use Rattle.history.specs.World.{World}
 use Rattle.history.specs.Demands.{plainIn}
+use Rattle.tree.specs.Path.{recordOf}
 
 -- the pad of an entry is ChaCha20's under the key of its nugget
 abbrev pub kitOf : Drive → Kit

@@ -22,7 +22,7 @@ use Rattle.records.specs.Rule.{touchedBy, turned, atTop}
 use Rattle.records.proofs.MaskLaws.{bit-with, with-lt}
 use Rattle.records.proofs.RuleLaws.{way-touched}
 use Rattle.drive.specs.Drive.{shapeOf}
-use Rattle.nuggets.specs.Nugget.{recordOf, contentsOf}
+use Rattle.nuggets.specs.Nugget.{contentsOf}
 use Rattle.nuggets.specs.Touched.{meets, touchedOf}
 use Rattle.changes.specs.Laid.{over, written}
 use Rattle.changes.specs.Change.{padsFor, settled}
@@ -36,6 +36,7 @@ use Rattle.history.proofs.Taken.{Sweeps, Writes}
 use Rattle.history.proofs.View.{reads-plain}
 use Rattle.history.proofs.Sound.{Sound, plain-same}
 use Rattle.history.proofs.Changed.{Ready, worked-turns, worked-sound}
+use Rattle.tree.specs.Path.{recordOf}
 
 -- bytes laid over what was written to a flake
 written-plain : (s : Shape) (o : ℕ) (bytes : List ℕ) (n f : ℕ) (contents : ℕ → ℕ)

@@ -14,7 +14,7 @@ use Rattle.records.specs.declared.Way.{Way}
 use Rattle.records.specs.declared.Way.the-variants.{Idle, Add, Rekey}
 use Rattle.records.specs.Rule.{turned, atTop}
 use Rattle.drive.specs.Drive.{shapeOf, counterTop}
-use Rattle.nuggets.specs.Nugget.{recordOf}
+use Rattle.tree.specs.Path.{recordOf}
 use Rattle.nuggets.specs.Touched.{fitsIn}
 use Rattle.changes.specs.Laid.{over}
 use Rattle.changes.specs.Change.{padsFor}

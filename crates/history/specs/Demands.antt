@@ -17,7 +17,7 @@ use Rattle.keys.specs.Keys.{nuggetKey}
 use Rattle.keys.specs.Pads.{under, Stretch, inputOf}
 use Rattle.drive.specs.Drive.{shapeOf}
 use Rattle.opening.specs.Mount.{mountAnswer, mountDone}
-use Rattle.nuggets.specs.Nugget.{recordOf, secretFor, storedIn}
+use Rattle.nuggets.specs.Nugget.{secretFor, storedIn}
 use Rattle.reading.specs.Read.{readBuffer}
 use Rattle.reports.specs.Counts.{movedIn, flakesIn}
 use Rattle.reports.specs.Report.{counted, reportOf}
@@ -25,6 +25,7 @@ use Rattle.ledger.specs.Listing.{lastOf, NoneTwice}
 use Rattle.history.specs.World.{World, Call, read, write}
 use Rattle.history.specs.Step.{oldFor, answerTo, step, changesBy, writesAt}
 use Rattle.history.specs.History.{Start, begun, history, among}
+use Rattle.tree.specs.Path.{recordOf}
 
 -- The drive keeps the shape and the salt of its format; so nothing below speaks of a smaller or another drive.
 abbrev pub ShapeKept : Type 0

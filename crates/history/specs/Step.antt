@@ -11,7 +11,6 @@ use Rattle.records.specs.Listing.{Entry}
 use Rattle.drive.specs.declared.Drive.{Drive}
 use Rattle.drive.specs.Drive.{isChanging}
 use Rattle.opening.specs.Mount.{mountAnswer, mountDone}
-use Rattle.nuggets.specs.Nugget.{recordOf}
 use Rattle.reading.specs.Read.{readAnswer}
 use Rattle.reports.specs.Report.{reportAnswer}
 use Rattle.reports.specs.Stored.{storedAnswer}
@@ -20,6 +19,7 @@ use Rattle.changes.specs.Write.{writeAnswer, writes, writeDone, writeVolume, wr
 use Rattle.changes.specs.Rekey.{beginAnswer, beginDone, beginVolume, sweepAnswer, sweepDone, sweepVolume, sweepPads, finishAnswer, finishDone, finishVolume}
 use Rattle.ledger.specs.Totals.{risen}
 use Rattle.history.specs.World.{World, Call, mount, read, write, begin, sweep, finish, report, stored}
+use Rattle.tree.specs.Path.{recordOf}
 
 -- "Mount takes both secrets (the old one unused when steady)": the right one while changing, anything when steady
 abbrev pub oldFor : World → List ℕ → List ℕ

@@ -1,6 +1,5 @@
 -- No second outcome meets the words of a promise, and an image has 16 bytes.
-use mathlib.Core.Path.{_≡_, _∙_}
-use mathlib.Core.List.{_++_}
+use mathlib.Core.Path.{_≡_}
 use lib.ListN.{length, length-append}
 use Rattle.base.specs.Outcome.{Unique}
 use Rattle.base.proofs.OutcomeLaws.{only}

@@ -3,8 +3,7 @@ use mathlib.Core.Path.{_≡_}
 use mathlib.Core.List.{List}
 use Prim.Native.Nat.{ℕ}
 use lib.ListN.{length}
-use Rattle.words.specs.Le.{Bytes}
-use Rattle.words.proofs.LeLaws.{length-le, le-bytes}
+use Rattle.words.proofs.LeLaws.{length-le}
 use Rattle.poly1305.specs.declared.State.{State}
 use Rattle.poly1305.specs.Poly1305.{poly1305}
 use Rattle.poly1305.specs.State.{started, absorbed, finished}
@@ -17,10 +16,6 @@ module _ (key : List ℕ) (k f : ℕ) (stored : List ℕ) where
   pub length-tag : length (tagOf key k f stored) ≡ 16
   unfolding tagOf poly1305
   length-tag = length-le 16 _
-
-  pub tag-bytes : Bytes (tagOf key k f stored)
-  unfolding tagOf poly1305
-  tag-bytes = le-bytes 16 _
 
   -- the tag, step by step
   pub tagged : {t r : List ℕ} {s a : State} → t ≡ tagKey key f k → s ≡ started t → a ≡ absorbed s (covered stored) → r ≡ finished a

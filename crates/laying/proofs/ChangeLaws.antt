@@ -2,7 +2,7 @@
 use mathlib.Core.Path.{_≡_, refl, ap, sym, _∙_}
 use mathlib.Core.Bool.{true, false}
 use mathlib.Core.List.{List}
-use Prim.Native.Nat.{ℕ, _+_, _-_}
+use Prim.Native.Nat.{ℕ, _+_}
 use lib.Seq.{sets}
 use Rattle.base.proofs.PickLaws.{yes, no}
 use Rattle.layout.specs.declared.Shape.{Shape}
@@ -16,8 +16,8 @@ use Rattle.drive.specs.declared.Drive.{Drive}
 use Rattle.drive.specs.Drive.{shapeOf, keptOld}
 use Rattle.drive.specs.Head.{headOf}
 use Rattle.nodes.specs.Nodes.{nodeIn}
-use Rattle.nuggets.specs.Nugget.{recordOf}
 use Rattle.changes.specs.Change.{idles, marked, tended, advanced, settled}
+use Rattle.tree.specs.Path.{recordOf}
 
 -- the record that was read
 pub read-is : (v : List ℕ) (n : ℕ) {at : ℕ} {r : Record} → r ≡ recordIn at v → at ≡ recordAt n → r ≡ recordOf v n

@@ -14,11 +14,9 @@ use Rattle.base.proofs.PickLaws.{told, yes, no}
 use Rattle.base.proofs.PartLaws.{length-part, back}
 use Rattle.base.proofs.TabLaws.{tab-ext, length-tab}
 use Rattle.layout.specs.declared.Shape.{Shape}
-use Rattle.layout.specs.Shape.{inLimits, within}
 use Rattle.layout.specs.Lent.{Lent}
 use Rattle.layout.specs.Parts.{flakeAt, tagAt}
 use Rattle.layout.specs.Spots.{offsetAt, capacity}
-use Rattle.layout.proofs.Limits.{inside}
 use Rattle.layout.proofs.Places.{flake-inside, tag-inside, parts-inside, index-lt}
 use Rattle.records.specs.Journal.{bit}
 use Rattle.records.specs.declared.Record.{Record}
@@ -31,7 +29,7 @@ use Rattle.keys.specs.Tags.{tagOf, tagUnder}
 use Rattle.drive.specs.declared.Drive.{Drive}
 use Rattle.drive.specs.Drive.{shapeOf, zeros}
 use Rattle.nuggets.specs.declared.Nugget.{Nugget}
-use Rattle.nuggets.specs.Nugget.{recordOf, nuggetOf, contentsIn, contentsOf, storedIn}
+use Rattle.nuggets.specs.Nugget.{nuggetOf, contentsIn, contentsOf, storedIn}
 use Rattle.nuggets.proofs.PieceLaws.{length-contents}
 use Rattle.changes.specs.Laid.{over, written, laidFlake, laidEntry, laid}
 use Rattle.changes.specs.Write.{newContents}
@@ -39,6 +37,7 @@ use Rattle.changes.proofs.LaidLaws.{laid-append, length-laid, length-under, Lon
 use Rattle.changes.proofs.PadsLaws.{laid-stored, before-far}
 use Rattle.laying.specs.Flake.{openedFlake, overlaid, anew}
 use Rattle.laying.proofs.OverLaws.{length-overlaid}
+use Rattle.tree.specs.Path.{recordOf}
 
 -- a present flake, and an absent one
 module _ (g : Nugget) (f : ℕ) (l : List ℕ) where
@@ -63,10 +62,6 @@ anew-is g key k f start o bytes l {a} {b} ea eb et ec =
     let e : b ≡ anew g f start o bytes l = eb ∙ ap (λ (x : List ℕ). overlaid start o bytes x) ea in
     let long : length b ≡ length l = rw e (length-overlaid start o bytes (openedFlake g f l) ∙ length-opened g f l) in
     (et ∙ ap (λ (x : List ℕ). tagUnder key k f x) e, ec ∙ rw long (ap (λ (x : List ℕ). under key k f (length l) x) e))
-
--- a number of a shape in limits
-pub placed : (s : Shape) {x y : ℕ} → inLimits s ≡ true → x ≡ within s y → x ≡ y
-placed s lim e = e ∙ inside s lim
 
 -- a flake and its tag lie in the volume, and its offsets below N P F
 module _ (s : Shape) (v : List ℕ) (n f : ℕ) (lent : Lent s v) (a : n < s .n) (b : f < s .p) where

@@ -9,10 +9,10 @@ use Rattle.records.specs.declared.Way.{Way}
 use Rattle.records.specs.Listing.{padsBy}
 use Rattle.drive.specs.declared.Drive.{Drive}
 use Rattle.drive.specs.Drive.{shapeOf}
-use Rattle.nuggets.specs.Nugget.{recordOf}
 use Rattle.changes.specs.Laid.{laid}
 use Rattle.changes.specs.Change.{idles, marked, tended, advanced, settled}
 use Rattle.changes.specs.Write.{newContents}
+use Rattle.tree.specs.Path.{recordOf}
 
 pub lay : (d : Drive) (v : List ℕ) (n : ℕ) (way : Way) (o : ℕ) (bytes : List ℕ)
     → Unique (λ last. last ≡ laid (shapeOf d) (d .salt) (newContents d v o bytes) (padsBy (d .p) way n (recordOf v n) (d .present)) v)

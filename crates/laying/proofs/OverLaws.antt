@@ -3,36 +3,17 @@ use mathlib.Core.Path.{_≡_, refl, ap, sym, _∙_}
 use mathlib.Core.Logic.{_⊎_, ⊎-elim}
 use mathlib.Core.List.{List}
 use Prim.Native.Nat.{ℕ, _+_, _-_, _<_, _≤_, max, min}
-use native.Mathlib.Nat.{le-refl}
 use native.Mathlib.Omega.{arith}
 use lib.Dec.{ltb}
 use lib.ListN.{length, getD}
-use lib.Seq.{sets, length-sets, getD-take, getD-drop, ext-getD}
+use lib.Seq.{sets, length-sets, ext-getD}
 use borrow.Author.Tests.{lt-ltb, le-ltb, le-leb, lt-leb, ltb-true, ltb-false}
 use Rattle.base.specs.Lists.{part}
 use Rattle.base.proofs.PickLaws.{told, yes, no, both-on, both-off}
-use Rattle.base.proofs.PartLaws.{length-part, getD-part, part-sets, take-sets, drop-sets}
+use Rattle.base.proofs.PartLaws.{length-part, getD-part, sets-below, sets-above, sets-inside}
 use Rattle.base.proofs.TabLaws.{length-tab, getD-tab}
 use Rattle.changes.specs.Laid.{over}
 use Rattle.laying.specs.Flake.{overlaid}
-
--- a byte after a run of stores
-sets-below : (l : List ℕ) (at : ℕ) (vs : List ℕ) (i : ℕ) → i < at → getD (sets l at vs) i 0 ≡ getD l i 0
-sets-below l at vs i h =
-    sym (getD-take at (sets l at vs) i 0 h) ∙ ap (λ (x : List ℕ). getD x i 0) (take-sets at l at vs (le-refl at)) ∙ getD-take at l i 0 h
-
-sets-above : (l : List ℕ) (at : ℕ) (vs : List ℕ) (i : ℕ) → at + length vs ≤ i → getD (sets l at vs) i 0 ≡ getD l i 0
-sets-above l at vs i h =
-    let e : i + 0 ≡ i = omega arith in
-    ap (λ (x : ℕ). getD (sets l at vs) x 0) (sym e)
-    ∙ sym (getD-drop i (sets l at vs) 0 0)
-    ∙ ap (λ (x : List ℕ). getD x 0 0) (drop-sets i l at vs h)
-    ∙ getD-drop i l 0 0
-    ∙ ap (λ (x : ℕ). getD l x 0) e
-
-sets-inside : (l : List ℕ) (at n : ℕ) (vs : List ℕ) (i : ℕ) → length vs ≡ n → at + n ≤ length l → i < n → getD (sets l at vs) (at + i) 0 ≡ getD vs i 0
-sets-inside l at n vs i e room h =
-    sym (getD-part at n (sets l at vs) i 0 h) ∙ ap (λ (x : List ℕ). getD x i 0) (part-sets l at n vs e room)
 
 -- the byte at an offset before the written bytes, behind them, and among them
 module _ (o : ℕ) (bytes : List ℕ) (a was : ℕ) where

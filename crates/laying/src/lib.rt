@@ -1,5 +1,5 @@
 // What a change stores, piece by piece: a nugget's flakes and tags, its record, its leaf and path, and the head.
-// It touches `nuggets`, `keys`, `tree`, `records`, `drive`, `layout` and `words`; no flake is copied out of the volume.
+// It touches `nuggets`, `keys`, `tree`, `nodes`, `records`, `drive`, `layout` and `words`; no flake is copied out of the volume.
 mod flake;
 
 use drive::Drive;
@@ -14,12 +14,11 @@ ghost use Rattle.layout.specs.Lent.{Lent};
 ghost use Rattle.layout.specs.Spots.{capacity};
 ghost use Rattle.records.specs.Rule.{atTop};
 ghost use Rattle.records.specs.Listing.{padsBy};
-ghost use Rattle.nodes.specs.Nodes.{nodeIn};
-ghost use Rattle.drive.specs.Drive.{shapeOf, keptOld, counterTop};
-ghost use Rattle.nuggets.specs.Nugget.{recordOf};
+ghost use Rattle.drive.specs.Drive.{shapeOf, counterTop};
 ghost use Rattle.changes.specs.Laid.{laid};
 ghost use Rattle.changes.specs.Change.{idles, marked, tended, advanced, settled};
 ghost use Rattle.changes.specs.Write.{newContents};
+ghost use Rattle.tree.specs.Path.{recordOf};
 
 // The flakes that the way enciphers: new contents under the pad of the keycount after it, and the tags over what is stored.
 pub fn lay(d: Drive, vol: &mut [u8], n: u32, way: Way, o: usize, bytes: &[u8])
@@ -78,37 +77,15 @@ pub fn settle(d: Drive, vol: &mut [u8])
     words::copy(&mut *vol, 0, &made);
 }
 
-// Node 1 of a volume of this shape.
-fn first_node(vol: &[u8], s: Shape) -> [u8; 32]
-    requires { ⌜ Lent s (now vol) ⌝ }
-    ensures { λ r. ⌜ r ≡ nodeIn s (now (vol .entry)) 1 ⌝ }
-{
-    let at = layout::node_at(s, 1);
-    let end = at + 32;
-    let mut out = [0u8; 32];
-    words::copy(&mut out, 0, &vol[at..end]);
-    out
-}
-
-// "an accepted change [..] leaves zeros there"
-fn kept_old(state: State, old: [u8; 32]) -> [u8; 32]
-    ensures { λ r. ⌜ r ≡ keptOld state old ⌝ }
-{
-    match state {
-        State::Steady => [0u8; 32],
-        State::Changing(_) => old,
-    }
-}
-
 // "adds 1 to the counter": the drive over a volume whose tree is renewed.
 fn advanced_drive(d: Drive, vol: &[u8]) -> Drive
     requires { ⌜ Lent (shapeOf d) (now vol) × (d .counter < counterTop) ⌝ }
     ensures { λ r. ⌜ r ≡ advanced d (now (vol .entry)) ⌝ }
 {
-    let node = first_node(vol, drive::shape_of(d));
+    let node = nodes::first(vol, drive::shape_of(d));
     let state = d.state;
     let old = d.old;
-    let kept = kept_old(state, old);
+    let kept = drive::kept_old(state, old);
     let salt = d.salt;
     let present = d.present;
     Drive {

@@ -1,9 +1,9 @@
 -- L is the smallest power of two not below N, and is found by leading zeros.
-use mathlib.Core.Path.{_≡_, refl, sym, _∙_, ap}
-use mathlib.Core.Bool.{Bool, true, false}
+use mathlib.Core.Path.{_≡_}
+use mathlib.Core.Bool.{true, false}
 use mathlib.Core.Logic.{_⊎_, inl, inr}
 use Prim.Native.Nat.{ℕ, zero, suc, _+_, _-_, _*_, _^_, _≤_, _<_}
-use native.Mathlib.Nat.{pow-suc, le-trans, lt-of-not-le, add-suc, suc-add}
+use native.Mathlib.Nat.{pow-suc, lt-of-not-le, add-suc, suc-add}
 use native.Mathlib.Omega.{arith}
 use lib.Pow.{pow-mono, pow-pos}
 use lib.Dec.{leb}

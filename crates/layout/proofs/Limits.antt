@@ -1,5 +1,5 @@
 -- What the limits say, as facts about the numbers.
-use mathlib.Core.Path.{_≡_, refl}
+use mathlib.Core.Path.{_≡_, refl, _∙_}
 use mathlib.Core.Bool.{true, false}
 use Prim.Native.Nat.{ℕ, _*_, _%_, _≤_}
 use native.Mathlib.Nat.{mul-le-mul, le-trans}
@@ -79,3 +79,7 @@ small s l =
 
 pub lent-small : {s : Shape} {v : List ℕ} → Lent s v → Small s
 lent-small {s} l = small s (limits s (l .limited))
+
+-- a number of a shape in limits
+pub placed : (s : Shape) {x y : ℕ} → inLimits s ≡ true → x ≡ within s y → x ≡ y
+placed s lim e = e ∙ inside s lim

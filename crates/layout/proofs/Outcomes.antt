@@ -5,8 +5,8 @@ use Rattle.base.specs.Pick.{pick}
 use Rattle.base.specs.Outcome.{Unique}
 use Rattle.base.proofs.OutcomeLaws.{only}
 use Rattle.layout.specs.Shape.{inLimits, heightOf, leaves, within}
-use Rattle.layout.specs.Parts.{tagsAt, treeAt, flakesAt, lengthOf, recordAt, tagAt, nodeAt, flakeAt}
-use Rattle.layout.specs.Spots.{spotAt, nowhere, offsetAt, capacity}
+use Rattle.layout.specs.Parts.{recordAt}
+use Rattle.layout.specs.Spots.{spotAt, nowhere}
 use Rattle.layout.specs.declared.Shape.{Shape}
 
 pub in-limits : (s : Shape) → Unique (λ r. r ≡ inLimits s)

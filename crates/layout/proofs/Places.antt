@@ -1,14 +1,17 @@
 -- Each record, tag, node and flake lies in its own part, the parts follow each other, and two cells don't overlap.
 use mathlib.Core.Path.{_≡_, refl, ap, sym, _∙_}
-use Prim.Native.Nat.{ℕ, _+_, _-_, _*_, _/_, _%_, _^_, _≤_, _<_}
-use native.Mathlib.Nat.{mul-le-mul-left, mul-le-mul-right, div-lt-iff-lt-mul, div-add-mod', mod-lt, pos-of-ne-zero}
+use Prim.Native.Nat.{ℕ, _+_, _*_, _/_, _%_, _≤_, _<_}
+use native.Mathlib.Nat.{mul-le-mul-right, div-lt-iff-lt-mul, div-add-mod', mod-lt}
 use native.Mathlib.Omega.{arith}
 use lib.Arith.{digits-lt, digits-div, digits-mod}
-use Rattle.layout.specs.Shape.{leaves}
-use Rattle.layout.specs.Parts.{recordsAt, tagsAt, treeAt, flakesAt, lengthOf, recordAt, tagAt, nodeAt, flakeAt}
-use Rattle.layout.specs.Spots.{spotAt, offsetAt, capacity}
+use Rattle.layout.specs.Shape.{leaves, inLimits}
+use Rattle.layout.specs.Parts.{tagsAt, treeAt, flakesAt, lengthOf, recordAt, tagAt, nodeAt, flakeAt}
+use Rattle.layout.specs.Spots.{spotAt, offsetAt, capacity, nowhere}
 use Rattle.layout.specs.declared.Shape.{Shape}
 use Rattle.layout.specs.declared.Spot.{Spot}
+use mathlib.Core.Bool.{true}
+use Rattle.base.specs.Pick.{pick}
+use Rattle.base.proofs.PickLaws.{yes}
 
 -- two cells of width w at different places don't overlap
 pub apart : (w i j : ℕ) → i < j → i * w + w ≤ j * w
@@ -59,3 +62,7 @@ spot-inside s o p f h =
       flake-is = mod-lt (o / s .f) p;
       byte-is = mod-lt o f;
     }
+
+-- the spot of an offset, in a shape within limits
+pub spot-is : (s : Shape) (o : ℕ) {r : Shape} {t : Spot} → t ≡ pick (inLimits r) (spotAt r o) nowhere → r ≡ s → inLimits s ≡ true → t ≡ spotAt s o
+spot-is s o et es h = et ∙ ap (λ (x : Shape). pick (inLimits x) (spotAt x o) nowhere) es ∙ yes _ h refl

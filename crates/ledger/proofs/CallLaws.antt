@@ -6,29 +6,21 @@ use mathlib.Core.Option.{none, some}
 use mathlib.Core.List.{List}
 use Prim.Native.Nat.{ℕ, zero, suc, _+_, _^_, _<_, _≤_}
 use native.Mathlib.Omega.{arith}
-use lib.Dec.{eqb, ltb, leb}
+use lib.Dec.{eqb, ltb}
 use lib.ListN.{length, length-append}
-use borrow.Author.Tests.{eqb-true, eqb-false, lt-ltb, leb-true, leb-false}
+use borrow.Author.Tests.{eqb-true, eqb-false, lt-ltb}
 use Rattle.base.specs.Pick.{both}
-use Rattle.base.proofs.PickLaws.{told, clash}
+use Rattle.base.proofs.PickLaws.{told, both-no}
 use Rattle.records.specs.declared.Record.{Record}
 use Rattle.records.specs.declared.Way.{Way}
 use Rattle.records.specs.Journal.{bit, present}
 use Rattle.records.specs.Rule.{enciphered, keycountAfter}
 use Rattle.records.specs.Listing.{entry, padsOf, padsBy, padsTo}
-use Rattle.records.proofs.BitLaws.{none-above}
+use Rattle.records.proofs.BitLaws.{bit-below}
 use Rattle.records.proofs.ListingLaws.{length-padsBy}
 use Rattle.ledger.specs.Listing.{one, times, orElse, lastOf}
 use Rattle.ledger.specs.Totals.{sum}
-use Rattle.ledger.proofs.ListingLaws.{both-no, orElse-none, times-append, times-in, times-nugget, times-keycount, last-append, last-nugget, last-out, last-in}
-
--- a flake in a set below 2 ^ p is below p
-pub bit-below : (p j f : ℕ) → j < 2 ^ p → bit j f ≡ true → f < p
-bit-below p j f h e = go (told (leb p f))
-  where
-    go : (leb p f ≡ true) ⊎ (leb p f ≡ false) → f < p
-    go (inl d) = absurd (clash e (none-above p j f h (leb-true p f d)))
-    go (inr d) = leb-false p f d
+use Rattle.ledger.proofs.ListingLaws.{orElse-none, times-append, times-in, times-nugget, times-keycount, last-append, last-nugget, last-out, last-in}
 
 module _ (p : ℕ) (way : Way) (n : ℕ) (r : Record) (s : List ℕ) where
   -- a way lists its enciphered flakes once each, at the keycount after it

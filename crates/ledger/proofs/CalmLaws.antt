@@ -4,7 +4,7 @@ use mathlib.Core.Bool.{Bool, true, false}
 use mathlib.Core.Logic.{_⊎_, inl, inr}
 use mathlib.Core.Option.{Option, some}
 use mathlib.Core.List.{List}
-use Prim.Native.Nat.{ℕ, zero, suc, _+_, _<_}
+use Prim.Native.Nat.{ℕ, _+_, _<_}
 use native.Mathlib.Omega.{arith}
 use lib.Dec.{eqb}
 use lib.ListN.{length}
@@ -14,18 +14,18 @@ use Rattle.base.specs.Pick.{pick}
 use Rattle.base.proofs.PickLaws.{clash, both-on}
 use Rattle.words.specs.Xor.{xorl}
 use Rattle.records.specs.declared.Record.{Record}
-use Rattle.records.specs.Journal.{bit, many, present as presentOf}
+use Rattle.records.specs.Journal.{bit, present as presentOf}
 use Rattle.records.specs.Record.{noneFrom, epochFits, wellFormed}
 use Rattle.records.specs.Listing.{Entry}
-use Rattle.records.proofs.BitLaws.{bit-empty}
+use Rattle.records.proofs.BitLaws.{bit-empty, bit-below}
 use Rattle.ledger.specs.Listing.{times, lastOf}
 use Rattle.ledger.specs.Totals.{presentIn}
 use Rattle.ledger.specs.Ledger.{Kit, Ledger, secretAt, entryAt}
 use Rattle.ledger.specs.Invariant.{Inv, Fresh}
 use Rattle.ledger.specs.Step.{Kept, Calm, Begun, Finished}
-use Rattle.ledger.proofs.CallLaws.{bit-below}
 use Rattle.ledger.proofs.TotalLaws.{sum-same, sum-none}
-use Rattle.ledger.proofs.StepLaws.{formed-journal, formed-epoch}
+use Rattle.records.proofs.RuleLaws.{formed-journal, formed-epoch}
+use Rattle.records.proofs.CountLaws.{present-none}
 
 module _ (κ : Kit) (l m : Ledger) (inv : Inv κ l) (calm : Calm κ l m) where
   abbrev same : (n : ℕ) → n < κ .n → m .records n ≡ l .records n
@@ -105,18 +105,6 @@ module _ (κ : Kit) (l m : Ledger) (inv : Inv κ l) (kept : Kept κ l m) where
 
       secrets : (n : ℕ) → n < κ .n → pick (eqb (l .records n .epoch) (m .epoch)) (m .present) (m .old) ≡ pick (eqb (l .records n .epoch) (l .epoch)) (l .present) (l .old)
       secrets n h = rw (b .epochKept, b .noneLeft n h, eq-eqb (l .epoch) (l .epoch) refl) (b .presentKept)
-
-pub begins : (κ : Kit) (l m : Ledger) → Inv κ l → Kept κ l m → Begun l m → Inv κ m
-begins κ l m inv kept b = calms κ l m inv (begin-calm κ l m inv kept b)
-
-pub finishes : (κ : Kit) (l m : Ledger) → Inv κ l → Kept κ l m → Finished κ l m → Inv κ m
-finishes κ l m inv kept b = calms κ l m inv (finish-calm κ l m inv kept b)
-
--- an empty journal has no flake
-present-none : (p : ℕ) → presentOf p 0 ≡ 0
-unfolding many
-present-none zero = refl
-present-none (suc p) = rw (bit-empty p, present-none p)
 
 module _ (κ : Kit) (l : Ledger) (new : Fresh κ l) where
   unlisted : (n k f : ℕ) → times n k f (l .listing) ≡ 0

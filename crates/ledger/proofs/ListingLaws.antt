@@ -9,7 +9,7 @@ use native.Mathlib.Omega.{arith}
 use lib.Dec.{eqb, ltb}
 use borrow.Author.Tests.{eqb-true, eqb-false, eq-eqb, ne-eqb, ltb-true, ltb-false, lt-ltb, le-ltb}
 use Rattle.base.specs.Pick.{pick, both}
-use Rattle.base.proofs.PickLaws.{told, clash}
+use Rattle.base.proofs.PickLaws.{told, clash, both-no}
 use Rattle.records.specs.Listing.{Entry, entry, padsOf}
 use Rattle.ledger.specs.Listing.{isFor, says, one, times, orElse, lastOf}
 
@@ -33,10 +33,6 @@ last-append n f [] b = sym (orElse-none (lastOf n f b))
 last-append n f (e ∷ a) b =
     ap (λ (o : Option Entry). orElse o (pick (isFor n f e) (some e) none)) (last-append n f a b)
     ∙ orElse-assoc (lastOf n f b) (lastOf n f a) (pick (isFor n f e) (some e) none)
-
-pub both-no : (a : Bool) → both a false ≡ false
-both-no true = refl
-both-no false = refl
 
 -- what one nugget lists at one keycount: each flake below p in the set, once
 pub times-in : (n k f : ℕ) (s : List ℕ) (g : ℕ → Bool) (p : ℕ) → times n k f (padsOf n k s g p) ≡ one (both (ltb f p) (g f))

@@ -8,43 +8,27 @@ use Prim.Native.Nat.{ℕ, _+_, _^_, _<_, _≤_}
 use native.Mathlib.Omega.{arith}
 use lib.Dec.{eqb, leb}
 use lib.ListN.{length, length-append}
-use borrow.Author.Tests.{eqb-true, eq-eqb, ne-eqb, ltb-true, leb-true, leb-false}
+use borrow.Author.Tests.{eq-eqb, ne-eqb, leb-true, leb-false}
 use Rattle.base.specs.Pick.{pick, both, either}
-use Rattle.base.proofs.PickLaws.{told, clash, both-left, both-right, either-told}
+use Rattle.base.proofs.PickLaws.{told, clash, both-no}
 use Rattle.words.specs.Xor.{xorl}
 use Rattle.records.specs.declared.Record.{Record}
 use Rattle.records.specs.declared.Way.{Way}
 use Rattle.records.specs.Journal.{bit, present as presentOf}
-use Rattle.records.specs.Record.{noneFrom, epochFits, wellFormed}
+use Rattle.records.specs.Record.{wellFormed}
 use Rattle.records.specs.Rule.{enciphered, keycountAfter, journalAfter, epochAfter, turned}
 use Rattle.records.specs.Listing.{Entry, entry, padsBy, padsTo}
-use Rattle.records.proofs.BitLaws.{none-above}
-use Rattle.records.proofs.RuleLaws.{keycount-rises, well-formed-after}
+use Rattle.records.proofs.BitLaws.{none-above, bit-below}
+use Rattle.records.proofs.RuleLaws.{keycount-rises, well-formed-after, formed-journal, formed-epoch}
 use Rattle.ledger.specs.Listing.{one, times, orElse, lastOf}
 use Rattle.ledger.specs.Totals.{sum, presentIn, retiredOf, risen}
 use Rattle.ledger.specs.Ledger.{Kit, Ledger, secretAt, entryAt, blankFlake}
 use Rattle.ledger.specs.Invariant.{Inv}
 use Rattle.ledger.specs.Step.{Step}
-use Rattle.ledger.proofs.ListingLaws.{both-no, times-append, last-append}
-use Rattle.ledger.proofs.CallLaws.{bit-below, times-by, last-by, last-by-none, times-past, times-call, last-call, length-call}
+use Rattle.ledger.proofs.ListingLaws.{times-append, last-append}
+use Rattle.ledger.proofs.CallLaws.{times-by, last-by, last-by-none, times-past, times-call, last-call, length-call}
 use Rattle.ledger.proofs.TotalLaws.{sum-same, sum-pairs}
 use Rattle.ledger.proofs.TurnLaws.{Adds, Rekeyed, turn-told, touched-lt, enciphered-lt, untouched-by, absent-after, keycount-step, one-once, one-now, one-tally}
-
--- what the two tests of a well-formed record say
-pub formed-journal : (p head : ℕ) (changing : Bool) (r : Record) → wellFormed p head changing r ≡ true → r .journal < 2 ^ p
-unfolding wellFormed
-formed-journal p head changing r e = ltb-true (r .journal) (2 ^ p) (both-left (noneFrom p (r .journal)) (epochFits head changing (r .epoch)) e)
-
-pub formed-epoch : (p head : ℕ) (changing : Bool) (r : Record) → wellFormed p head changing r ≡ true
-    → (r .epoch ≡ head) ⊎ ((changing ≡ true) × (r .epoch + 1 ≡ head))
-unfolding wellFormed
-formed-epoch p head changing r e =
-    go (either-told (eqb (r .epoch) head) (both changing (eqb (r .epoch + 1) head)) (both-right (noneFrom p (r .journal)) (epochFits head changing (r .epoch)) e))
-  where
-    go : (eqb (r .epoch) head ≡ true) ⊎ (both changing (eqb (r .epoch + 1) head) ≡ true) → (r .epoch ≡ head) ⊎ ((changing ≡ true) × (r .epoch + 1 ≡ head))
-    go (inl d) = inl (eqb-true (r .epoch) head d)
-    go (inr d) =
-        inr (both-left changing (eqb (r .epoch + 1) head) d, eqb-true (r .epoch + 1) head (both-right changing (eqb (r .epoch + 1) head) d))
 
 module _ (κ : Kit) (way : ℕ → Way) (l m : Ledger) (inv : Inv κ l) (step : Step κ way l m) where
   abbrev before : ℕ → Record

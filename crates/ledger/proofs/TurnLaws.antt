@@ -10,7 +10,7 @@ use lib.Pow.{pow-pos}
 use lib.Dec.{eqb}
 use borrow.Author.Tests.{eqb-true, eq-eqb, lt-ltb, le-ltb}
 use Rattle.base.specs.Pick.{pick, both, either}
-use Rattle.base.proofs.PickLaws.{told, clash, either-off}
+use Rattle.base.proofs.PickLaws.{told, clash, either-off, both-no}
 use Rattle.records.specs.declared.Record.{Record}
 use Rattle.records.specs.declared.Way.{Way}
 use Rattle.records.specs.declared.Way.the-variants.{Idle, Add, Rekey}
@@ -21,7 +21,6 @@ use Rattle.records.proofs.CountLaws.{many-either}
 use Rattle.ledger.specs.Listing.{one}
 use Rattle.ledger.specs.Totals.{retiredOf}
 use Rattle.ledger.specs.Step.{Fits}
-use Rattle.ledger.proofs.ListingLaws.{both-no}
 
 -- a sweep's ways fit: the swept nugget's, and those of the nuggets left alone
 pub sweep-fits : (p head : ℕ) (r : Record) (swept : Bool) → Fits p head r (pick swept sweepWay Idle)

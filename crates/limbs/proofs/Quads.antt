@@ -1,35 +1,16 @@
 -- A number of four 32-bit words: from bytes, to limbs, and back to bytes.
 use mathlib.Core.Path.{_≡_, refl, ap, sym, _∙_}
 use mathlib.Core.List.{List, _++_}
-use Prim.Native.Nat.{ℕ, zero, suc, _+_, _*_, _/_, _%_, _^_, _<_, _≤_}
-use native.Mathlib.Nat.{pow-suc, suc-add, zero-add, add-assoc, add-comm}
+use Prim.Native.Nat.{ℕ, _+_, _*_, _/_, _%_, _^_, _<_, _≤_}
+use native.Mathlib.Nat.{add-assoc, add-comm}
 use native.Mathlib.Omega.{arith}
-use lib.ListN.{length, getD, replicate}
+use lib.ListN.{length, replicate}
 use lib.Bits.{bitOr, or-shifted-r}
 use lib.Seq.{sets}
 use Rattle.base.specs.Lists.{part}
 use Rattle.words.specs.Le.{num, le}
-use Rattle.words.proofs.LeLaws.{num-part, num-split}
+use Rattle.words.proofs.LeLaws.{num-split, le-join}
 use Rattle.limbs.specs.Limbs.{at, quad, p}
-
--- the four bytes of a word
-pub four-num : (l : List ℕ) (k : ℕ) → k + 4 ≤ length l
-    → getD l k 0 + 256 * (getD l (k + 1) 0 + 256 * (getD l (k + 2) 0 + 256 * getD l (k + 3) 0)) ≡ num (part k 4 l)
-unfolding num
-four-num l k h =
-    let e1 : k + 1 ≡ suc k = omega arith in
-    let e2 : k + 2 ≡ suc (suc k) = omega arith in
-    let e3 : k + 3 ≡ suc (suc (suc k)) = omega arith in
-    rw (
-      e1,
-      e2,
-      e3,
-      num-part 3 l k (omega arith),
-      num-part 2 l (suc k) (omega arith),
-      num-part 1 l (suc (suc k)) (omega arith),
-      num-part 0 l (suc (suc (suc k))) (omega arith),
-    )
-    (omega arith)
 
 -- the four words of 16 bytes
 pub quad-num : (l : List ℕ) (from : ℕ) → from + 16 ≤ length l
@@ -84,19 +65,6 @@ unpacked a b c d e =
     above a b c y =
         let e2 : b / 2 ^ 6 + c % 2 ^ 12 * 2 ^ 20 + 2 ^ 32 * (c / 2 ^ 12 + 2 ^ 14 * y) ≡ b / 2 ^ 6 + 2 ^ 20 * (c + 2 ^ 26 * y) = omega arith in
         rw e2 (omega arith)
-
--- the lowest bytes of a number, then the others
-pub le-join : (k n a y : ℕ) → a < 256 ^ k → le (k + n) (a + 256 ^ k * y) ≡ le k a ++ le n y
-unfolding le
-le-join zero n a y h = let z : a + 1 * y ≡ y = omega arith in rw (zero-add n, z)
-le-join (suc k) n a y h =
-    let q : a < 256 ^ k * 256 = rw (pow-suc 256 k) at h in
-    let low : (a + 256 ^ k * 256 * y) % 256 ≡ a % 256 = omega (arith, again (256 ^ k) y) in
-    let high : (a + 256 ^ k * 256 * y) / 256 ≡ a / 256 + 256 ^ k * y = omega (arith, again (256 ^ k) y) in
-    rw (suc-add k n, pow-suc 256 k, low, high, le-join k n (a / 256) y (omega arith))
-  where
-    again : (x y : ℕ) → x * 256 * y ≡ 256 * (x * y)
-    again x y = omega arith
 
 le-none : (d k : ℕ) → le 4 d ++ le 0 k ≡ le 4 d
 unfolding le

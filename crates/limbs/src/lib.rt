@@ -182,29 +182,15 @@ fn add(a: Limbs, b: Limbs) -> Limbs
     }
 }
 
-fn four(a: u8, b: u8, c: u8, d: u8) -> u32
-    ensures { λ r. ⌜ r ≡ a + 256 * (b + 256 * (c + 256 * d)) ⌝ }
-{
-    (a as u32) + 256 * (b as u32) + 65536 * (c as u32) + 16777216 * (d as u32)
-}
-
-// As words::load32, but in one sum, which is compiled to one load.
-fn word(m: &[u8], at: usize) -> u32
-    requires { ⌜ at + 4 ≤ length (now m) ⌝ }
-    ensures { λ r. ⌜ r ≡ num (part at 4 (now (m .entry))) ⌝ }
-{
-    four(m[at], m[at + 1], m[at + 2], m[at + 3])
-}
-
 // One turn with the 16 bytes at `at` and `one` at bit 128.
 fn turn_at(h: Limbs, r: Limbs, v: Limbs, m: &[u8], at: usize, one: u32) -> Limbs
     requires { ⌜ Below (2 ^ 26 + 2 ^ 20) h × Below (2 ^ 26) r × Fives r v × (at + 16 ≤ length (now m)) × (one ≤ 1) ⌝ }
     ensures { λ x. ⌜ Stands ((value h + (num (part at 16 (now (m .entry))) + 2 ^ 104 * (one * 2 ^ 24))) * value r) x ⌝ }
 {
-    let a = word(m, at);
-    let b = word(m, at + 4);
-    let c = word(m, at + 8);
-    let d = word(m, at + 12);
+    let a = words::load32(m, at);
+    let b = words::load32(m, at + 4);
+    let c = words::load32(m, at + 8);
+    let d = words::load32(m, at + 12);
     let n = join(a, b, c, d, one);
     mul(add(h, n), r, v)
 }

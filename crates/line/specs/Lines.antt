@@ -5,7 +5,6 @@ use lib.ListN.{length}
 use lib.Seq.{sets}
 use mathlib.Core.List.{List, [], _∷_, _++_}
 use Rattle.answers.specs.declared.Answer.{Answer}
-use Rattle.answers.specs.declared.Answer.the-variants as A
 use Rattle.answers.specs.declared.Carried.{Carried}
 use Rattle.answers.specs.declared.Carried.the-variants as K
 use Rattle.answers.specs.declared.Class.{Class}

@@ -9,7 +9,6 @@ ghost use mathlib.Core.List.{_++_};
 ghost use Prim.Native.Nat.{_+_, _≤_};
 ghost use lib.ListN.{length};
 ghost use lib.Seq.{sets};
-ghost use Rattle.answers.specs.Numbers.{numberOf};
 ghost use Rattle.line.specs.Decimal.{digits, widthIn, decimal, longDecimal};
 ghost use Rattle.line.specs.Lines.{Put, shareText, reportLine, classText, placeText, carriedText, refusalLine};
 

@@ -6,7 +6,6 @@ use mathlib.Core.List.{List}
 use Prim.Native.Nat.{ℕ, _+_, _-_, _*_, _<_, _≤_}
 use native.Mathlib.Omega.{arith}
 use lib.Dec.{ltb}
-use lib.ListN.{length}
 use lib.Seq.{length-sets}
 use borrow.Author.Tests.{ltb-true, ltb-false}
 use Rattle.base.specs.Lists.{part}
@@ -40,10 +39,6 @@ outside-alike {s} {v} {w} n o h =
     }
 
 module _ (s : Shape) (i : ℕ) (v : List ℕ) where
-  pub length-store : length (storeNode s i v) ≡ length v
-  unfolding storeNode
-  length-store = length-sets v (nodeAt s i) (madeOf s v i)
-
   pub store-outside : 1 ≤ i → i < 2 * leaves (s .n) → Outside s v (storeNode s i v)
   unfolding storeNode
   store-outside a b =

@@ -77,3 +77,11 @@ pub fn store(vol: &mut [u8], s: Shape, i: u32)
     let at = layout::node_at(s, i);
     words::copy(&mut *vol, at, &m);
 }
+
+// Node 1.
+pub fn first(vol: &[u8], s: Shape) -> [u8; 32]
+    requires { ⌜ Lent s (now vol) ⌝ }
+    ensures { λ r. ⌜ r ≡ nodeIn s (now (vol .entry)) 1 ⌝ }
+{
+    words::thirty_two(vol, layout::node_at(s, 1))
+}

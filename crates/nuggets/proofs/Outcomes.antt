@@ -12,7 +12,7 @@ use Rattle.keys.specs.Pads.{padOf}
 use Rattle.drive.specs.declared.Drive.{Drive}
 use Rattle.nuggets.specs.declared.Nugget.{Nugget}
 use Rattle.nuggets.specs.Nugget.{secretFor, nuggetOf, contentsIn}
-use Rattle.nuggets.specs.Tests.{flakesIn, nuggetRead}
+use Rattle.nuggets.specs.Tests.{flakesIn, pathFor, nuggetRead}
 use Rattle.nuggets.specs.Touched.{touchedOf, fitsIn}
 
 pub secret-for : (d : Drive) (epoch : ℕ) → Unique (λ r. r ≡ secretFor d epoch)
@@ -23,6 +23,9 @@ nugget-of d v n = only (nuggetOf d v n)
 
 pub flakes : (s : Shape) (v : List ℕ) (g : Nugget) (mask : ℕ) → Unique (λ r. r ≡ flakesIn s v g mask)
 flakes s v g mask = only (flakesIn s v g mask)
+
+pub test-path : (d : Drive) (v : List ℕ) (n : ℕ) → Unique (λ r. r ≡ pathFor d v n)
+test-path d v n = only (pathFor d v n)
 
 pub test-read : (d : Drive) (v : List ℕ) (n touched : ℕ) → Unique (λ r. r ≡ nuggetRead d v n touched)
 test-read d v n touched = only (nuggetRead d v n touched)

@@ -10,10 +10,10 @@ use borrow.Author.Tests.{leb-true, leb-false}
 use lib.Dec.{leb}
 use lib.ListN.{length, getD, take, drop, length-append, length-drop, length-replicate, take-append-drop, drop-of-length-le, getD-replicate}
 use borrow.Rule.Slice.PartMut.{midOf, postOf, putMid}
-use lib.Seq.{sets, take-at, drop-at, take-length, drop-length, getD-take, getD-drop, getD-append-add, drop-append-le, length-take-le, take-all, ext-getD}
+use lib.Seq.{take-at, drop-at, take-length, drop-length, getD-take, getD-drop, getD-append-add, drop-append-le, length-take-le, take-all, ext-getD}
 use Rattle.base.specs.Lists.{part}
 use Rattle.base.proofs.PickLaws.{told}
-use Rattle.base.proofs.PartLaws.{sets-full, length-part, part-part, getD-part}
+use Rattle.base.proofs.PartLaws.{length-part, part-part, getD-part}
 use Rattle.words.specs.Word.{add32}
 use Rattle.words.specs.Xor.{xorl}
 use Rattle.words.proofs.XorLaws.{xorl-append, xorl-front, length-xorl, xorl-ext, xorl-part}
@@ -124,12 +124,6 @@ pad-from key k f size b d h l =
     ∙ ap (λ (x : ℕ). getD (keystream key (nonceOf k) first (b / 64 + m)) x 0) place
     ∙ stream-at key (nonceOf k) first (b / 64 + m) (blocks size) (b + i) (omega (arith, q)) (omega (arith, q, h))
     ∙ sym (getD-drop b _ i 0 ∙ getD-take size _ (b + i) 0 (omega (arith, q, h))))
-
--- what a copy over a whole buffer leaves
-pub copied : (v buf : List ℕ) (at : ℕ) {w : List ℕ} → w ≡ sets buf 0 (part at (at + length buf - at) v) → at + length buf ≤ length v → w ≡ part at (length buf) v
-copied v buf at e h =
-    let k : at + length buf - at ≡ length buf = omega arith in
-    e ∙ rw k (sets-full buf (part at (length buf) v) (length-part at (length buf) v h))
 
 pub length-contents : (s : Shape) (v : List ℕ) (g : Nugget) (f : ℕ) → Lent s v → g .number < s .n → f < s .p → length (contentsIn s v g f) ≡ s .f
 unfolding contentsIn

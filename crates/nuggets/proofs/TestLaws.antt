@@ -21,8 +21,9 @@ use Rattle.keys.specs.Keys.{nuggetKey}
 use Rattle.drive.specs.declared.Drive.{Drive}
 use Rattle.drive.specs.Drive.{shapeOf}
 use Rattle.nuggets.specs.declared.Nugget.{Nugget}
-use Rattle.nuggets.specs.Nugget.{secretFor, recordOf, keyFor, nuggetOf}
+use Rattle.nuggets.specs.Nugget.{secretFor, keyFor, nuggetOf}
 use Rattle.nuggets.specs.Tests.{goodFlake, passes, flakesUp, flakesIn, pathFor, nuggetRead}
+use Rattle.tree.specs.Path.{recordOf}
 
 module _ (s : Shape) (v : List ℕ) (g : Nugget) where
   -- the tag compared with the one that the bytes at these places give

@@ -6,24 +6,19 @@ use lib.ListN.{getD}
 use Rattle.base.specs.Pick.{pick}
 use Rattle.base.specs.Lists.{part}
 use Rattle.layout.specs.declared.Shape.{Shape}
-use Rattle.layout.specs.Parts.{recordAt, flakeAt}
+use Rattle.layout.specs.Parts.{flakeAt}
 use Rattle.layout.specs.Spots.{spotAt}
-use Rattle.records.specs.declared.Record.{Record}
-use Rattle.records.specs.Record.{recordIn}
 use Rattle.records.specs.Journal.{bit}
 use Rattle.keys.specs.Keys.{nuggetKey}
 use Rattle.keys.specs.Pads.{under}
 use Rattle.drive.specs.declared.Drive.{Drive}
 use Rattle.drive.specs.Drive.{shapeOf, zeros}
 use Rattle.nuggets.specs.declared.Nugget.{Nugget}
+use Rattle.tree.specs.Path.{recordOf}
 
 -- "its epoch is the head's, or, while changing, the head's or one less. [..] One less means: under the old secret."
 unfoldable pub secretFor : Drive → ℕ → List ℕ
 secretFor d e = pick (eqb e (d .epoch)) (d .present) (d .old)
-
--- record n
-abbrev pub recordOf : List ℕ → ℕ → Record
-recordOf v n = recordIn (recordAt n) v
 
 -- "Nugget key: keyed with the nugget's secret, `N`, salt, nugget (4 bytes)."
 unfoldable pub keyFor : Drive → List ℕ → ℕ → List ℕ

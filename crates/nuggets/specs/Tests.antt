@@ -13,11 +13,11 @@ use Rattle.answers.specs.declared.Place.the-variants as P
 use Rattle.answers.specs.Numbers.{accepts}
 use Rattle.records.specs.Journal.{bit}
 use Rattle.keys.specs.Tags.{tagOf}
-use Rattle.tree.specs.Path.{pathOf}
+use Rattle.tree.specs.Path.{pathOf, recordOf}
 use Rattle.drive.specs.declared.Drive.{Drive}
 use Rattle.drive.specs.Drive.{shapeOf, isChanging}
 use Rattle.nuggets.specs.declared.Nugget.{Nugget}
-use Rattle.nuggets.specs.Nugget.{recordOf, nuggetOf, storedIn}
+use Rattle.nuggets.specs.Nugget.{nuggetOf, storedIn}
 
 -- "Tag = Poly1305 under the tag key over the stored flake."
 unfoldable pub goodFlake : Shape → List ℕ → Nugget → ℕ → Bool

@@ -16,7 +16,7 @@ ghost use Rattle.layout.specs.Spots.{capacity};
 ghost use Rattle.keys.specs.Pads.{firstBlock, padOf, Size};
 ghost use Rattle.drive.specs.Drive.{shapeOf};
 ghost use Rattle.nuggets.specs.Nugget.{secretFor, nuggetOf, contentsIn};
-ghost use Rattle.nuggets.specs.Tests.{goodFlake, passes, flakesIn, nuggetRead};
+ghost use Rattle.nuggets.specs.Tests.{goodFlake, passes, flakesIn, pathFor, nuggetRead};
 ghost use Rattle.nuggets.specs.Touched.{touchedOf, fitsIn};
 ghost use Rattle.layout.specs.Lent.{Lent};
 
@@ -101,17 +101,30 @@ pub fn flakes(vol: &[u8], s: Shape, g: Nugget, mask: u64) -> Answer
     Answer::Accepted
 }
 
+// The path of nugget n, under the drive's epoch and state.
+pub fn test_path(d: Drive, vol: &[u8], n: u32) -> Answer
+    requires { ⌜ Lent (shapeOf d) (now vol) × (n < d .n) ⌝ }
+    ensures { λ r. ⌜ r ≡ pathFor d (now (vol .entry)) n ⌝ }
+{
+    let state = d.state;
+    tree::path(
+        vol,
+        drive::shape_of(d),
+        d.epoch,
+        drive::is_changing(state),
+        n,
+    )
+}
+
 // A read's tests of nugget n: "path"; then "touched present flakes".
 pub fn test_read(d: Drive, vol: &[u8], n: u32, touched: u64) -> Answer
     requires { ⌜ Lent (shapeOf d) (now vol) × (n < d .n) ⌝ }
     ensures { λ r. ⌜ r ≡ nuggetRead d (now (vol .entry)) n touched ⌝ }
 {
-    let s = drive::shape_of(d);
-    let state = d.state;
-    let a = tree::path(vol, s, d.epoch, drive::is_changing(state), n);
+    let a = test_path(d, vol, n);
     if answers::accepted(a) {
         let g = nugget_of(d, vol, n);
-        return flakes(vol, s, g, g.journal & touched);
+        return flakes(vol, drive::shape_of(d), g, g.journal & touched);
     }
     a
 }

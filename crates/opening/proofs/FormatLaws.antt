@@ -15,7 +15,6 @@ use Rattle.answers.specs.Numbers.{accepts}
 use Rattle.layout.specs.declared.Shape.{Shape}
 use Rattle.layout.specs.Shape.{inLimits}
 use Rattle.layout.specs.Parts.{lengthOf, recordAt}
-use Rattle.layout.proofs.Places.{record-inside, parts-inside}
 use Rattle.records.specs.Record.{recordBytes}
 use Rattle.tree.proofs.BuildLaws.{built-outside}
 use Rattle.drive.specs.declared.Drive.{Drive}
@@ -23,7 +22,7 @@ use Rattle.drive.specs.declared.Done.{Done}
 use Rattle.drive.specs.Drive.{zeros, blankDrive, counterTop}
 use Rattle.drive.specs.Head.{headOf}
 use Rattle.opening.specs.Format.{formatAnswer, freshRecord, freshFrom, bare, planted, freshDrive, freshVolume, formatDone, formatVolume}
-use Rattle.answers.proofs.StageLaws.{passed, missed}
+use Rattle.answers.proofs.StageLaws.{passed, spared}
 use Rattle.layout.specs.Lent.{Lent}
 
 -- the loop that lays the records: its start, its turn and its end
@@ -42,17 +41,13 @@ pub fresh-end : (v : List ℕ) (n count : ℕ) → count ≤ n → freshFrom (co
 unfolding freshFrom
 fresh-end v n count h = let e : count - n ≡ 0 = omega arith in rw e
 
--- a record lies inside the volume
-pub record-fits : {s : Shape} {v : List ℕ} (n : ℕ) → Lent s v → n < s .n → recordAt n + 18 ≤ length v
-record-fits {s} {v} n l h = omega (arith, l .size, record-inside s n h, parts-inside s)
-
 -- what the tests of an accepted format tell
 pub format-lent : (s : Shape) (outside : ℕ) (v : List ℕ) → accepts (formatAnswer s outside v) ≡ true → Lent s v × (outside ≡ counterTop → ⊥)
 unfolding formatAnswer
 format-lent s outside v e =
     let first = passed (inLimits s) (pick (eqb (length v) (lengthOf s)) (pick (eqb outside counterTop) A.CounterTop A.Accepted) A.Length) A.Limits refl e in
     let second = passed (eqb (length v) (lengthOf s)) (pick (eqb outside counterTop) A.CounterTop A.Accepted) A.Length refl (first .1) in
-    let third : eqb outside counterTop ≡ false = missed (eqb outside counterTop) A.CounterTop A.Accepted refl (second .1) in
+    let third : eqb outside counterTop ≡ false = spared (eqb outside counterTop) A.CounterTop A.Accepted refl (second .1) .0 in
     (record { limited = first .0; size = eqb-true (length v) (lengthOf s) (second .0) }, eqb-false outside counterTop third)
 
 -- both halves of the promise, from the answer

@@ -1,4 +1,3 @@
-pub mod Laws
 pub mod FormatLaws
 pub mod MountLaws
 pub mod Refusals

@@ -15,14 +15,14 @@ use Rattle.base.proofs.PartLaws.{part-front}
 use Rattle.base.proofs.FoldLaws.{same-true, same-refl}
 use Rattle.words.specs.Le.{num, le}
 use Rattle.words.proofs.LeLaws.{num-le, length-le}
-use Rattle.blake2s.proofs.FaceLaws.{length-hash}
 use Rattle.answers.specs.declared.Answer.the-variants as A
 use Rattle.layout.specs.declared.Shape.{Shape}
 use Rattle.layout.specs.Shape.{inLimits}
 use Rattle.layout.specs.Parts.{lengthOf, nodeAt}
-use Rattle.layout.proofs.Limits.{Limits, limits}
+use Rattle.layout.proofs.Limits.{limits}
 use Rattle.layout.proofs.Places.{parts-inside}
-use Rattle.keys.specs.Keys.{checkOf, sealOf}
+use Rattle.keys.specs.Keys.{sealOf}
+use Rattle.keys.proofs.KeyLaws.{length-check as length-of-check, length-seal}
 use Rattle.drive.specs.declared.Drive.{Drive}
 use Rattle.drive.specs.declared.State.{State}
 use Rattle.drive.specs.declared.State.the-variants.{Steady, Changing}
@@ -31,7 +31,7 @@ use Rattle.drive.specs.Head.{mark, version, stateByte, numbersOf, checkFor, che
 use Rattle.drive.specs.Opening.{epochFits, inForm, headStands, openingOf}
 use Rattle.opening.specs.Mount.{shapeIn, stateByteIn, stateIn, epochIn, marked, headFits, lengthFits, sealed, checked, wholeIn, openedDrive, mountAnswer, mountDone}
 use Rattle.opening.proofs.MountLaws.{mount-on}
-use Rattle.answers.proofs.StageLaws.{granted}
+use Rattle.drive.proofs.OpeningLaws.{Opened, opening-told}
 
 -- lengths of the head's pieces
 pub length-numbers : (n p f state epoch : ℕ) → length (numbersOf n p f state epoch) ≡ 16
@@ -39,13 +39,8 @@ unfolding numbersOf
 length-numbers n p f state epoch = simp (length-append, length-le)
 
 length-check : (s : State) (old salt : List ℕ) (epoch : ℕ) → length (checkFor s old salt epoch) ≡ 32
-unfolding checkOf
 length-check Steady old salt epoch = length-replicate {A = ℕ} 32 0
-length-check (Changing left) old salt epoch = length-hash old _
-
-length-seal : (secret front node : List ℕ) → length (sealOf secret front node) ≡ 32
-unfolding sealOf
-length-seal secret front node = length-hash secret _
+length-check (Changing left) old salt epoch = length-of-check old salt epoch
 
 pub length-front : (d : Drive) → length (d .salt) ≡ 16 → length (frontIn d) ≡ 72
 unfolding frontIn
@@ -140,18 +135,8 @@ pub record Handed (d : Drive) (old : List ℕ) : Type 0 where
   pub kept : keptOld (d .state) old ≡ d .old
 
 module _ (d : Drive) (w old : List ℕ) (x : Handed d old) (opens : openingOf d w ≡ A.Accepted) where
-  record Passed : Type 0 where
-    form : inForm d ≡ true
-    long : length w ≡ lengthOf (shapeOf d)
-    stands : headStands d w ≡ true
-
-  tests : Passed
-  unfolding openingOf
-  tests =
-      let t₁ = granted (inForm d) _ A.Limits refl opens in
-      let t₂ = granted (eqb (length w) (lengthOf (shapeOf d))) _ A.Length refl (t₁ .1) in
-      let t₃ = granted (headStands d w) _ (A.Altered _) refl (t₂ .1) in
-      record { form = t₁ .0; long = eqb-true (length w) (lengthOf (shapeOf d)) (t₂ .0); stands = t₃ .0 }
+  tests : Opened d w
+  tests = opening-told d w opens
 
   in-limits : inLimits (shapeOf d) ≡ true
   unfolding inForm

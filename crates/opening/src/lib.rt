@@ -11,37 +11,12 @@ use records::Record;
 ghost use mathlib.Core.Path.{_≡_};
 ghost use Prim.Native.Nat.{_+_, _<_, _≤_};
 ghost use lib.ListN.{length};
-ghost use Rattle.base.specs.Lists.{part};
 ghost use Rattle.layout.specs.Shape.{shape};
-ghost use Rattle.nodes.specs.Nodes.{nodeIn};
-ghost use Rattle.drive.specs.Drive.{shapeOf, counterTop, keptOld};
+ghost use Rattle.drive.specs.Drive.{shapeOf, counterTop};
 ghost use Rattle.opening.specs.Format.{formatAnswer, bare, planted, freshDrive, formatDone, formatVolume};
 ghost use Rattle.opening.specs.Mount.{sealed, checked, shapeIn, openedDrive, mountDone};
 ghost use Rattle.opening.specs.Stages.{keysOf, restOf};
 ghost use Rattle.layout.specs.Lent.{Lent};
-
-// The 16 bytes at `at`.
-fn sixteen(vol: &[u8], at: usize) -> [u8; 16]
-    requires { ⌜ at + 16 ≤ length (now vol) ⌝ }
-    ensures { λ r. ⌜ r ≡ part at 16 (now (vol .entry)) ⌝ }
-{
-    let mut out = [0u8; 16];
-    let end = at + 16;
-    words::copy(&mut out, 0, &vol[at..end]);
-    out
-}
-
-// Node 1 of a volume of this shape.
-fn first_node(vol: &[u8], s: Shape) -> [u8; 32]
-    requires { ⌜ Lent s (now vol) ⌝ }
-    ensures { λ r. ⌜ r ≡ nodeIn s (now (vol .entry)) 1 ⌝ }
-{
-    let at = layout::node_at(s, 1);
-    let end = at + 32;
-    let mut out = [0u8; 32];
-    words::copy(&mut out, 0, &vol[at..end]);
-    out
-}
 
 // "Format: 1, 2, 13."
 fn format_tests(vol: &[u8], s: Shape, outside: u64) -> Answer
@@ -83,7 +58,7 @@ fn fresh_drive(vol: &[u8], s: Shape, salt: [u8; 16], secret: [u8; 32], outside: 
     requires { ⌜ Lent s (now vol) × (now vol ≡ planted s) × (outside < counterTop) ⌝ }
     ensures { λ r. ⌜ r ≡ freshDrive s salt secret outside ⌝ }
 {
-    let node = first_node(vol, s);
+    let node = nodes::first(vol, s);
     Drive {
         n: s.n,
         p: s.p,
@@ -129,26 +104,16 @@ pub fn format(
     }
 }
 
-// "an accepted change or mount leaves zeros there"
-fn kept_old(state: State, old: [u8; 32]) -> [u8; 32]
-    ensures { λ r. ⌜ r ≡ keptOld state old ⌝ }
-{
-    match state {
-        State::Steady => [0u8; 32],
-        State::Changing(_) => old,
-    }
-}
-
 // The drive that the head's bytes, node 1 and the brought secrets make.
 fn opened(vol: &[u8], present: [u8; 32], old: [u8; 32]) -> Drive
     requires { ⌜ Lent (shapeIn (now vol)) (now vol) ⌝ }
     ensures { λ r. ⌜ r ≡ openedDrive (now (vol .entry)) present old ⌝ }
 {
     let s = head::shape_in(vol);
-    let node = first_node(vol, s);
-    let salt = sixteen(vol, 16);
+    let node = nodes::first(vol, s);
+    let salt = words::sixteen(vol, 16);
     let state = head::state_in(vol);
-    let kept = kept_old(state, old);
+    let kept = drive::kept_old(state, old);
     Drive {
         n: s.n,
         p: s.p,

@@ -4,9 +4,8 @@ use drive::Drive;
 use drive::State;
 ghost use mathlib.Core.Path.{_≡_};
 ghost use mathlib.Core.List.{_++_};
-ghost use Prim.Native.Nat.{_+_, _≤_};
+ghost use Prim.Native.Nat.{_≤_};
 ghost use lib.ListN.{length};
-ghost use Rattle.base.specs.Lists.{part};
 ghost use Rattle.words.specs.Le.{le};
 ghost use Rattle.packed.specs.Image.{leftOf, numbersImage, driveImage, imageState, driveIn};
 
@@ -77,26 +76,6 @@ pub fn pack(d: Drive) -> [u8; 144]
     whole_image(front, node, present, old)
 }
 
-fn sixteen(image: &[u8], at: usize) -> [u8; 16]
-    requires { ⌜ at + 16 ≤ length (now image) ⌝ }
-    ensures { λ r. ⌜ r ≡ part at 16 (now (image .entry)) ⌝ }
-{
-    let mut out = [0u8; 16];
-    let end = at + 16;
-    words::copy(&mut out, 0, &image[at..end]);
-    out
-}
-
-fn thirty_two(image: &[u8], at: usize) -> [u8; 32]
-    requires { ⌜ at + 32 ≤ length (now image) ⌝ }
-    ensures { λ r. ⌜ r ≡ part at 32 (now (image .entry)) ⌝ }
-{
-    let mut out = [0u8; 32];
-    let end = at + 32;
-    words::copy(&mut out, 0, &image[at..end]);
-    out
-}
-
 fn state_in(image: &[u8]) -> State
     requires { ⌜ 144 ≤ length (now image) ⌝ }
     ensures { λ r. ⌜ r ≡ imageState (now (image .entry)) ⌝ }
@@ -120,12 +99,12 @@ pub fn unpack(image: &[u8]) -> Drive
         n: words::load32(image, 0),
         p: words::load32(image, 4),
         f: words::load32(image, 8),
-        salt: sixteen(image, 24),
+        salt: words::sixteen(image, 24),
         state: state_in(image),
         epoch: words::load(image, 14, 2) as u16,
         counter: words::load(image, 40, 8),
-        node: thirty_two(image, 48),
-        present: thirty_two(image, 80),
-        old: thirty_two(image, 112),
+        node: words::thirty_two(image, 48),
+        present: words::thirty_two(image, 80),
+        old: words::thirty_two(image, 112),
     }
 }

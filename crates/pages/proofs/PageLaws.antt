@@ -15,7 +15,7 @@ use Rattle.records.specs.Record.{recordIn}
 use Rattle.layout.specs.Parts.{recordAt}
 use Rattle.drive.specs.declared.Drive.{Drive}
 use Rattle.drive.specs.Drive.{isChanging}
-use Rattle.reports.specs.Counts.{recordOf}
+use Rattle.tree.specs.Path.{recordOf}
 use Rattle.line.specs.Decimal.{decimal, longDecimal, widthIn}
 use Rattle.line.specs.Texts.{t-flakes}
 use Rattle.line.specs.Lines.{Put, newline}

@@ -10,7 +10,7 @@ use Rattle.records.specs.declared.Record.{Record}
 use Rattle.records.specs.Journal.{bit}
 use Rattle.drive.specs.declared.Drive.{Drive}
 use Rattle.drive.specs.Drive.{isChanging}
-use Rattle.reports.specs.Counts.{recordOf}
+use Rattle.tree.specs.Path.{recordOf}
 use Rattle.line.specs.Decimal.{decimal, longDecimal}
 use Rattle.line.specs.Texts.{t-flakes}
 use Rattle.line.specs.Lines.{newline}

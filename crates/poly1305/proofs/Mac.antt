@@ -11,7 +11,7 @@ use lib.ListN.{length, take, drop, set, take-append-drop, length-drop}
 use lib.Seq.{sets, take-all, take-at, length-take-le}
 use Rattle.base.specs.Lists.{fold, part}
 use Rattle.base.proofs.FoldLaws.{fold-append}
-use Rattle.base.proofs.PartLaws.{length-part}
+use Rattle.base.proofs.PartLaws.{length-part, sets-front}
 use Rattle.base.proofs.PickLaws.{yes, no, told}
 use Rattle.words.specs.Le.{num, Bytes}
 use Rattle.words.proofs.LeLaws.{num-lt, bytes-part}
@@ -24,7 +24,6 @@ use Rattle.poly1305.specs.declared.State.{State}
 use Rattle.poly1305.specs.Poly1305.{clamp, poly1305}
 use Rattle.poly1305.specs.State.{zeros, started, emptied, held, push, absorbed, ended, finished, Good}
 use Rattle.poly1305.proofs.Laws.{clamp-lt, num-laid}
-use Rattle.base.proofs.PartLaws.{sets-front}
 use Rattle.poly1305.proofs.StateLaws.{start-good, absorbed-pad, emptied-good, lays, block}
 
 -- an empty buffer adds nothing

@@ -1,7 +1,7 @@
 // The C interface of the cipher, the tag and the hash, for hosts in C, benchmarks and comparisons.
 // It touches `chacha20`, `poly1305` and `blake2s`, and of `base` and `words` the definitions alone.
 ghost use mathlib.Core.Path.{_≡_};
-ghost use mathlib.Core.List.{List, []};
+ghost use mathlib.Core.List.{[]};
 ghost use Rattle.chacha20.specs.ChaCha20.{encrypted};
 ghost use Rattle.poly1305.specs.Poly1305.{poly1305};
 ghost use Rattle.blake2s.specs.Hash.{blake2s};

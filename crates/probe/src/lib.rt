@@ -3,11 +3,9 @@
 use answers::Answer;
 use layout::Shape;
 ghost use mathlib.Core.Path.{_≡_};
-ghost use lib.ListN.{length};
 ghost use Rattle.keys.specs.Keys.{nuggetKey, tagKey, checkOf, sealOf};
 ghost use Rattle.keys.specs.Tags.{tagOf};
 ghost use Rattle.layout.specs.Shape.{shape};
-ghost use Rattle.answers.specs.Numbers.{numberOf};
 ghost use Rattle.images.specs.Answers.{answerImage};
 ghost use Rattle.probe.specs.Probes.{lentAnswer, pathAnswer, wholeAnswer, renewAnswer, laidBytes, renewedBytes, builtBytes};
 

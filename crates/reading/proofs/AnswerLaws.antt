@@ -7,13 +7,11 @@ use Prim.Native.Nat.{ℕ, zero, suc, _+_, _-_, _<_, _≤_}
 use native.Mathlib.Numerals.{add-one}
 use native.Mathlib.Omega.{arith}
 use lib.ListN.{length}
-use Rattle.base.specs.Pick.{pick}
 use Rattle.base.specs.Lists.{tab}
 use Rattle.base.proofs.PickLaws.{yes, no, told, clash}
 use Rattle.layout.specs.declared.Shape.{Shape}
 use Rattle.layout.specs.declared.Spot.{Spot}
-use Rattle.layout.specs.Shape.{inLimits}
-use Rattle.layout.specs.Spots.{spotAt, nowhere, capacity}
+use Rattle.layout.specs.Spots.{spotAt, capacity}
 use Rattle.answers.specs.declared.Answer.{Answer}
 use Rattle.answers.specs.declared.Answer.the-variants as A
 use Rattle.answers.specs.Numbers.{accepts}
@@ -27,10 +25,6 @@ use Rattle.reading.specs.Read.{nuggetsUp, nuggetsIn, nuggetsOf, readAnsw
 use Rattle.layout.specs.Lent.{Lent}
 use Rattle.drive.proofs.OpeningLaws.{opening-lent}
 use Rattle.nuggets.proofs.TouchLaws.{fits-within}
-
--- the spot of an offset, in a shape within limits
-pub spot-is : (d : Drive) (o : ℕ) {s : Shape} {t : Spot} → t ≡ pick (inLimits s) (spotAt s o) nowhere → s ≡ shapeOf d → inLimits (shapeOf d) ≡ true → t ≡ spotAt (shapeOf d) o
-spot-is d o et es h = et ∙ ap (λ (x : Shape). pick (inLimits x) (spotAt x o) nowhere) es ∙ yes _ h refl
 
 module _ (d : Drive) (v : List ℕ) (o len : ℕ) where
   -- the test of one nugget, by what the calls gave

@@ -1,19 +1,18 @@
 -- Laws of membership: of a union, of sets that share none, of a set bounded by P, and of equal sets.
 use mathlib.Core.Path.{_≡_, refl, sym, _∙_}
 use mathlib.Core.Bool.{true, false}
-use Prim.Native.Nat.{ℕ, zero, suc, _+_, _*_, _/_, _%_, _^_, _<_, _≤_}
-use native.Mathlib.Nat.{pow-succ', div-div-eq-div-mul, div-eq-of-lt, div-one, zero-div, lt-of-lt-of-le, le-add-right, div-lt-iff-lt-mul}
+use Prim.Native.Nat.{ℕ, zero, suc, _/_, _%_, _^_, _<_, _≤_}
+use native.Mathlib.Nat.{pow-succ', div-div-eq-div-mul, div-eq-of-lt, div-one, zero-div, lt-of-lt-of-le}
 use native.Mathlib.Omega.{arith}
 use lib.Arith.{bin-ind}
-use lib.Pow.{pow-pos, pow-mono, pow-add}
+use lib.Pow.{pow-mono}
 use lib.Bits.{bitAnd, bitOr, or-shr, or-mod, and-shr, and-mod}
 use lib.Dec.{eqb, leb}
 use mathlib.Core.Logic.{_⊎_, inl, inr}
-use borrow.Author.Tests.{eqb-true, eq-eqb, leb-true, leb-false, lt-ltb, ltb-true}
+use borrow.Author.Tests.{eqb-true, leb-true, leb-false}
 use Rattle.base.specs.Pick.{both, either}
-use Rattle.base.proofs.PickLaws.{told}
+use Rattle.base.proofs.PickLaws.{told, clash}
 use Rattle.records.specs.Journal.{bit, union, shareNone}
-use Rattle.records.specs.Record.{noneFrom}
 
 or-digit : (x y : ℕ) → x < 2 → y < 2 → eqb (bitOr x y) 1 ≡ either (eqb x 1) (eqb y 1)
 or-digit zero y a b = refl
@@ -64,10 +63,6 @@ pub bit-half : (j f : ℕ) → bit j (suc f) ≡ bit (j / 2) f
 unfolding bit
 bit-half j f = rw (pow-succ' 2 f, div-div-eq-div-mul j 2 (2 ^ f))
 
-bit-shift : (j p f : ℕ) → bit (j / 2 ^ p) f ≡ bit j (p + f)
-unfolding bit
-bit-shift j p f = rw (pow-add 2 p f, div-div-eq-div-mul j (2 ^ p) (2 ^ f))
-
 same-odd : (a b : ℕ) → bit a 0 ≡ bit b 0 → a % 2 ≡ b % 2
 unfolding bit
 same-odd a b e = same-digit (a % 2) (b % 2) (omega arith) (omega arith) (rw (div-one a, div-one b) at e)
@@ -90,34 +85,15 @@ same-bits =
     let low : n % 2 ≡ b % 2 = same-odd n b (h 0) in
     omega arith)
 
--- for sets below 2 ^ p the flakes below p decide
-pub same-below : (p a b : ℕ) → a < 2 ^ p → b < 2 ^ p → ((f : ℕ) → f < p → bit a f ≡ bit b f) → a ≡ b
-same-below p a b ha hb h = same-bits a b (λ f. go f (told (leb p f)))
-  where
-    go : (f : ℕ) → (leb p f ≡ true) ⊎ (leb p f ≡ false) → bit a f ≡ bit b f
-    go f (inl e) = none-above p a f ha (leb-true p f e) ∙ sym (none-above p b f hb (leb-true p f e))
-    go f (inr e) = h f (leb-false p f e)
-
--- a set with no flake at or above p is below 2 ^ p
-pub below-none : (p j : ℕ) → ((f : ℕ) → p ≤ f → bit j f ≡ false) → j < 2 ^ p
-below-none p j h =
-    let e : j / 2 ^ p ≡ 0 = no-bits (j / 2 ^ p) (λ f. bit-shift j p f ∙ h (p + f) (le-add-right p f)) in
-    let l : j / 2 ^ p < 1 = omega arith in
-    let m : j < 1 * 2 ^ p = div-lt-iff-lt-mul (pow-pos p) .0 l in
-    omega arith
-
--- "no bit at or above P is set", in both directions
-pub none-from-bits : (p j : ℕ) → noneFrom p j ≡ true → (f : ℕ) → p ≤ f → bit j f ≡ false
-none-from-bits p j e f l = none-above p j f (ltb-true j (2 ^ p) e) l
-
-pub bits-none-from : (p j : ℕ) → ((f : ℕ) → p ≤ f → bit j f ≡ false) → noneFrom p j ≡ true
-bits-none-from p j h = lt-ltb j (2 ^ p) (below-none p j h)
-
--- "J and T share none", in both directions
+-- "J and T share none": no flake is in both
 pub share-none-bits : (j t : ℕ) → shareNone j t ≡ true → (f : ℕ) → both (bit j f) (bit t f) ≡ false
 unfolding shareNone
 share-none-bits j t e f = sym (bit-and j t f) ∙ rw (eqb-true (bitAnd j t) 0 e) (bit-empty f)
 
-pub bits-share-none : (j t : ℕ) → ((f : ℕ) → both (bit j f) (bit t f) ≡ false) → shareNone j t ≡ true
-unfolding shareNone
-bits-share-none j t h = eq-eqb (bitAnd j t) 0 (no-bits (bitAnd j t) (λ f. bit-and j t f ∙ h f))
+-- a flake in a set below 2 ^ p is below p
+pub bit-below : (p j f : ℕ) → j < 2 ^ p → bit j f ≡ true → f < p
+bit-below p j f h e = go (told (leb p f))
+  where
+    go : (leb p f ≡ true) ⊎ (leb p f ≡ false) → f < p
+    go (inl d) = absurd (clash e (none-above p j f h (leb-true p f d)))
+    go (inr d) = leb-false p f d

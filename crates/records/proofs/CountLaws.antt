@@ -9,7 +9,7 @@ use lib.Count.{ones, onesIn, ones-cat}
 use lib.Dec.{eqb}
 use Rattle.base.specs.Pick.{pick, both, either}
 use Rattle.records.specs.Journal.{bit, union, shareNone, many, present}
-use Rattle.records.proofs.BitLaws.{bit-union, share-none-bits}
+use Rattle.records.proofs.BitLaws.{bit-union, share-none-bits, bit-empty}
 
 pub many-le : (n : ℕ) (g : ℕ → Bool) → many n g ≤ n
 unfolding many
@@ -64,3 +64,9 @@ present-ones p j h = ones-low p j ∙ ap ones (mod-eq-of-lt h)
 -- more places than P add nothing to a set below 2 ^ P
 pub present-more : (p q j : ℕ) → j < 2 ^ p → j < 2 ^ q → present p j ≡ present q j
 present-more p q j h l = present-ones p j h ∙ sym (present-ones q j l)
+
+-- an empty journal has no flake
+pub present-none : (p : ℕ) → present p 0 ≡ 0
+unfolding many
+present-none zero = refl
+present-none (suc p) = rw (bit-empty p, present-none p)

@@ -12,7 +12,7 @@ use borrow.Author.Tests.{ltb-true, ltb-false, leb-true, leb-false, lt-ltb, le-lt
 use Rattle.base.specs.Pick.{pick, both}
 use Rattle.base.proofs.PickLaws.{told}
 use Rattle.records.specs.Journal.{bit, flakesWith, flakesFrom, allFlakes}
-use Rattle.records.proofs.BitLaws.{bit-union, bit-empty, bit-half, none-above, below-none}
+use Rattle.records.proofs.BitLaws.{bit-union, bit-empty, bit-half, none-above}
 
 abbrev one : Bool → ℕ
 one b = pick b 1 0
@@ -20,10 +20,6 @@ one b = pick b 1 0
 times : (b : Bool) (q : ℕ) → pick b q 0 ≡ one b * q
 times true q = omega arith
 times false q = omega arith
-
-one-le : (b : Bool) → one b ≤ 1
-one-le true = omega arith
-one-le false = omega arith
 
 one-is : (b : Bool) → eqb (one b % 2) 1 ≡ b
 one-is true = refl
@@ -76,16 +72,6 @@ bit-all p f = bit-with 64 (λ g. ltb g p) f
 
 pub bit-from : (first last f : ℕ) → bit (flakesFrom first last) f ≡ both (ltb f 64) (both (leb first f) (leb f last))
 bit-from first last f = bit-with 64 (λ g. both (leb first g) (leb g last)) f
-
--- a run that ends below p lies below 2 ^ p
-pub from-lt : (first last p : ℕ) → last < p → flakesFrom first last < 2 ^ p
-from-lt first last p h =
-    below-none p (flakesFrom first last) (λ f l. rw (bit-from first last f, lt-leb f last (omega arith)) (none (ltb f 64) (leb first f)))
-  where
-    none : (a b : Bool) → both a (both b false) ≡ false
-    none true true = refl
-    none true false = refl
-    none false b = refl
 
 with-none : (n : ℕ) (g : ℕ → Bool) → ((f : ℕ) → g f ≡ false) → flakesWith n g ≡ 0
 unfolding flakesWith

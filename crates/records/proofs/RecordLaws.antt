@@ -15,19 +15,13 @@ use Rattle.base.specs.Lists.{part}
 use Rattle.base.proofs.PickLaws.{told}
 use Rattle.base.proofs.PartLaws.{length-part, part-part, part-next, part-sets, sets-append, part-append}
 use Rattle.words.specs.Le.{num, le, Bytes}
-use Rattle.words.proofs.LeLaws.{length-le, num-le, le-bytes, num-lt, le-num, bytes-part, bytes-append}
+use Rattle.words.proofs.LeLaws.{length-le, num-le, num-lt, le-num, bytes-part}
 use Rattle.records.specs.declared.Record.{Record}
 use Rattle.records.specs.Record.{recordBytes, recordIn, noneFrom, Widths}
 
 pub length-record : (r : Record) → length (recordBytes r) ≡ 18
 unfolding recordBytes
 length-record r = simp (length-append, length-le)
-
-pub record-bytes : (r : Record) → Bytes (recordBytes r)
-unfolding recordBytes
-record-bytes r =
-    bytes-append (le 8 (r .keycount)) (le 8 (r .journal) ++ le 2 (r .epoch)) (le-bytes 8 (r .keycount))
-    (bytes-append (le 8 (r .journal)) (le 2 (r .epoch)) (le-bytes 8 (r .journal)) (le-bytes 2 (r .epoch)))
 
 -- the three stores of the code
 pub record-stores : (v : List ℕ) (at : ℕ) (r : Record) {a b d : List ℕ} → a ≡ sets v at (le 8 (r .keycount)) → b ≡ sets a (at + 8) (le 8 (r .journal))

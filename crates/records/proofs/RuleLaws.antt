@@ -7,25 +7,22 @@ use native.Mathlib.Omega.{arith}
 use lib.Bits.{bitOr, or-zero-r, or-lt}
 use lib.Dec.{eqb}
 use borrow.Author.Tests.{eq-eqb, ne-eqb, eqb-true, eqb-false, lt-ltb, ltb-true}
-use Rattle.base.specs.Pick.{pick, both, either}
-use Rattle.base.proofs.PickLaws.{both-left, both-right}
+use Rattle.base.specs.Pick.{pick, both}
+use Rattle.base.proofs.PickLaws.{both-left, both-right, either-right, either-told}
 use Rattle.records.specs.declared.Record.{Record}
 use Rattle.records.specs.declared.Way.{Way}
 use Rattle.records.specs.declared.Way.the-variants.{Idle, Add, Rekey}
 use Rattle.records.specs.Journal.{bit, union, shareNone}
 use Rattle.records.specs.Record.{noneFrom, epochFits, wellFormed, Widths}
-use Rattle.records.specs.Rule.{wayOf, sweepWay, touchedBy, rekeys, enciphered, keycountAfter, journalAfter, epochAfter, turned, atTop}
+use Rattle.records.specs.Rule.{wayOf, touchedBy, rekeys, enciphered, keycountAfter, journalAfter, epochAfter, turned, atTop}
 use Rattle.records.proofs.BitLaws.{bit-union, bit-empty}
-
-either-right : (a b : Bool) → b ≡ true → either a b ≡ true
-either-right true b e = refl
-either-right false b e = e
+use mathlib.Core.Logic.{_⊎_, inl, inr}
 
 -- the enciphered flakes lie in the journal afterwards
 pub enciphered-stays : (way : Way) (r : Record) (f : ℕ) → bit (enciphered way r) f ≡ true → bit (journalAfter way r) f ≡ true
 unfolding enciphered journalAfter
 enciphered-stays Idle r f e = let z : false ≡ true = sym (bit-empty f) ∙ e in cc
-enciphered-stays (Add t) r f e = bit-union (r .journal) t f ∙ either-right (bit (r .journal) f) (bit t f) e
+enciphered-stays (Add t) r f e = bit-union (r .journal) t f ∙ either-right (bit (r .journal) f) e
 enciphered-stays (Rekey t) r f e = e
 
 -- after a rekey the enciphered flakes are exactly the journal
@@ -64,30 +61,35 @@ keycount-rises Idle r = le-refl (r .keycount)
 keycount-rises (Add t) r = le-refl (r .keycount)
 keycount-rises (Rekey t) r = omega arith
 
--- flakes are never lost
-pub journal-grows : (way : Way) (r : Record) (f : ℕ) → bit (r .journal) f ≡ true → bit (journalAfter way r) f ≡ true
-unfolding journalAfter
-journal-grows way r f e = rw (bit-union (r .journal) (touchedBy way) f, e)
-
 epoch-after : (way : Way) (head : ℕ) (changing : Bool) (r : Record) → epochFits head changing (r .epoch) ≡ true → epochFits head changing (epochAfter way head r) ≡ true
 unfolding epochAfter
 epoch-after Idle head changing r e = e
 epoch-after (Add t) head changing r e = e
 epoch-after (Rekey t) head changing r e = rw (eq-eqb head head refl)
 
+-- what the two tests of a well-formed record say
+pub formed-journal : (p head : ℕ) (changing : Bool) (r : Record) → wellFormed p head changing r ≡ true → r .journal < 2 ^ p
+unfolding wellFormed
+formed-journal p head changing r e = ltb-true (r .journal) (2 ^ p) (both-left (noneFrom p (r .journal)) (epochFits head changing (r .epoch)) e)
+
+pub formed-epoch : (p head : ℕ) (changing : Bool) (r : Record) → wellFormed p head changing r ≡ true
+    → (r .epoch ≡ head) ⊎ ((changing ≡ true) × (r .epoch + 1 ≡ head))
+unfolding wellFormed
+formed-epoch p head changing r e =
+    go (either-told (eqb (r .epoch) head) (both changing (eqb (r .epoch + 1) head)) (both-right (noneFrom p (r .journal)) (epochFits head changing (r .epoch)) e))
+  where
+    go : (eqb (r .epoch) head ≡ true) ⊎ (both changing (eqb (r .epoch + 1) head) ≡ true) → (r .epoch ≡ head) ⊎ ((changing ≡ true) × (r .epoch + 1 ≡ head))
+    go (inl d) = inl (eqb-true (r .epoch) head d)
+    go (inr d) =
+        inr (both-left changing (eqb (r .epoch + 1) head) d, eqb-true (r .epoch + 1) head (both-right changing (eqb (r .epoch + 1) head) d))
+
 -- the record afterwards is well formed where the one before was
 pub well-formed-after : (p : ℕ) (way : Way) (head : ℕ) (changing : Bool) (r : Record) → touchedBy way < 2 ^ p
     → wellFormed p head changing r ≡ true → wellFormed p head changing (turned way head r) ≡ true
 unfolding wellFormed journalAfter
 well-formed-after p way head changing r h e =
-    let j : r .journal < 2 ^ p = ltb-true (r .journal) (2 ^ p) (both-left (noneFrom p (r .journal)) (epochFits head changing (r .epoch)) e) in
-    rw (lt-ltb (bitOr (r .journal) (touchedBy way)) (2 ^ p) (or-lt p (r .journal) (touchedBy way) j h))
+    rw (lt-ltb (bitOr (r .journal) (touchedBy way)) (2 ^ p) (or-lt p (r .journal) (touchedBy way) (formed-journal p head changing r e) h))
     (epoch-after way head changing r (both-right (noneFrom p (r .journal)) (epochFits head changing (r .epoch)) e))
-
--- a sweep enciphers the journal afresh and keeps it
-pub sweep-all : (r : Record) → (enciphered sweepWay r ≡ r .journal) × (journalAfter sweepWay r ≡ r .journal)
-unfolding enciphered journalAfter
-sweep-all r = (or-zero-r (r .journal), or-zero-r (r .journal))
 
 -- below its top the keycount has room for one more
 pub room : (way : Way) (r : Record) → rekeys way ≡ true → atTop way r ≡ false → r .keycount < 2 ^ 64 → r .keycount + 1 < 2 ^ 64

@@ -11,9 +11,9 @@ use Rattle.records.specs.Rule.{sweepWay, atTop}
 use Rattle.tree.specs.Whole.{wholeOf}
 use Rattle.drive.specs.declared.Drive.{Drive}
 use Rattle.drive.specs.Drive.{shapeOf, isChanging, counterTop}
-use Rattle.nuggets.specs.Nugget.{recordOf}
 use Rattle.nuggets.specs.Tests.{pathFor, flakesOf}
 use Rattle.changes.specs.Rekey.{epochTop, leftIn}
+use Rattle.tree.specs.Path.{recordOf}
 
 -- "9, 10, 15, 13"
 unfoldable pub beginTests : Drive → List ℕ → Answer

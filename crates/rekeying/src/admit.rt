@@ -65,14 +65,7 @@ fn nugget_tests(d: Drive, vol: &[u8], n: u32) -> Answer
     requires { ⌜ Lent (shapeOf d) (now vol) × (n < d .n) ⌝ }
     ensures { λ r. ⌜ r ≡ nuggetTests d (now (vol .entry)) n ⌝ }
 {
-    let state = d.state;
-    let a = tree::path(
-        vol,
-        drive::shape_of(d),
-        d.epoch,
-        drive::is_changing(state),
-        n,
-    );
+    let a = nuggets::test_path(d, vol, n);
     if answers::accepted(a) {
         return move_tests(d, vol, n);
     }

@@ -12,8 +12,8 @@ ghost use Prim.Native.Nat.{_<_};
 ghost use Rattle.layout.specs.Lent.{Lent};
 ghost use Rattle.records.specs.Rule.{sweepWay, atTop};
 ghost use Rattle.drive.specs.Drive.{shapeOf, counterTop};
-ghost use Rattle.nuggets.specs.Nugget.{recordOf};
 ghost use Rattle.changes.specs.Rekey.{epochTop, begunDrive, beginDone, beginVolume, sweepWork, sweepDone, sweepVolume, finishedDrive, finishDone, finishVolume};
+ghost use Rattle.tree.specs.Path.{recordOf};
 
 // "state changing, epoch plus 1, the old secret kept"
 fn begun(d: Drive, secret: [u8; 32]) -> Drive

@@ -16,7 +16,8 @@ use Rattle.records.specs.Journal.{many, present}
 use Rattle.records.specs.Record.{recordIn}
 use Rattle.records.specs.declared.Record.{Record}
 use Rattle.records.proofs.CountLaws.{many-le, present-le, present-more}
-use Rattle.reports.specs.Counts.{recordOf, isMoved, movedIn, flakesIn, shareOf}
+use Rattle.tree.specs.Path.{recordOf}
+use Rattle.reports.specs.Counts.{isMoved, movedIn, flakesIn, shareOf}
 
 -- before the first turn
 pub moved-none : (e : ℕ) (v : List ℕ) → 0 ≡ movedIn e v 0

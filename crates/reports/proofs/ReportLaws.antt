@@ -41,14 +41,6 @@ module _ (d : Drive) (v : List ℕ) where
   pub refused-is : {a : Answer} → accepts (reportAnswer d v) ≡ false → a ≡ reportAnswer d v → refused a ≡ reportOf d v
   refused-is q e = rw e (sym (report-refused q))
 
-  -- it answers what the tests say
-  pub report-answers : reportOf d v .answer ≡ reportAnswer d v
-  report-answers = go (told (accepts (reportAnswer d v)))
-    where
-      go : (accepts (reportAnswer d v) ≡ true) ⊎ (accepts (reportAnswer d v) ≡ false) → reportOf d v .answer ≡ reportAnswer d v
-      go (inl q) = rw (report-accepted q)
-      go (inr q) = rw (report-refused q)
-
   -- moved and left are all nuggets
   pub report-sums : reportOf d v .moved + reportOf d v .left ≡ reportOf d v .n
   report-sums = go (told (accepts (reportAnswer d v)))

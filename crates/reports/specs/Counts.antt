@@ -3,14 +3,8 @@ use Prim.Native.Nat.{ℕ, zero, suc, _+_, _*_, _/_}
 use mathlib.Core.Bool.{Bool}
 use mathlib.Core.List.{List}
 use lib.Dec.{eqb}
-use Rattle.layout.specs.Parts.{recordAt}
-use Rattle.records.specs.declared.Record.{Record}
 use Rattle.records.specs.Journal.{many, present}
-use Rattle.records.specs.Record.{recordIn}
-
--- nugget n's record
-abbrev pub recordOf : List ℕ → ℕ → Record
-recordOf v n = recordIn (recordAt n) v
+use Rattle.tree.specs.Path.{recordOf}
 
 -- "moved (epoch equal to the head's)"
 abbrev pub isMoved : ℕ → List ℕ → ℕ → Bool

@@ -2,14 +2,12 @@
 use mathlib.Core.Path.{_≡_, sym, ap, _∙_}
 use mathlib.Core.Bool.{Bool, true, false}
 use mathlib.Core.List.{List}
-use Prim.Native.Nat.{ℕ, _+_, _-_, _≤_}
+use Prim.Native.Nat.{ℕ, _-_, _≤_}
 use native.Mathlib.Omega.{arith}
 use native.Mathlib.Nat.{le-refl}
 use lib.ListN.{length, take, drop, length-append, length-drop}
-use lib.Seq.{sets, take-all, length-sets, length-take-le}
+use lib.Seq.{take-all, length-sets, length-take-le}
 use Rattle.base.specs.Pick.{pick}
-use Rattle.base.specs.Lists.{part}
-use Rattle.base.proofs.PartLaws.{length-part, sets-full}
 use Rattle.answers.specs.declared.Answer.{Answer}
 use Rattle.answers.specs.declared.Answer.the-variants as A
 use Rattle.answers.specs.Numbers.{numberOf, carriedOf, accepts}
@@ -21,10 +19,6 @@ use Rattle.opening.specs.Mount.{mountDone}
 use Rattle.reports.specs.declared.told.Report.{Report}
 use Rattle.reports.specs.Report.{reportOf}
 use Rattle.sheets.specs.Sheet.{presentIn, oldIn, outsideIn, volumeIn, sized, reportText, mountedText, mountedBy, sheetLine}
-
--- a secret copied out of the input
-pub secret-copied : (v z : List ℕ) (at : ℕ) → length z ≡ 32 → at + 32 ≤ length v → sets z 0 (part at 32 v) ≡ part at 32 v
-secret-copied v z at e h = sets-full z (part at 32 v) (length-part at 32 v h ∙ sym e)
 
 -- the volume is all that follows
 pub volume-taken : (i : List ℕ) → take (length i - 72) (drop 72 i) ≡ volumeIn i

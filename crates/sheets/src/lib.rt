@@ -40,10 +40,8 @@ pub fn mounted(input: &[u8]) -> Done
     requires { ⌜ 72 ≤ length (now input) ⌝ }
     ensures { λ r. ⌜ r ≡ mountedBy (now (input .entry)) ⌝ }
 {
-    let mut present = [0u8; 32];
-    words::copy(&mut present, 0, &input[0..32]);
-    let mut old = [0u8; 32];
-    words::copy(&mut old, 0, &input[32..64]);
+    let present = words::thirty_two(input, 0);
+    let old = words::thirty_two(input, 32);
     let outside = words::load(input, 64, 8);
     opening::mount(&input[72..], present, old, outside)
 }

@@ -46,9 +46,6 @@ module _ (s : Shape) (v : List ℕ) where
   unfolding built
   built-outside = down-outside s (2 * leaves (s .n) - 1) v (omega (arith, leaves-some (s .n)))
 
-  pub built-lent : Lent s v → Lent s (built s v)
-  built-lent l = outside-lent built-outside l
-
   pub built-good : Lent s v → AllGood s (built s v)
   unfolding built
   built-good l = down-good s (2 * leaves (s .n) - 1) v l (omega (arith, leaves-some (s .n))) (λ i a b. absurd (omega (arith, leaves-some (s .n))))

@@ -16,9 +16,8 @@ use Rattle.layout.proofs.Places.{apart, record-inside}
 use Rattle.nodes.specs.Alike.{Alike}
 use Rattle.nodes.proofs.Bounds.{tags-inside, node-below, node-above}
 use Rattle.nodes.proofs.MadeLaws.{made-alike}
-use Rattle.tree.specs.Good.{AllGood, GoodBut, Beside, Agrees}
+use Rattle.tree.specs.Good.{GoodBut, Beside, Agrees}
 use Rattle.tree.proofs.UpwardLaws.{path-leaf}
-use Rattle.tree.proofs.RenewLaws.{all-but, but-more}
 use Rattle.base.proofs.PartLaws.{part-equal}
 use Rattle.layout.specs.Lent.{Lent}
 
@@ -62,12 +61,3 @@ agrees-beside s n v w l h x =
     other m k ne (inl e) = record { records = record-alike m k ne; tags = tags-alike m k (inl (apart (s .p) m n (ltb-true m n e))) }
     other m k ne (inr e) =
         record { records = record-alike m k ne; tags = tags-alike m k (inr (apart (s .p) n m (omega (arith, ne, ltb-false m n e)))) }
-
--- so in a good tree just its path is left to renew
-pub one-changed : (s : Shape) (n : ℕ) (v w : List ℕ) → Lent s v → n < s .n → Agrees s n v w → AllGood s v → GoodBut s (λ m. m ≡ n) w
-one-changed s n v w l h x g =
-    but-more s w (λ m. ⊥ ⊎ (m ≡ n)) (λ m. m ≡ n) (λ m k d. only d) (changed-but s v w (λ m. ⊥) (λ m. m ≡ n) (agrees-beside s n v w l h x) (all-but s v (λ m. ⊥) g))
-  where
-    only : {m : ℕ} → ⊥ ⊎ (m ≡ n) → m ≡ n
-    only (inl d) = absurd d
-    only (inr e) = e

@@ -72,9 +72,6 @@ module _ (s : Shape) (n : ℕ) (v : List ℕ) (l : Lent s v) (h : n < s .n) wher
   unfolding renewed
   renewed-outside = stored-outside s (suc (heightOf (s .n))) (leaves (s .n) + n) v (rises-leaf s n (lent-small l) h) low
 
-  pub renewed-lent : Lent s (renewed s n v)
-  renewed-lent = outside-lent renewed-outside l
-
   -- each node that isn't on the path stands
   pub renewed-stands : (i : ℕ) → onPath s n i ≡ false → nodeIn s (renewed s n v) i ≡ nodeIn s v i
   unfolding renewed onPath

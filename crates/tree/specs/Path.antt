@@ -11,10 +11,15 @@ use Rattle.answers.specs.declared.Answer.the-variants as A
 use Rattle.answers.specs.declared.Place.the-variants as P
 use Rattle.records.specs.Record.{recordIn, wellFormed}
 use Rattle.nodes.specs.Made.{goodNode}
+use Rattle.records.specs.declared.Record.{Record}
 
--- record n is well formed, under the head's epoch and state
+-- record n
+abbrev pub recordOf : List ℕ → ℕ → Record
+recordOf v n = recordIn (recordAt n) v
+
+-- it is well formed, under the head's epoch and state
 abbrev pub formed : Shape → ℕ → Bool → List ℕ → ℕ → Bool
-formed s epoch changing v n = wellFormed (s .p) epoch changing (recordIn (recordAt n) v)
+formed s epoch changing v n = wellFormed (s .p) epoch changing (recordOf v n)
 
 -- and its leaf is node L + n
 unfoldable pub goodRecord : Shape → ℕ → Bool → List ℕ → ℕ → Bool

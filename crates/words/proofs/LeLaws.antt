@@ -1,16 +1,21 @@
--- Laws of little-endian numbers: a number read back, bytes read back, and one more byte.
+-- Laws of little-endian numbers: a number read back, bytes read back, one more byte, and numbers in parts.
 use mathlib.Core.Path.{_≡_, refl, ap}
 use mathlib.Core.List.{List, [], _∷_, _++_}
 use Prim.Native.Nat.{ℕ, zero, suc, _+_, _-_, _*_, _/_, _%_, _^_, _<_, _≤_}
-use native.Mathlib.Nat.{pow-suc, pow-le-pow-right, add-suc, lt-of-lt-of-le}
+use native.Mathlib.Nat.{pow-suc, pow-le-pow-right, add-suc, lt-of-lt-of-le, suc-add, zero-add}
 use native.Mathlib.Numerals.{add-one}
-use lib.Dec.{lit≤}
+use lib.Dec.{lit≤, lit<}
 use native.Mathlib.Omega.{arith}
 use lib.ListN.{length, getD, set, take, drop, length-append}
 use lib.Seq.{drop-cons, getD-drop, sets, take-add, drop-drop}
 use Rattle.base.specs.Lists.{part}
 use Rattle.base.proofs.PartLaws.{part-sets, length-part}
 use Rattle.words.specs.Le.{num, le, serialised, Bytes}
+use mir.Syntax.{w8}
+use mir.Val.{Val}
+use denote.Plain.{UInt}
+use denote.Array.{each}
+use denote.Shadow.{shadow}
 
 pub length-le : (k x : ℕ) → length (le k x) ≡ k
 unfolding le
@@ -131,3 +136,42 @@ num-append (x ∷ a) b = rw (num-append a b, pow-suc 256 (length a)) (omega arit
 pub num-split : (l : List ℕ) (from k n : ℕ) → from + k ≤ length l → num (part from (k + n) l) ≡ num (part from k l) + 256 ^ k * num (part (from + k) n l)
 num-split l from k n h =
     rw (take-add k n (drop from l), num-append (part from k l) (part k n (drop from l)), length-part from k l h, drop-drop k from l)
+
+-- an array of bytes that is owned holds bytes
+pub owned-bytes : (l : List ℕ) (us : List Val) → shadow (each ℕ (UInt w8 .own) l us) → Bytes l
+owned-bytes [] us s i = lit< tt
+owned-bytes (b ∷ l) [] s i = absurd s
+owned-bytes (b ∷ l) (u ∷ us) s zero = s .0 .1
+owned-bytes (b ∷ l) (u ∷ us) s (suc i) = owned-bytes l us (s .1) i
+
+-- the lowest bytes of a number, then the others
+pub le-join : (k n a y : ℕ) → a < 256 ^ k → le (k + n) (a + 256 ^ k * y) ≡ le k a ++ le n y
+unfolding le
+le-join zero n a y h = let z : a + 1 * y ≡ y = omega arith in rw (zero-add n, z)
+le-join (suc k) n a y h =
+    let q : a < 256 ^ k * 256 = rw (pow-suc 256 k) at h in
+    let low : (a + 256 ^ k * 256 * y) % 256 ≡ a % 256 = omega (arith, again (256 ^ k) y) in
+    let high : (a + 256 ^ k * 256 * y) / 256 ≡ a / 256 + 256 ^ k * y = omega (arith, again (256 ^ k) y) in
+    rw (suc-add k n, pow-suc 256 k, low, high, le-join k n (a / 256) y (omega arith))
+  where
+    again : (x y : ℕ) → x * 256 * y ≡ 256 * (x * y)
+    again x y = omega arith
+
+-- the four bytes of a word
+pub four-num : (l : List ℕ) (k : ℕ) → k + 4 ≤ length l
+    → getD l k 0 + 256 * (getD l (k + 1) 0 + 256 * (getD l (k + 2) 0 + 256 * getD l (k + 3) 0)) ≡ num (part k 4 l)
+unfolding num
+four-num l k h =
+    let e1 : k + 1 ≡ suc k = omega arith in
+    let e2 : k + 2 ≡ suc (suc k) = omega arith in
+    let e3 : k + 3 ≡ suc (suc (suc k)) = omega arith in
+    rw (
+      e1,
+      e2,
+      e3,
+      num-part 3 l k (omega arith),
+      num-part 2 l (suc k) (omega arith),
+      num-part 1 l (suc (suc k)) (omega arith),
+      num-part 0 l (suc (suc (suc k))) (omega arith),
+    )
+    (omega arith)

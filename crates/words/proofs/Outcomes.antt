@@ -35,6 +35,12 @@ store32 s at x = only (sets s at (le 4 x))
 pub copy : (s : List ℕ) (at : ℕ) (from : List ℕ) → Unique (λ last. last ≡ sets s at from)
 copy s at from = only (sets s at from)
 
+pub sixteen : (s : List ℕ) (at : ℕ) → Unique (λ r. r ≡ part at 16 s)
+sixteen s at = only (part at 16 s)
+
+pub thirty-two : (s : List ℕ) (at : ℕ) → Unique (λ r. r ≡ part at 32 s)
+thirty-two s at = only (part at 32 s)
+
 pub xor : (d k : List ℕ) → Unique (λ last. last ≡ xorl d k)
 xor d k = only (xorl d k)
 

@@ -1,8 +1,7 @@
 // Little-endian numbers in slices, 32-bit words, and the xor of bytes.
 // It touches `base` alone.
 ghost use mathlib.Core.Path.{_≡_};
-ghost use mathlib.Core.List.{List};
-ghost use Prim.Native.Nat.{_+_, _<_, _≤_, _^_};
+ghost use Prim.Native.Nat.{_+_, _*_, _<_, _≤_, _^_};
 ghost use lib.ListN.{length, replicate};
 ghost use lib.Seq.{sets};
 ghost use Rattle.base.specs.Lists.{part, same};
@@ -47,12 +46,18 @@ pub fn load(s: &[u8], at: usize, k: usize) -> u64
     r
 }
 
-// The 32-bit word at `at`.
+fn four(a: u8, b: u8, c: u8, d: u8) -> u32
+    ensures { λ r. ⌜ r ≡ a + 256 * (b + 256 * (c + 256 * d)) ⌝ }
+{
+    (a as u32) + 256 * (b as u32) + 65536 * (c as u32) + 16777216 * (d as u32)
+}
+
+// The 32-bit word at `at`; in one sum, which is compiled to one load.
 pub fn load32(s: &[u8], at: usize) -> u32
     requires { ⌜ at + 4 ≤ length (now s) ⌝ }
     ensures { λ r. ⌜ r ≡ num (part at 4 (now (s .entry))) ⌝ }
 {
-    load(s, at, 4) as u32
+    four(s[at], s[at + 1], s[at + 2], s[at + 3])
 }
 
 // The k lowest bytes of x stored at `at`, lowest first.
@@ -87,6 +92,28 @@ pub fn copy(s: &mut [u8], at: usize, from: &[u8])
         s[at + i] = from[i];
         i += 1;
     }
+}
+
+// The 16 bytes at `at`.
+pub fn sixteen(s: &[u8], at: usize) -> [u8; 16]
+    requires { ⌜ at + 16 ≤ length (now s) ⌝ }
+    ensures { λ r. ⌜ r ≡ part at 16 (now (s .entry)) ⌝ }
+{
+    let mut out = [0u8; 16];
+    let end = at + 16;
+    copy(&mut out, 0, &s[at..end]);
+    out
+}
+
+// The 32 bytes at `at`.
+pub fn thirty_two(s: &[u8], at: usize) -> [u8; 32]
+    requires { ⌜ at + 32 ≤ length (now s) ⌝ }
+    ensures { λ r. ⌜ r ≡ part at 32 (now (s .entry)) ⌝ }
+{
+    let mut out = [0u8; 32];
+    let end = at + 32;
+    copy(&mut out, 0, &s[at..end]);
+    out
 }
 
 // The bytes of k laid over d.

@@ -14,7 +14,7 @@ use Rattle.base.proofs.PickLaws.{yes, no, told, both-on, both-off}
 use Rattle.layout.specs.declared.Shape.{Shape}
 use Rattle.layout.specs.declared.Spot.{Spot}
 use Rattle.layout.specs.Shape.{inLimits}
-use Rattle.layout.specs.Spots.{spotAt, nowhere, capacity}
+use Rattle.layout.specs.Spots.{spotAt, capacity}
 use Rattle.layout.specs.Lent.{Lent}
 use Rattle.layout.proofs.Limits.{limits, capacity-le}
 use Rattle.layout.proofs.Places.{spot-inside}
@@ -22,7 +22,7 @@ use Rattle.answers.specs.declared.Answer.{Answer}
 use Rattle.answers.specs.declared.Answer.the-variants as A
 use Rattle.answers.specs.Numbers.{accepts}
 use Rattle.answers.specs.Stages.{andThen}
-use Rattle.answers.proofs.StageLaws.{goes-on, stops, accepted-is, passed, missed}
+use Rattle.answers.proofs.StageLaws.{goes-on, stops, accepted-is, passed, both-stages, spared}
 use Rattle.records.specs.declared.Record.{Record}
 use Rattle.records.specs.declared.Way.{Way}
 use Rattle.records.specs.declared.Way.the-variants.{Idle, Add, Rekey}
@@ -32,15 +32,16 @@ use Rattle.drive.specs.Drive.{shapeOf, counterTop}
 use Rattle.drive.specs.Opening.{openingOf}
 use Rattle.drive.proofs.OpeningLaws.{opening-lent}
 use Rattle.nuggets.specs.declared.Nugget.{Nugget}
-use Rattle.nuggets.specs.Nugget.{recordOf, nuggetOf}
+use Rattle.nuggets.specs.Nugget.{nuggetOf}
 use Rattle.nuggets.specs.Tests.{pathFor, flakesIn}
 use Rattle.nuggets.specs.Touched.{touchedOf, fitsIn}
 use Rattle.nuggets.proofs.TouchLaws.{fits-within}
 use Rattle.changes.specs.Change.{nuggetChange, testedTo, settled}
 use Rattle.changes.specs.Write.{writeWay, writeAnswer, writes, writeWork, writtenDrive, writeDoneAt, writeVolumeAt, writeDone, writeVolume}
-use Rattle.changes.proofs.SpanLaws.{still-to, idle-below, idle-above, tested-idle, tested-each, tested-next, tested-stays, after, beyond, change-room}
+use Rattle.changes.proofs.SpanLaws.{still-to, idle-below, idle-above, tested-idle, tested-each, tested-next, tested-stays, change-room}
 use Rattle.writing.specs.declared.Span.{Span}
 use Rattle.writing.specs.Span.{spanOf, Room}
+use Rattle.tree.specs.Path.{recordOf}
 
 -- what the code's numbers have to know of the range
 pub record Inside (s : Shape) (o len : ℕ) : Type 0 where
@@ -60,10 +61,6 @@ inside s o len h some fits =
       few = m .few;
       small = capacity-le s m;
     }
-
--- the spot of an offset, in a shape within limits
-pub spot-is : (s : Shape) (o : ℕ) {t : Spot} → t ≡ pick (inLimits s) (spotAt s o) nowhere → inLimits s ≡ true → t ≡ spotAt s o
-spot-is s o e h = e ∙ yes _ h refl
 
 pub span-is : (s : Shape) (o len : ℕ) {first last : Spot} → first ≡ spotAt s o → last ≡ spotAt s (o + (len - 1))
     → _≡_ {A = Span} (record { first = first .nugget; end = last .nugget + 1 }) (spanOf s o len)
@@ -185,16 +182,16 @@ pub record Granted (d : Drive) (v : List ℕ) (o len : ℕ) : Type 0 where
 pub write-told : (d : Drive) (v : List ℕ) (o len : ℕ) → 0 < len → accepts (writeAnswer d v o len) ≡ true → Granted d v o len
 unfolding writeAnswer
 write-told d v o len some e =
-    let (opens, rest) = after (openingOf d v) _ e in
+    let (opens, rest) = both-stages (openingOf d v) _ e in
     let (fits, more) = passed (fitsIn (shapeOf d) o len) _ A.PastEnd refl rest in
     let full : len ≡ 0 → ⊥ = λ z. omega (arith, z, some) in
     let tests = ap accepts (sym (no {b = eqb len 0} A.Accepted (ne-eqb len 0 full) refl)) ∙ more in
-    let nuggets = beyond (eqb (d .counter) counterTop) A.CounterTop _ refl tests in
+    let (low, nuggets) = spared (eqb (d .counter) counterTop) A.CounterTop _ refl tests in
     record {
       lent = opening-lent d v opens;
       inRange = fits-within d o len refl fits;
       room = λ n h. change-room d v n (writeWay d v o len n) (tested-each d v (writeWay d v o len) (d .n) n h nuggets);
-      counterRoom = eqb-false (d .counter) counterTop (missed (eqb (d .counter) counterTop) A.CounterTop _ refl tests);
+      counterRoom = eqb-false (d .counter) counterTop low;
     }
 
 -- the answer, with the drive and the volume that it leaves

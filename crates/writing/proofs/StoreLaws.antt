@@ -19,7 +19,7 @@ use Rattle.records.specs.Rule.{wayOf, enciphered, keycountAfter, atTop}
 use Rattle.records.specs.Listing.{Entry, padsBy, padsTo}
 use Rattle.drive.specs.declared.Drive.{Drive}
 use Rattle.drive.specs.Drive.{shapeOf}
-use Rattle.nuggets.specs.Nugget.{recordOf, keyFor, storedIn, contentsIn, contentsOf}
+use Rattle.nuggets.specs.Nugget.{keyFor, storedIn, contentsIn, contentsOf}
 use Rattle.nuggets.specs.Touched.{touchedOf}
 use Rattle.changes.specs.Laid.{written, laid}
 use Rattle.changes.specs.Change.{idles, marked, markedTo, tended, tendedTo, worked}
@@ -31,6 +31,7 @@ use Rattle.changes.proofs.MarkLaws.{marks-later}
 use Rattle.changes.proofs.SweepLaws.{laid-alike}
 use Rattle.changes.proofs.SpanLaws.{still-to, idles-way, idle-below, idle-above, pads-idle-to, marked-idle, tended-idle}
 use Rattle.writing.specs.Span.{Room}
+use Rattle.tree.specs.Path.{recordOf}
 
 -- a nugget's contents rest on its record and its stored flakes alone, and its way on its record
 contents-told : (d : Drive) (v w : List ℕ) (n f : ℕ) → recordOf w n ≡ recordOf v n → storedIn (shapeOf d) w n f ≡ storedIn (shapeOf d) v n f → contentsOf d w n f ≡ contentsOf d v n f

@@ -7,9 +7,9 @@ use Rattle.layout.specs.declared.Shape.{Shape}
 use Rattle.layout.specs.Spots.{spotAt}
 use Rattle.records.specs.Rule.{atTop}
 use Rattle.drive.specs.declared.Drive.{Drive}
-use Rattle.nuggets.specs.Nugget.{recordOf}
 use Rattle.changes.specs.Write.{writeWay}
 use Rattle.writing.specs.declared.Span.{Span}
+use Rattle.tree.specs.Path.{recordOf}
 
 -- from the nugget of the first byte to behind that of the last
 abbrev pub spanOf : Shape → ℕ → ℕ → Span

@@ -1,5 +1,5 @@
 // Document 01's write: all tests of all nuggets, then flakes and tags, records, leaves and paths, and the head.
-// It touches `nuggets`, `records` and `tree` for the tests, `drive`, `layout` and `answers`, and `laying` for every store.
+// It touches `nuggets` and `records` for the tests, `drive`, `layout` and `answers`, and `laying` for every store.
 use answers::Answer;
 use drive::Done;
 use drive::Drive;
@@ -14,7 +14,6 @@ ghost use Rattle.layout.specs.Spots.{capacity};
 ghost use Rattle.layout.specs.Lent.{Lent};
 ghost use Rattle.records.specs.Rule.{sweepWay};
 ghost use Rattle.drive.specs.Drive.{shapeOf, counterTop};
-ghost use Rattle.nuggets.specs.Tests.{pathFor};
 ghost use Rattle.changes.specs.Laid.{laid};
 ghost use Rattle.changes.specs.Change.{nuggetChange, testedTo, padsFor, markedTo, tendedTo, settled};
 ghost use Rattle.changes.specs.Write.{writeWay, writeAnswer, newContents, writeWork, writtenDrive, writeDone, writeVolume};
@@ -49,26 +48,12 @@ fn way_at(d: Drive, vol: &[u8], o: usize, len: usize, n: u32) -> Way
     records::way_of(r, t, d.epoch)
 }
 
-fn test_path(d: Drive, vol: &[u8], n: u32) -> Answer
-    requires { ⌜ Lent (shapeOf d) (now vol) × (n < d .n) ⌝ }
-    ensures { λ r. ⌜ r ≡ pathFor d (now (vol .entry)) n ⌝ }
-{
-    let state = d.state;
-    tree::path(
-        vol,
-        drive::shape_of(d),
-        d.epoch,
-        drive::is_changing(state),
-        n,
-    )
-}
-
 // "path; 14; flakes, ascending": "a rekey tests all of J", whatever it touches.
 fn test_rekey(d: Drive, vol: &[u8], n: u32) -> Answer
     requires { ⌜ Lent (shapeOf d) (now vol) × (n < d .n) ⌝ }
     ensures { λ r. ⌜ r ≡ nuggetChange d (now (vol .entry)) n sweepWay ⌝ }
 {
-    let a = test_path(d, vol, n);
+    let a = nuggets::test_path(d, vol, n);
     if answers::accepted(a) {
         let g = nuggets::nugget_of(d, vol, n);
         if g.keycount == 0xffff_ffff_ffff_ffff {
@@ -86,7 +71,7 @@ fn test_nugget(d: Drive, vol: &[u8], n: u32, way: Way) -> Answer
 {
     match way {
         Way::Idle => Answer::Accepted,
-        Way::Add(_) => test_path(d, vol, n),
+        Way::Add(_) => nuggets::test_path(d, vol, n),
         Way::Rekey(_) => test_rekey(d, vol, n),
     }
 }

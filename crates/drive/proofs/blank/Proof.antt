@@ -1,5 +1,5 @@
 use Rattle.drive.specs.Drive.{blankDrive}
-use mathlib.Core.Path.{_≡_, refl, sym, _∙_, ap}
+use mathlib.Core.Path.{refl}
 use Rattle.drive.proofs.blank.Statement.{statement}
 use Rattle.drive.proofs.blank.Tie as tie
 

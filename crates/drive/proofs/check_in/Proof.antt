@@ -1,7 +1,6 @@
 use Rattle.drive.specs.declared.State.{State}
 use Rattle.drive.specs.Head.{checkFor}
-use Rattle.keys.specs.Keys.{checkOf}
-use mathlib.Core.Path.{_≡_, refl, sym, _∙_, ap}
+use mathlib.Core.Path.{sym, _∙_, ap}
 use borrow.Author.Needs.{needs}
 use Rattle.drive.proofs.check_in.Statement.{statement}
 use Rattle.drive.proofs.check_in.Tie as tie

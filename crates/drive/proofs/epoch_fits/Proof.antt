@@ -1,12 +1,7 @@
 use Rattle.drive.proofs.HeadLaws.{left-test}
-use Rattle.drive.specs.declared.State.{State}
-use Rattle.drive.specs.Opening.{epochFits}
 use Rattle.base.proofs.PickLaws.{both-on, both-off}
 use borrow.Author.Tests.{lt-leb, le-leb}
-use lib.Dec.{leb, eqb}
-use Prim.Native.Nat.{ℕ, _+_, _-_}
-use native.Mathlib.Omega.{arith}
-use mathlib.Core.Path.{_≡_, refl, sym, _∙_, ap}
+use mathlib.Core.Path.{refl, sym}
 use borrow.Author.Needs.{needs}
 use Rattle.drive.proofs.epoch_fits.Statement.{statement}
 use Rattle.drive.proofs.epoch_fits.Tie as tie

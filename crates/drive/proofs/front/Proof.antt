@@ -1,5 +1,5 @@
 use Rattle.drive.specs.Head.{frontIn}
-use mathlib.Core.Path.{_≡_, refl, sym, _∙_, ap}
+use mathlib.Core.Path.{_∙_}
 use borrow.Author.Needs.{needs}
 use Rattle.drive.proofs.front.Statement.{statement}
 use Rattle.drive.proofs.front.Tie as tie

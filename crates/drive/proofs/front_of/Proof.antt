@@ -2,7 +2,7 @@ use Rattle.drive.proofs.HeadLaws.{four-pieces}
 use Rattle.words.proofs.LeLaws.{length-le}
 use Rattle.words.specs.Le.{le}
 use lib.ListN.{length}
-use mathlib.Core.Path.{_≡_, refl, sym, _∙_, ap}
+use mathlib.Core.Path.{_≡_, refl, _∙_}
 use borrow.Author.Needs.{needs}
 use Rattle.drive.proofs.front_of.Statement.{statement}
 use Rattle.drive.proofs.front_of.Tie as tie

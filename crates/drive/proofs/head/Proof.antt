@@ -2,7 +2,7 @@ use mathlib.Core.List.{_++_}
 use Rattle.drive.proofs.HeadLaws.{two-pieces}
 use Rattle.drive.specs.Head.{headOf}
 use lib.ListN.{length}
-use mathlib.Core.Path.{_≡_, refl, sym, _∙_, ap}
+use mathlib.Core.Path.{_≡_, refl, _∙_}
 use borrow.Author.Needs.{needs}
 use Rattle.drive.proofs.head.Statement.{statement}
 use Rattle.drive.proofs.head.Tie as tie

@@ -1,18 +1,16 @@
 use Rattle.drive.proofs.HeadLaws.{node-part}
 use mathlib.Core.List.{List}
 use Rattle.drive.specs.Opening.{headStands}
-use Rattle.drive.specs.Head.{headOf}
 use Rattle.drive.specs.Drive.{shapeOf}
 use Rattle.base.specs.Lists.{same, part}
 use Rattle.base.proofs.PickLaws.{both-on, both-off}
 use Rattle.layout.proofs.Places.{node-inside}
 use Rattle.layout.proofs.Height.{leaves-some}
 use Rattle.layout.proofs.Limits.{Limits, limits, inside}
-use Rattle.layout.specs.Parts.{nodeAt, lengthOf}
-use Rattle.layout.specs.Shape.{within, leaves}
+use Rattle.layout.specs.Parts.{nodeAt}
+use Rattle.layout.specs.Shape.{within}
 use Rattle.layout.specs.declared.Shape.{Shape}
-use Prim.Native.Nat.{ℕ, _*_, _≤_, _<_}
-use mathlib.Core.Bool.{Bool, true}
+use Prim.Native.Nat.{ℕ}
 use native.Mathlib.Omega.{arith}
 use mathlib.Core.Path.{_≡_, refl, sym, _∙_, ap}
 use borrow.Author.Needs.{needs}

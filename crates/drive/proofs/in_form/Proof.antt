@@ -1,8 +1,7 @@
 use Rattle.drive.specs.Opening.{inForm}
-use Rattle.drive.specs.Drive.{shapeOf}
 use Rattle.layout.specs.Shape.{inLimits}
 use Rattle.base.proofs.PickLaws.{both-on, both-off}
-use mathlib.Core.Path.{_≡_, refl, sym, _∙_, ap}
+use mathlib.Core.Path.{refl, sym, _∙_, ap}
 use borrow.Author.Needs.{needs}
 use Rattle.drive.proofs.in_form.Statement.{statement}
 use Rattle.drive.proofs.in_form.Tie as tie

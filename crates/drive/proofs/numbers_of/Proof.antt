@@ -1,6 +1,6 @@
 use Rattle.drive.specs.Head.{numbersOf}
 use Rattle.words.specs.Le.{le}
-use mathlib.Core.Path.{_≡_, refl, sym, _∙_, ap}
+use mathlib.Core.Path.{_∙_}
 use borrow.Author.Needs.{needs}
 use Rattle.drive.proofs.numbers_of.Statement.{statement}
 use Rattle.drive.proofs.numbers_of.Tie as tie

@@ -1,13 +1,12 @@
 use Rattle.drive.proofs.HeadLaws.{form-limits}
-use Rattle.drive.specs.Opening.{inForm, openingOf, epochFits}
+use Rattle.drive.specs.Opening.{inForm, openingOf}
 use Rattle.drive.specs.Drive.{shapeOf}
 use Rattle.layout.proofs.Limits.{inside}
 use Rattle.layout.specs.Parts.{lengthOf}
 use Rattle.layout.specs.Shape.{inLimits, within}
 use Rattle.layout.specs.declared.Shape.{Shape}
-use Rattle.base.proofs.PickLaws.{yes, no, both-left}
+use Rattle.base.proofs.PickLaws.{yes, no}
 use borrow.Author.Tests.{eq-eqb, ne-eqb}
-use lib.Dec.{eqb}
 use mathlib.Core.Bool.{true}
 use mathlib.Core.Path.{_≡_, refl, sym, _∙_, ap}
 use borrow.Author.Needs.{needs}

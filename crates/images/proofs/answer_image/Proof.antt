@@ -1,5 +1,5 @@
 use Rattle.images.specs.Answers.{answerImage}
-use mathlib.Core.Path.{_≡_, refl, sym, _∙_, ap}
+use mathlib.Core.Path.{_∙_}
 use borrow.Author.Needs.{needs}
 use Rattle.images.proofs.answer_image.Statement.{statement}
 use Rattle.images.proofs.answer_image.Tie as tie

@@ -1,5 +1,5 @@
 use Rattle.words.specs.Le.{le}
-use mathlib.Core.Path.{_≡_, refl, sym, _∙_, ap}
+use mathlib.Core.Path.{_∙_}
 use borrow.Author.Needs.{needs}
 use Rattle.images.proofs.four.Statement.{statement}
 use Rattle.images.proofs.four.Tie as tie

@@ -1,7 +1,7 @@
 use Rattle.keys.specs.Tags.{tagOf, tagUnder}
 use Prim.Native.Nat.{ℕ}
 use mathlib.Core.List.{List}
-use mathlib.Core.Path.{_≡_, refl, sym, _∙_, ap}
+use mathlib.Core.Path.{_∙_, ap}
 use borrow.Author.Needs.{needs}
 use Rattle.keys.proofs.encipher.Statement.{statement}
 use Rattle.keys.proofs.encipher.Tie as tie

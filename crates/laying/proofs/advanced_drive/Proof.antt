@@ -9,8 +9,8 @@ use Rattle.laying.proofs.advanced_drive.Tie as tie
 shape-of-requires : tie.Need-shape-of-requires
 shape-of-requires c κs = search needs
 
-first-node-requires : tie.Need-first-node-requires
-first-node-requires c κs =
+first-requires : tie.Need-first-requires
+first-requires c κs =
     let a = c .before .before .args in
     subst (λ (s : Shape). Lent s (a .vol .now)) (sym (c .shape-of .ensures)) (c .before .before .pre .0)
 
@@ -23,8 +23,8 @@ add-t10 c = search needs
 returns : tie.Need-returns
 returns c =
     let a = c .before .before .before .before .before .before .before .before .args in
-    advanced-is (a .d) (a .vol .now) (c .before .before .before .before .before .before .shape-of .ensures) (c .before .before .before .before .before .first-node .ensures) (c .before .before .before .kept-old .ensures)
+    advanced-is (a .d) (a .vol .now) (c .before .before .before .before .before .before .shape-of .ensures) (c .before .before .before .before .before .first .ensures) (c .before .before .before .kept-old .ensures)
 
 pub advanced-drive-spec : {M : Type 1} → statement M
 advanced-drive-spec =
-    tie.close (tie.spec shape-of-requires first-node-requires kept-old-requires add-t10 returns)
+    tie.close (tie.spec shape-of-requires first-requires kept-old-requires add-t10 returns)

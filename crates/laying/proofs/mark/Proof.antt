@@ -1,9 +1,9 @@
 use Rattle.laying.proofs.ChangeLaws.{read-is, top-not, marked-not, marked-is}
-use Rattle.nuggets.specs.Nugget.{recordOf}
 use mathlib.Core.Path.{sym, _∙_}
 use borrow.Author.Needs.{needs}
 use Rattle.laying.proofs.mark.Statement.{statement}
 use Rattle.laying.proofs.mark.Tie as tie
+use Rattle.tree.specs.Path.{recordOf}
 
 idle-requires : tie.Need-idle-requires
 idle-requires c κs = search needs

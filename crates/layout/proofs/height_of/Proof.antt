@@ -2,7 +2,7 @@ use Rattle.layout.proofs.Height.{height-zeros}
 use Rattle.layout.specs.Shape.{heightOf, heightFrom}
 use native.Mathlib.Nat.{pos-of-ne-zero}
 use native.Mathlib.Omega.{arith}
-use mathlib.Core.Path.{_≡_, sym, refl}
+use mathlib.Core.Path.{refl}
 use borrow.Author.Needs.{needs}
 use Rattle.layout.proofs.height_of.Statement.{statement}
 use Rattle.layout.proofs.height_of.Tie as tie

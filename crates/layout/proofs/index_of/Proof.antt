@@ -1,6 +1,6 @@
 use native.Mathlib.Nat.{mul-le-mul, le-of-lt}
 use native.Mathlib.Omega.{arith}
-use mathlib.Core.Path.{_≡_, refl}
+use mathlib.Core.Path.{refl}
 use borrow.Author.Needs.{needs}
 use Rattle.layout.proofs.index_of.Statement.{statement}
 use Rattle.layout.proofs.index_of.Tie as tie

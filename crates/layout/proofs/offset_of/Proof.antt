@@ -1,10 +1,10 @@
 use native.Mathlib.Nat.{mul-le-mul, le-of-lt}
-use Rattle.layout.specs.Spots.{capacity, spotAt, nowhere, offsetAt}
-use Rattle.layout.proofs.Limits.{Limits, limits, inside, outside, count-le, capacity-le, leaves-le}
+use Rattle.layout.specs.Spots.{offsetAt}
+use Rattle.layout.proofs.Limits.{Limits, limits, inside, outside}
 use Rattle.layout.specs.Shape.{inLimits}
 use native.Mathlib.Omega.{arith}
 use mathlib.Core.Bool.{true}
-use mathlib.Core.Path.{_≡_, sym, refl, _∙_, ap}
+use mathlib.Core.Path.{_≡_, sym, _∙_}
 use borrow.Author.Needs.{needs}
 use Rattle.layout.proofs.offset_of.Statement.{statement}
 use Rattle.layout.proofs.offset_of.Tie as tie

@@ -1,8 +1,8 @@
-use Rattle.layout.proofs.Limits.{Limits, limits, inside, outside, count-le, capacity-le, leaves-le}
+use Rattle.layout.proofs.Limits.{Limits, limits}
 use Rattle.layout.specs.Shape.{inLimits}
 use native.Mathlib.Omega.{arith}
 use mathlib.Core.Bool.{true}
-use mathlib.Core.Path.{_≡_, sym, refl, _∙_, ap}
+use mathlib.Core.Path.{_≡_, sym, refl, _∙_}
 use borrow.Author.Needs.{needs}
 use Rattle.layout.proofs.spot_of.Statement.{statement}
 use Rattle.layout.proofs.spot_of.Tie as tie

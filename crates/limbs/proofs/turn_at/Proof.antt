@@ -6,26 +6,26 @@ use Rattle.limbs.proofs.Quads.{quad-num}
 use Rattle.limbs.proofs.turn_at.Statement.{statement}
 use Rattle.limbs.proofs.turn_at.Tie as tie
 
-word-requires : tie.Need-word-requires
-word-requires c κs = search needs
+load32-requires : tie.Need-load32-requires
+load32-requires c κs = search needs
 
-add-word : tie.Need-add-word
-add-word c = search needs
+add-load32 : tie.Need-add-load32
+add-load32 c = search needs
 
-word-requires-2 : tie.Need-word-requires-2
-word-requires-2 c κs = search needs
+load32-requires-2 : tie.Need-load32-requires-2
+load32-requires-2 c κs = search needs
 
-add-word-2 : tie.Need-add-word-2
-add-word-2 c = search needs
+add-load32-2 : tie.Need-add-load32-2
+add-load32-2 c = search needs
 
-word-requires-3 : tie.Need-word-requires-3
-word-requires-3 c κs = search needs
+load32-requires-3 : tie.Need-load32-requires-3
+load32-requires-3 c κs = search needs
 
-add-word-3 : tie.Need-add-word-3
-add-word-3 c = search needs
+add-load32-3 : tie.Need-add-load32-3
+add-load32-3 c = search needs
 
-word-requires-4 : tie.Need-word-requires-4
-word-requires-4 c κs = search needs
+load32-requires-4 : tie.Need-load32-requires-4
+load32-requires-4 c κs = search needs
 
 join-requires : tie.Need-join-requires
 join-requires c κs = search needs
@@ -44,7 +44,7 @@ returns c = let a = c .before .before .before .before .before .before .before .b
       same =
           c .mul .ensures .same
           ∙ ap (λ (z : ℕ). z * value (a .r) % p) whole
-          ∙ rw (c .before .before .before .before .before .before .word .ensures, c .before .before .before .before .before .word2 .ensures, c .before .before .before .before .word3 .ensures, c .before .before .before .word4 .ensures, number);
+          ∙ rw (c .before .before .before .before .before .before .load32 .ensures, c .before .before .before .before .before .load322 .ensures, c .before .before .before .before .load323 .ensures, c .before .before .before .load324 .ensures, number);
       loose = c .mul .ensures .loose;
     }
 
@@ -52,13 +52,13 @@ pub turn-at-spec : {M : Type 1} → statement M
 turn-at-spec =
     tie.close
     (tie.spec
-    word-requires
-    add-word
-    word-requires-2
-    add-word-2
-    word-requires-3
-    add-word-3
-    word-requires-4
+    load32-requires
+    add-load32
+    load32-requires-2
+    add-load32-2
+    load32-requires-3
+    add-load32-3
+    load32-requires-4
     join-requires
     add-requires
     mul-requires

@@ -4,7 +4,7 @@ use lib.Seq.{sets}
 use lib.ListN.{length, length-set}
 use native.Mathlib.Omega.{arith}
 use mathlib.Core.Path.{_≡_, refl, sym, _∙_}
-use Prim.Native.Nat.{ℕ, _+_, _-_, _^_, _≤_, _<_}
+use Prim.Native.Nat.{_≤_}
 use borrow.Author.Needs.{needs}
 use Rattle.line.proofs.put_digits.Statement.{statement}
 use Rattle.line.proofs.put_digits.Tie as tie

@@ -1,4 +1,4 @@
-use Rattle.line.proofs.PutLaws.{put-then, put-none, decimal-le}
+use Rattle.line.proofs.PutLaws.{put-then, decimal-le}
 use native.Mathlib.Omega.{arith}
 use borrow.Author.Needs.{needs}
 use Rattle.line.proofs.put_place.Statement.{statement}

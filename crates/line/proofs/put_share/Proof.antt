@@ -1,6 +1,6 @@
 use Prim.Native.Nat.{_/_}
 use Rattle.line.specs.Lines.{shareText}
-use Rattle.line.proofs.PutLaws.{put-then, put-none, decimal-le}
+use Rattle.line.proofs.PutLaws.{put-then, decimal-le}
 use native.Mathlib.Omega.{arith}
 use borrow.Author.Needs.{needs}
 use Rattle.line.proofs.put_share.Statement.{statement}

@@ -3,8 +3,8 @@ use Rattle.line.specs.Decimal.{widthIn}
 use lib.Dec.{lit≤}
 use native.Mathlib.Nat.{lt-of-lt-of-le}
 use native.Mathlib.Omega.{arith}
-use mathlib.Core.Path.{_≡_, refl, sym}
-use Prim.Native.Nat.{ℕ, _+_, _-_, _^_, _≤_, _<_}
+use mathlib.Core.Path.{_≡_, refl}
+use Prim.Native.Nat.{_+_, _-_, _^_, _≤_, _<_}
 use borrow.Author.Needs.{needs}
 use Rattle.line.proofs.width.Statement.{statement}
 use Rattle.line.proofs.width.Tie as tie

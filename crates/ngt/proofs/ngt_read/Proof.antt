@@ -2,7 +2,7 @@ use Rattle.ngt.proofs.CallLaws.{tells-by}
 use Rattle.reading.specs.Read.{readAnswer, readBuffer}
 use lib.ListN.{length}
 use Rattle.drive.specs.declared.Drive.{Drive}
-use mathlib.Core.Path.{_≡_, refl, sym, _∙_, ap}
+use mathlib.Core.Path.{_∙_, ap}
 use borrow.Author.Needs.{needs}
 use Rattle.ngt.proofs.ngt_read.Statement.{statement}
 use Rattle.ngt.proofs.ngt_read.Tie as tie

@@ -2,8 +2,8 @@ use Rattle.ngt.specs.Calls.{reportImage}
 use Rattle.drive.specs.declared.Drive.{Drive}
 use Rattle.reports.specs.Report.{reportOf}
 use Rattle.reports.specs.declared.told.Report.{Report}
-use Rattle.ngt.proofs.CallLaws.{tells-by, stored-limits}
-use mathlib.Core.Path.{_≡_, refl, sym, _∙_, ap}
+use Rattle.ngt.proofs.CallLaws.{tells-by}
+use mathlib.Core.Path.{_∙_, ap}
 use borrow.Author.Needs.{needs}
 use Rattle.ngt.proofs.ngt_report.Statement.{statement}
 use Rattle.ngt.proofs.ngt_report.Tie as tie

@@ -1,8 +1,8 @@
 use Rattle.ngt.specs.Calls.{spanOf}
 use Rattle.reports.specs.Stored.{storedAnswer}
 use Rattle.drive.specs.declared.Drive.{Drive}
-use Rattle.ngt.proofs.CallLaws.{tells-by, stored-limits}
-use mathlib.Core.Path.{_≡_, refl, sym, _∙_, ap}
+use Rattle.ngt.proofs.CallLaws.{tells-by}
+use mathlib.Core.Path.{_∙_, ap}
 use borrow.Author.Needs.{needs}
 use Rattle.ngt.proofs.ngt_stored_flake.Statement.{statement}
 use Rattle.ngt.proofs.ngt_stored_flake.Tie as tie

@@ -8,9 +8,9 @@ use Rattle.layout.specs.declared.Shape.{Shape}
 use Rattle.answers.specs.Numbers.{accepts}
 use Rattle.base.proofs.PickLaws.{yes, no}
 use Prim.Native.Nat.{ℕ}
-use mathlib.Core.List.{List, _++_}
-use Rattle.ngt.proofs.CallLaws.{tells-by, stored-limits}
-use mathlib.Core.Path.{_≡_, refl, sym, _∙_, ap}
+use mathlib.Core.List.{_++_}
+use Rattle.ngt.proofs.CallLaws.{stored-limits}
+use mathlib.Core.Path.{refl, sym, _∙_, ap}
 use borrow.Author.Needs.{needs}
 use Rattle.ngt.proofs.span_of.Statement.{statement}
 use Rattle.ngt.proofs.span_of.Tie as tie

@@ -1,5 +1,6 @@
-use Rattle.nuggets.proofs.PieceLaws.{copied, piece-present, piece-absent}
-use Prim.Native.Nat.{ℕ}
+use Rattle.base.proofs.PartLaws.{copied}
+use Rattle.nuggets.proofs.PieceLaws.{piece-present, piece-absent}
+use Prim.Native.Nat.{ℕ, _+_, _≤_}
 use mathlib.Core.List.{List}
 use Rattle.keys.specs.Pads.{padOf}
 use Rattle.words.specs.Xor.{xorl}
@@ -8,9 +9,8 @@ use Rattle.layout.proofs.Limits.{inside, limits, lent-small}
 use Rattle.layout.specs.Parts.{flakeAt}
 use lib.ListN.{length, drop}
 use native.Mathlib.Nat.{mul-le-mul}
-use Prim.Native.Nat.{_+_, _≤_}
 use native.Mathlib.Omega.{arith}
-use mathlib.Core.Path.{_≡_, sym, _∙_, ap}
+use mathlib.Core.Path.{_≡_, refl, sym, _∙_, ap}
 use borrow.Author.Needs.{needs}
 use Rattle.nuggets.proofs.piece.Statement.{statement}
 use Rattle.nuggets.proofs.piece.Tie as tie
@@ -85,7 +85,7 @@ returns c =
     let k = length (a .buf .now) in
     let fits : c .before .before .before .before .before .before .before .before .before .before .flake-at .result + a .b + k ≤ length (a .vol .now) = omega (arith, at, room, c .before .before .before .before .before .before .before .before .before .before .before .before .before .before .before .before .pre .3, lent .size) in
     c .before .before .lay-from .ensures
-    ∙ ap (λ (x : List ℕ). xorl x (drop (a .b) (padOf (a .g .key) (a .g .keycount) (a .f) (s .f)))) (copied (a .vol .now) (a .buf .now) (c .before .before .before .before .before .before .before .before .before .before .flake-at .result + a .b) (c .before .before .before .before .before .before .before .copy .ensures) fits ∙ rw at)
+    ∙ ap (λ (x : List ℕ). xorl x (drop (a .b) (padOf (a .g .key) (a .g .keycount) (a .f) (s .f)))) ((c .before .before .before .before .before .before .before .copy .ensures) ∙ copied (a .buf .now) (a .vol .now) (c .before .before .before .before .before .before .before .before .before .before .flake-at .result + a .b) k refl fits ∙ rw at)
     ∙ piece-present s (a .vol .now) (a .g) (a .f) (a .b) k lent (c .before .before .before .before .before .before .before .before .before .before .before .before .before .before .before .before .pre .1) (c .before .before .before .before .before .before .before .before .before .before .before .before .before .before .before .before .pre .2) (c .before .before .before .before .before .before .before .before .before .before .before .before .before .before .before .before .pre .3) (sym (c .before .before .before .before .before .before .before .before .before .before .before .before .before .has .ensures) ∙ c .before .before .before .before .before .before .before .before .before .before .before .before .if1 .taken)
 
 same-length-2 : tie.Need-same-length-2

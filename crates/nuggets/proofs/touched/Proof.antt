@@ -1,7 +1,6 @@
-use native.Mathlib.Nat.{div-le-self}
+use native.Mathlib.Nat.{div-le-self, le-of-lt, mul-le-mul, mul-le-mul-right}
 use Rattle.nuggets.proofs.TouchLaws.{touched-range, touched-none}
 use Rattle.layout.proofs.Limits.{limits, small}
-use native.Mathlib.Nat.{le-of-lt, mul-le-mul, mul-le-mul-right}
 use native.Mathlib.Omega.{arith}
 use mathlib.Core.Path.{_∙_}
 use borrow.Author.Needs.{needs}

@@ -6,7 +6,7 @@ use Rattle.answers.specs.Numbers.{accepts}
 use Rattle.answers.specs.declared.Answer.{Answer}
 use lib.Seq.{sets}
 use lib.ListN.{length}
-use Prim.Native.Nat.{ℕ, _-_}
+use Prim.Native.Nat.{ℕ}
 use mathlib.Core.List.{List}
 use mathlib.Core.Bool.{true}
 use native.Mathlib.Omega.{arith}

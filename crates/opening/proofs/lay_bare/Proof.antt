@@ -3,8 +3,6 @@ use Rattle.opening.specs.Format.{freshFrom, freshRecord, bare}
 use lib.Seq.{sets}
 use mathlib.Core.List.{List}
 use Rattle.records.specs.Record.{recordBytes}
-use Rattle.opening.proofs.FormatLaws.{fresh-on, fresh-end}
-use Rattle.opening.specs.Format.{freshFrom, bare}
 use Rattle.drive.specs.Drive.{zeros}
 use borrow.Author.Needs.{needs}
 use lib.ListN.{length}

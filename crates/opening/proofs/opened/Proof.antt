@@ -6,8 +6,8 @@ use Rattle.opening.proofs.opened.Tie as tie
 shape-in-requires : tie.Need-shape-in-requires
 shape-in-requires c κs = search needs
 
-first-node-requires : tie.Need-first-node-requires
-first-node-requires c κs = rw (c .shape-in .ensures) (c .before .before .pre)
+first-requires : tie.Need-first-requires
+first-requires c κs = rw (c .shape-in .ensures) (c .before .before .pre)
 
 sixteen-requires : tie.Need-sixteen-requires
 sixteen-requires c κs = search needs
@@ -26,14 +26,14 @@ load-requires c κs = search needs
 
 returns : tie.Need-returns
 unfolding openedDrive
-returns c = rw (c .load .ensures .0, c .before .epoch-in .ensures, c .before .before .kept-old .ensures, c .before .before .before .state-in .ensures, c .before .before .before .before .sixteen .ensures, c .before .before .before .before .before .first-node .ensures, c .before .before .before .before .before .before .shape-in .ensures)
+returns c = rw (c .load .ensures .0, c .before .epoch-in .ensures, c .before .before .kept-old .ensures, c .before .before .before .state-in .ensures, c .before .before .before .before .sixteen .ensures, c .before .before .before .before .before .first .ensures, c .before .before .before .before .before .before .shape-in .ensures)
 
 pub opened-spec : {M : Type 1} → statement M
 opened-spec =
     tie.close
     (tie.spec
     shape-in-requires
-    first-node-requires
+    first-requires
     sixteen-requires
     state-in-requires
     kept-old-requires

@@ -1,6 +1,6 @@
 use Rattle.packed.specs.Image.{numbersImage}
 use Rattle.words.specs.Le.{le}
-use mathlib.Core.Path.{_≡_, refl, sym, _∙_, ap}
+use mathlib.Core.Path.{_∙_}
 use borrow.Author.Needs.{needs}
 use Rattle.packed.proofs.numbers_image.Statement.{statement}
 use Rattle.packed.proofs.numbers_image.Tie as tie

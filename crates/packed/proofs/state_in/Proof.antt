@@ -1,7 +1,7 @@
 use Rattle.drive.specs.declared.State.the-variants.{Changing}
 use Rattle.base.proofs.PickLaws.{yes, no}
-use borrow.Author.Tests.{eq-eqb, ne-eqb, lt-ltb, le-ltb}
-use mathlib.Core.Path.{_≡_, refl, sym, _∙_, ap}
+use borrow.Author.Tests.{eq-eqb, ne-eqb}
+use mathlib.Core.Path.{refl, sym, _∙_, ap}
 use borrow.Author.Needs.{needs}
 use Rattle.packed.proofs.state_in.Statement.{statement}
 use Rattle.packed.proofs.state_in.Tie as tie

@@ -1,8 +1,7 @@
 use Rattle.packed.specs.Image.{driveIn}
-use native.Mathlib.Omega.{arith}
 use Rattle.base.proofs.PickLaws.{yes, no}
-use borrow.Author.Tests.{eq-eqb, ne-eqb, lt-ltb, le-ltb}
-use mathlib.Core.Path.{_≡_, refl, sym, _∙_, ap}
+use borrow.Author.Tests.{lt-ltb, le-ltb}
+use mathlib.Core.Path.{refl, sym, _∙_}
 use borrow.Author.Needs.{needs}
 use Rattle.packed.proofs.unpack.Statement.{statement}
 use Rattle.packed.proofs.unpack.Tie as tie

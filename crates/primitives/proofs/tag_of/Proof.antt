@@ -2,9 +2,10 @@
 use mathlib.Core.Path.{_∙_}
 use borrow.Author.Needs.{needs}
 use Rattle.poly1305.proofs.StateLaws.{start-good}
-use Rattle.primitives.proofs.Laws.{owned-bytes, tag-good, tagged}
+use Rattle.primitives.proofs.Laws.{tag-good, tagged}
 use Rattle.primitives.proofs.tag_of.Statement.{statement}
 use Rattle.primitives.proofs.tag_of.Tie as tie
+use Rattle.words.proofs.LeLaws.{owned-bytes}
 
 start-requires : tie.Need-start-requires
 start-requires c κs = search needs

@@ -3,9 +3,9 @@ use Rattle.layout.specs.Parts.{lengthOf}
 use Rattle.layout.specs.Shape.{inLimits}
 use Rattle.probe.specs.Probes.{lentAnswer}
 use Rattle.base.proofs.PickLaws.{yes, no}
-use borrow.Author.Tests.{eq-eqb, ne-eqb, lt-ltb, le-ltb, le-leb, lt-leb}
-use mathlib.Core.Bool.{true, false}
-use mathlib.Core.Path.{_≡_, refl, sym, _∙_, ap}
+use borrow.Author.Tests.{eq-eqb, ne-eqb}
+use mathlib.Core.Bool.{true}
+use mathlib.Core.Path.{_≡_, refl, sym, _∙_}
 use borrow.Author.Needs.{needs}
 use Rattle.probe.proofs.lent.Statement.{statement}
 use Rattle.probe.proofs.lent.Tie as tie

@@ -1,8 +1,8 @@
 use Rattle.probe.specs.Probes.{renewAnswer}
 use Rattle.answers.specs.Numbers.{accepts}
 use Rattle.base.proofs.PickLaws.{yes, no}
-use borrow.Author.Tests.{eq-eqb, ne-eqb, lt-ltb, le-ltb, le-leb, lt-leb}
-use mathlib.Core.Path.{_≡_, refl, sym, _∙_, ap}
+use borrow.Author.Tests.{lt-ltb, le-ltb}
+use mathlib.Core.Path.{refl, sym, _∙_, ap}
 use borrow.Author.Needs.{needs}
 use Rattle.probe.proofs.lent_nugget.Statement.{statement}
 use Rattle.probe.proofs.lent_nugget.Tie as tie

@@ -1,7 +1,7 @@
 use Rattle.probe.specs.Probes.{laidBytes}
 use Rattle.base.proofs.PickLaws.{yes, no}
-use borrow.Author.Tests.{eq-eqb, ne-eqb, lt-ltb, le-ltb, le-leb, lt-leb}
-use mathlib.Core.Path.{_≡_, refl, sym, _∙_, ap}
+use borrow.Author.Tests.{lt-ltb, le-ltb, le-leb, lt-leb}
+use mathlib.Core.Path.{refl, sym, _∙_}
 use borrow.Author.Needs.{needs}
 use Rattle.probe.proofs.ngt_lay_pad.Statement.{statement}
 use Rattle.probe.proofs.ngt_lay_pad.Tie as tie

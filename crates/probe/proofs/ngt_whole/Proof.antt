@@ -1,5 +1,5 @@
 use Rattle.images.specs.Answers.{answerImage}
-use mathlib.Core.Path.{_≡_, refl, sym, _∙_, ap}
+use mathlib.Core.Path.{_∙_, ap}
 use borrow.Author.Needs.{needs}
 use Rattle.probe.proofs.ngt_whole.Statement.{statement}
 use Rattle.probe.proofs.ngt_whole.Tie as tie

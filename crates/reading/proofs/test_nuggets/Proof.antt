@@ -1,6 +1,6 @@
-use Rattle.reading.proofs.AnswerLaws.{spot-is, nuggets-some, nuggets-none}
+use Rattle.reading.proofs.AnswerLaws.{nuggets-some, nuggets-none}
 use Rattle.drive.specs.Drive.{shapeOf}
-use Rattle.layout.proofs.Places.{spot-inside}
+use Rattle.layout.proofs.Places.{spot-inside, spot-is}
 use Rattle.layout.proofs.Limits.{limits}
 use Rattle.layout.specs.Spots.{spotAt}
 use Rattle.layout.specs.declared.Spot.{Spot}
@@ -37,7 +37,7 @@ cast-test-span c =
     let lent = c .before .before .before .before .before .before .pre .0 in
     let m = limits (shapeOf d) (lent .limited) in
     let some : 0 < a .len = pos-of-ne-zero (c .before .before .before .before .if1 .left) in
-    let first : c .before .before .spot-of .result ≡ spotAt (shapeOf d) (a .o) = spot-is d (a .o) (c .before .before .spot-of .ensures) (c .before .before .before .shape-of .ensures) (lent .limited) in
+    let first : c .before .before .spot-of .result ≡ spotAt (shapeOf d) (a .o) = spot-is (shapeOf d) (a .o) (c .before .before .spot-of .ensures) (c .before .before .before .shape-of .ensures) (lent .limited) in
     let f = spot-inside (shapeOf d) (a .o) (m .flakes) (omega (arith, m .wide)) (omega (arith, some, c .before .before .before .before .before .before .pre .1)) in
     let fe = ap (λ (x : Spot). x .nugget) first in
     omega (arith, fe, f .nugget-is, m .few)
@@ -49,7 +49,7 @@ add-test-span c =
     let lent = c .before .before .before .before .before .before .before .pre .0 in
     let m = limits (shapeOf d) (lent .limited) in
     let some : 0 < a .len = pos-of-ne-zero (c .before .before .before .before .before .if1 .left) in
-    let last : c .before .before .spot-of2 .result ≡ spotAt (shapeOf d) (a .o + (a .len - 1)) = spot-is d (a .o + (a .len - 1)) (c .before .before .spot-of2 .ensures) (c .before .before .before .before .shape-of .ensures) (lent .limited) in
+    let last : c .before .before .spot-of2 .result ≡ spotAt (shapeOf d) (a .o + (a .len - 1)) = spot-is (shapeOf d) (a .o + (a .len - 1)) (c .before .before .spot-of2 .ensures) (c .before .before .before .before .shape-of .ensures) (lent .limited) in
     let t = spot-inside (shapeOf d) (a .o + (a .len - 1)) (m .flakes) (omega (arith, m .wide)) (omega (arith, some, c .before .before .before .before .before .before .before .pre .1)) in
     let te = ap (λ (x : Spot). x .nugget) last in
     omega (arith, te, t .nugget-is, m .few)
@@ -61,7 +61,7 @@ cast-test-span-2 c =
     let lent = c .before .before .before .before .before .before .before .pre .0 in
     let m = limits (shapeOf d) (lent .limited) in
     let some : 0 < a .len = pos-of-ne-zero (c .before .before .before .before .before .if1 .left) in
-    let last : c .before .before .spot-of2 .result ≡ spotAt (shapeOf d) (a .o + (a .len - 1)) = spot-is d (a .o + (a .len - 1)) (c .before .before .spot-of2 .ensures) (c .before .before .before .before .shape-of .ensures) (lent .limited) in
+    let last : c .before .before .spot-of2 .result ≡ spotAt (shapeOf d) (a .o + (a .len - 1)) = spot-is (shapeOf d) (a .o + (a .len - 1)) (c .before .before .spot-of2 .ensures) (c .before .before .before .before .shape-of .ensures) (lent .limited) in
     let t = spot-inside (shapeOf d) (a .o + (a .len - 1)) (m .flakes) (omega (arith, m .wide)) (omega (arith, some, c .before .before .before .before .before .before .before .pre .1)) in
     let te = ap (λ (x : Spot). x .nugget) last in
     omega (arith, te, t .nugget-is, m .few)
@@ -73,7 +73,7 @@ test-span-requires c κs =
     let lent = c .before .before .before .before .before .before .before .pre .0 in
     let m = limits (shapeOf d) (lent .limited) in
     let some : 0 < a .len = pos-of-ne-zero (c .before .before .before .before .before .if1 .left) in
-    let last : c .before .before .spot-of2 .result ≡ spotAt (shapeOf d) (a .o + (a .len - 1)) = spot-is d (a .o + (a .len - 1)) (c .before .before .spot-of2 .ensures) (c .before .before .before .before .shape-of .ensures) (lent .limited) in
+    let last : c .before .before .spot-of2 .result ≡ spotAt (shapeOf d) (a .o + (a .len - 1)) = spot-is (shapeOf d) (a .o + (a .len - 1)) (c .before .before .spot-of2 .ensures) (c .before .before .before .before .shape-of .ensures) (lent .limited) in
     let t = spot-inside (shapeOf d) (a .o + (a .len - 1)) (m .flakes) (omega (arith, m .wide)) (omega (arith, some, c .before .before .before .before .before .before .before .pre .1)) in
     let te = ap (λ (x : Spot). x .nugget) last in
     (lent, some, c .before .before .before .before .before .before .before .pre .1, omega (arith, te, t .nugget-is))
@@ -84,8 +84,8 @@ returns-2 c =
     let d = a .d in
     let lent = c .before .before .before .before .before .before .before .before .pre .0 in
     let some : 0 < a .len = pos-of-ne-zero (c .before .before .before .before .before .before .if1 .left) in
-    let first : c .before .before .before .before .spot-of .result ≡ spotAt (shapeOf d) (a .o) = spot-is d (a .o) (c .before .before .before .before .spot-of .ensures) (c .before .before .before .before .before .shape-of .ensures) (lent .limited) in
-    let last : c .before .before .before .spot-of2 .result ≡ spotAt (shapeOf d) (a .o + (a .len - 1)) = spot-is d (a .o + (a .len - 1)) (c .before .before .before .spot-of2 .ensures) (c .before .before .before .before .before .shape-of .ensures) (lent .limited) in
+    let first : c .before .before .before .before .spot-of .result ≡ spotAt (shapeOf d) (a .o) = spot-is (shapeOf d) (a .o) (c .before .before .before .before .spot-of .ensures) (c .before .before .before .before .before .shape-of .ensures) (lent .limited) in
+    let last : c .before .before .before .spot-of2 .result ≡ spotAt (shapeOf d) (a .o + (a .len - 1)) = spot-is (shapeOf d) (a .o + (a .len - 1)) (c .before .before .before .spot-of2 .ensures) (c .before .before .before .before .before .shape-of .ensures) (lent .limited) in
     nuggets-some d (a .vol .now) (a .o) (a .len) some first last (c .test-span .ensures)
 
 pub test-nuggets-spec : {M : Type 1} → statement M

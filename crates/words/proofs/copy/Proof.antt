@@ -1,13 +1,11 @@
 use native.Mathlib.Nat.{add-zero}
-use lib.ListN.{length-set}
+use lib.ListN.{length-set, length, drop}
 use Rattle.base.proofs.PartLaws.{sets-next, sets-done}
 use borrow.Author.Needs.{needs}
-use Prim.Native.Nat.{_≤_, _<_, _-_, _+_, ℕ}
+use Prim.Native.Nat.{_≤_, _-_, _+_, ℕ}
 use mathlib.Core.Path.{_≡_, refl, ap, sym, _∙_}
-use mathlib.Core.List.{_++_}
 use native.Mathlib.Omega.{arith}
-use lib.ListN.{length, getD, drop}
-use lib.Seq.{sets, length-sets, drop-cons}
+use lib.Seq.{sets}
 use Rattle.words.proofs.copy.Statement.{statement}
 use Rattle.words.proofs.copy.Tie as tie
 

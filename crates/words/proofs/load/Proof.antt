@@ -3,9 +3,9 @@ use lib.Dec.{lit<}
 use Rattle.words.proofs.LeLaws.{num-down, num-none, down-lt, down-fits}
 use borrow.Author.Needs.{needs}
 use Prim.Native.Nat.{_≤_, _<_, _-_, _+_, _*_, _^_, ℕ}
-use mathlib.Core.Path.{_≡_, refl, ap, sym, _∙_}
+use mathlib.Core.Path.{_≡_, ap, _∙_}
 use native.Mathlib.Omega.{arith}
-use lib.ListN.{length, getD, drop}
+use lib.ListN.{getD}
 use Rattle.base.specs.Lists.{part}
 use Rattle.words.specs.Le.{num}
 use Rattle.words.proofs.load.Statement.{statement}

@@ -1,12 +1,11 @@
 use native.Mathlib.Nat.{add-zero, sub-zero}
-use lib.ListN.{length-set}
+use lib.ListN.{length-set, length}
 use Rattle.words.proofs.LeLaws.{sets-le-next, sets-le-done}
 use borrow.Author.Needs.{needs}
-use Prim.Native.Nat.{_≤_, _<_, _-_, _+_, ℕ}
-use mathlib.Core.Path.{_≡_, refl, ap, ap₂, sym, _∙_}
+use Prim.Native.Nat.{_≤_, _-_, _+_, ℕ}
+use mathlib.Core.Path.{_≡_, refl, ap₂, sym, _∙_}
 use native.Mathlib.Omega.{arith}
-use lib.ListN.{length, getD, drop}
-use lib.Seq.{sets, length-sets}
+use lib.Seq.{sets}
 use Rattle.words.specs.Le.{le}
 use Rattle.words.proofs.store.Statement.{statement}
 use Rattle.words.proofs.store.Tie as tie

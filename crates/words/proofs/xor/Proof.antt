@@ -1,10 +1,9 @@
-use lib.ListN.{length-set}
+use lib.ListN.{length-set, length, getD, drop}
 use borrow.Author.Needs.{needs}
-use Prim.Native.Nat.{_≤_, _<_, _-_, _+_, ℕ}
+use Prim.Native.Nat.{_≤_, _<_, _-_, ℕ}
 use mathlib.Core.Path.{_≡_, refl, ap, sym, _∙_}
 use mathlib.Core.List.{_++_}
 use native.Mathlib.Omega.{arith}
-use lib.ListN.{length, getD, drop}
 use lib.Bits.{bitXor}
 use Rattle.base.specs.Lists.{tab}
 use Rattle.base.proofs.TabLaws.{tab-none, tab-more, tab-next, tab-all}

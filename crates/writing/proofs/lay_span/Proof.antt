@@ -9,9 +9,9 @@ use native.Mathlib.Omega.{arith}
 use mathlib.Core.Path.{_≡_, refl, sym, _∙_, ap}
 use borrow.Author.Needs.{needs}
 use Rattle.writing.proofs.StoreLaws.{room-told, laidTo, laidTo-record, laid-start, laid-turn, laid-end}
-use Rattle.nuggets.specs.Nugget.{recordOf}
 use Rattle.writing.proofs.lay_span.Statement.{statement}
 use Rattle.writing.proofs.lay_span.Tie as tie
+use Rattle.tree.specs.Path.{recordOf}
 
 abbrev Inv-loop : tie.InvT-loop
 Inv-loop d vol₀ o bytes span n₀ vol n = (n ≤ d .n) × Lent (shapeOf d) vol × (length vol ≡ length vol₀) × (vol ≡ laidTo d vol₀ o bytes n)

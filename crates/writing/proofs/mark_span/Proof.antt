@@ -9,9 +9,9 @@ use native.Mathlib.Omega.{arith}
 use mathlib.Core.Path.{_≡_, refl, sym, _∙_, ap}
 use borrow.Author.Needs.{needs}
 use Rattle.writing.proofs.StoreLaws.{room-told, marksTo, marks-record, mark-start, mark-turn, mark-end}
-use Rattle.nuggets.specs.Nugget.{recordOf}
 use Rattle.writing.proofs.mark_span.Statement.{statement}
 use Rattle.writing.proofs.mark_span.Tie as tie
+use Rattle.tree.specs.Path.{recordOf}
 
 abbrev Inv-loop : tie.InvT-loop
 Inv-loop d vol₀ o len span n₀ vol n = (n ≤ d .n) × Lent (shapeOf d) vol × (length vol ≡ length vol₀) × (vol ≡ marksTo d vol₀ o len n)

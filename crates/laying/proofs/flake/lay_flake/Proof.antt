@@ -1,5 +1,5 @@
-use Rattle.laying.proofs.FlakeLaws.{placed, flake-room, tag-room, offset-room, flake-laid}
-use Rattle.layout.proofs.Limits.{limits, capacity-le}
+use Rattle.laying.proofs.FlakeLaws.{flake-room, tag-room, offset-room, flake-laid}
+use Rattle.layout.proofs.Limits.{limits, capacity-le, placed}
 use Rattle.layout.specs.Parts.{flakeAt, tagAt}
 use Rattle.layout.specs.Spots.{offsetAt}
 use borrow.Rule.Slice.PartMut.{midOf, mid-len}

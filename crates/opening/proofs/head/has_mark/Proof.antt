@@ -1,7 +1,7 @@
 use Rattle.opening.specs.Mount.{marked}
 use lib.Dec.{eqb}
 use Rattle.base.proofs.PickLaws.{both-on, both-off}
-use Prim.Native.Nat.{ℕ, _-_}
+use Prim.Native.Nat.{ℕ}
 use mathlib.Core.Path.{refl, sym, _∙_, ap}
 use borrow.Author.Needs.{needs}
 use Rattle.opening.proofs.head.has_mark.Statement.{statement}

@@ -5,7 +5,7 @@ use Rattle.layout.specs.Shape.{inLimits}
 use Rattle.layout.specs.declared.Shape.{Shape}
 use Rattle.base.proofs.PickLaws.{both-on, both-off}
 use borrow.Author.Tests.{le-leb, lt-leb}
-use Prim.Native.Nat.{ℕ, _-_}
+use Prim.Native.Nat.{ℕ}
 use native.Mathlib.Omega.{arith}
 use mathlib.Core.Path.{refl, sym, _∙_, ap, ap₂}
 use borrow.Author.Needs.{needs}

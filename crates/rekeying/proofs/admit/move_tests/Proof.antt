@@ -1,6 +1,6 @@
 use Rattle.rekeying.specs.Stages.{moveTests}
 use Rattle.nuggets.specs.declared.Nugget.{Nugget}
-use Rattle.nuggets.specs.Nugget.{recordOf, nuggetOf}
+use Rattle.nuggets.specs.Nugget.{nuggetOf}
 use Rattle.nuggets.specs.Tests.{flakesIn}
 use Rattle.records.specs.declared.Record.{Record}
 use Rattle.records.specs.Record.{recordIn}
@@ -14,6 +14,7 @@ use mathlib.Core.Path.{_≡_, refl, sym, _∙_, ap}
 use borrow.Author.Needs.{needs}
 use Rattle.rekeying.proofs.admit.move_tests.Statement.{statement}
 use Rattle.rekeying.proofs.admit.move_tests.Tie as tie
+use Rattle.tree.specs.Path.{recordOf}
 
 record-at-requires : tie.Need-record-at-requires
 record-at-requires c κs = search needs

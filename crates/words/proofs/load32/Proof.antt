@@ -1,8 +1,8 @@
 use borrow.Author.Needs.{needs}
 use mathlib.Core.Path.{_∙_}
-use Rattle.limbs.proofs.Quads.{four-num}
-use Rattle.limbs.proofs.word.Statement.{statement}
-use Rattle.limbs.proofs.word.Tie as tie
+use Rattle.words.proofs.LeLaws.{four-num}
+use Rattle.words.proofs.load32.Statement.{statement}
+use Rattle.words.proofs.load32.Tie as tie
 
 shared-slice-read-four : tie.Need-shared-slice-read-four
 shared-slice-read-four c = search needs
@@ -29,10 +29,10 @@ four-requires : tie.Need-four-requires
 four-requires c κs = search needs
 
 returns : tie.Need-returns
-returns c = c .four .ensures ∙ four-num (c .before .before .before .before .before .before .args .m .now) (c .before .before .before .before .before .before .args .at) (c .before .before .before .before .before .before .pre)
+returns c = c .four .ensures ∙ four-num (c .before .before .before .before .before .before .args .s .now) (c .before .before .before .before .before .before .args .at) (c .before .before .before .before .before .before .pre)
 
-pub word-spec : {M : Type 1} → statement M
-word-spec =
+pub load32-spec : {M : Type 1} → statement M
+load32-spec =
     tie.close
     (tie.spec
     shared-slice-read-four

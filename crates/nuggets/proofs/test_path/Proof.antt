@@ -1,7 +1,7 @@
 use mathlib.Core.Path.{_∙_}
 use borrow.Author.Needs.{needs}
-use Rattle.writing.proofs.test_path.Statement.{statement}
-use Rattle.writing.proofs.test_path.Tie as tie
+use Rattle.nuggets.proofs.test_path.Statement.{statement}
+use Rattle.nuggets.proofs.test_path.Tie as tie
 
 shape-of-requires : tie.Need-shape-of-requires
 shape-of-requires c κs = search needs

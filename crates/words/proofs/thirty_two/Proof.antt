@@ -1,8 +1,7 @@
-use Rattle.packed.proofs.PieceLaws.{three-pieces, four-pieces}
-use mathlib.Core.Path.{_≡_, refl, sym, _∙_, ap}
+use mathlib.Core.Path.{refl, _∙_}
 use borrow.Author.Needs.{needs}
-use Rattle.packed.proofs.sixteen.Statement.{statement}
-use Rattle.packed.proofs.sixteen.Tie as tie
+use Rattle.words.proofs.thirty_two.Statement.{statement}
+use Rattle.words.proofs.thirty_two.Tie as tie
 use Rattle.base.proofs.PartLaws.{copied}
 
 add-end : tie.Need-add-end
@@ -24,10 +23,10 @@ copy-requires : tie.Need-copy-requires
 copy-requires c κs = search needs
 
 returns : tie.Need-returns
-returns c = c .before .copy .ensures ∙ copied _ (c .before .before .before .before .before .args .image .now) (c .before .before .before .before .before .args .at) 16 refl (c .before .before .before .before .before .pre)
+returns c = c .before .copy .ensures ∙ copied _ (c .before .before .before .before .before .args .s .now) (c .before .before .before .before .before .args .at) 32 refl (c .before .before .before .before .before .pre)
 
-pub sixteen-spec : {M : Type 1} → statement M
-sixteen-spec =
+pub thirty-two-spec : {M : Type 1} → statement M
+thirty-two-spec =
     tie.close
     (tie.spec
     add-end

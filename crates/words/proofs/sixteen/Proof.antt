@@ -1,8 +1,8 @@
-use Rattle.opening.proofs.Laws.{copied}
 use mathlib.Core.Path.{refl, _∙_}
 use borrow.Author.Needs.{needs}
-use Rattle.opening.proofs.sixteen.Statement.{statement}
-use Rattle.opening.proofs.sixteen.Tie as tie
+use Rattle.words.proofs.sixteen.Statement.{statement}
+use Rattle.words.proofs.sixteen.Tie as tie
+use Rattle.base.proofs.PartLaws.{copied}
 
 add-end : tie.Need-add-end
 add-end c = search needs
@@ -23,7 +23,7 @@ copy-requires : tie.Need-copy-requires
 copy-requires c κs = search needs
 
 returns : tie.Need-returns
-returns c = let a = c .before .before .before .before .before .args in c .before .copy .ensures ∙ copied (a .vol .now) _ (a .at) (a .at) 16 refl refl (c .before .before .before .before .before .pre)
+returns c = c .before .copy .ensures ∙ copied _ (c .before .before .before .before .before .args .s .now) (c .before .before .before .before .before .args .at) 16 refl (c .before .before .before .before .before .pre)
 
 pub sixteen-spec : {M : Type 1} → statement M
 sixteen-spec =
