@@ -3,7 +3,6 @@
 mod flake;
 
 use drive::Drive;
-use drive::State;
 use layout::Shape;
 use records::Way;
 ghost use mathlib.Core.Path.{_≡_};
