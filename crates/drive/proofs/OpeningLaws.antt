@@ -1,16 +1,18 @@
 -- What an accepted opening says of drive and volume.
 use mathlib.Core.Path.{_≡_, refl}
-use mathlib.Core.Bool.{true}
+use mathlib.Core.Bool.{true, false}
 use mathlib.Core.List.{List}
 use Prim.Native.Nat.{ℕ}
 use borrow.Author.Tests.{eqb-true}
 use lib.Dec.{eqb}
 use lib.ListN.{length}
+use Rattle.base.proofs.PickLaws.{no}
+use Rattle.layout.specs.Shape.{inLimits}
 use Rattle.layout.specs.Parts.{lengthOf}
 use Rattle.answers.specs.declared.Answer.the-variants as A
 use Rattle.answers.specs.Numbers.{accepts}
 use Rattle.drive.specs.declared.Drive.{Drive}
-use Rattle.drive.specs.Drive.{shapeOf}
+use Rattle.drive.specs.Drive.{shapeOf, blankDrive}
 use Rattle.drive.specs.Opening.{inForm, openingOf, headStands}
 use Rattle.drive.proofs.HeadLaws.{form-limits}
 use Rattle.layout.specs.Lent.{Lent}
@@ -35,3 +37,12 @@ pub opening-lent : (d : Drive) (v : List ℕ) → accepts (openingOf d v) ≡ tr
 opening-lent d v e =
     let t = opening-told d v (accepted-is (openingOf d v) e) in
     record { limited = form-limits d (t .form); size = t .long }
+
+-- "every later call on it gives 1": the blank drive is out of limits, and each call starts with that test
+pub blank-form : inForm blankDrive ≡ false
+unfolding inForm inLimits blankDrive
+blank-form = refl
+
+pub blank-limits : (v : List ℕ) → openingOf blankDrive v ≡ A.Limits
+unfolding openingOf
+blank-limits v = no _ blank-form refl
