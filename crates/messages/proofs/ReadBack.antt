@@ -1,0 +1,59 @@
+-- A message is read back from its bytes, so no two have the same.
+use mathlib.Core.Path.{_≡_, refl, sym, ap, ap₂, _∙_}
+use mathlib.Core.List.{List, [], _∷_, _++_}
+use Prim.Native.Nat.{ℕ, _^_, _<_}
+use lib.Dec.{eqb}
+use lib.ListN.{length, take, drop}
+use lib.Seq.{take-append-seam, drop-append-seam}
+use Rattle.base.specs.Pick.{pick}
+use Rattle.words.specs.Le.{num, le}
+use Rattle.words.proofs.LeLaws.{num-le, length-le}
+use Rattle.messages.specs.Messages.{letterN, letterF, letterO, letterH, letterL, nuggetMessage, tagMessage}
+use Rattle.messages.specs.OneMessage.{Message, forNugget, forTag, forCheck, forSeal, forLeaf, forInner, bytesOf, Wide, OneMessage}
+
+-- the first k bytes, and those behind them
+front : (k : ℕ) (a b : List ℕ) → length a ≡ k → take k (a ++ b) ≡ a
+front k a b e = rw (← e) (take-append-seam a b)
+
+rest : (k : ℕ) (a b : List ℕ) → length a ≡ k → drop k (a ++ b) ≡ b
+rest k a b e = rw (← e) (drop-append-seam a b)
+
+-- by the letter, and then by the widths
+told : ℕ → List ℕ → Message
+told letter l =
+    pick (eqb letter letterN) (forNugget (take 16 l) (num (drop 16 l)))
+    (pick (eqb letter letterF) (forTag (num (take 2 l)) (num (drop 2 l)))
+    (pick (eqb letter letterO) (forCheck (take 16 l) (num (drop 16 l)))
+    (pick (eqb letter letterH) (forSeal (take 72 l) (drop 72 l))
+    (pick (eqb letter letterL) (forLeaf (num (take 4 l)) (take 18 (drop 4 l)) (drop 18 (drop 4 l)))
+    (forInner (take 32 l) (drop 32 l))))))
+
+readBack : List ℕ → Message
+readBack [] = forInner [] []
+readBack (letter ∷ l) = told letter l
+
+read-back : (m : Message) → Wide m → readBack (bytesOf m) ≡ m
+unfolding Wide bytesOf readBack told
+read-back (forNugget salt n) w = ap₂ forNugget (front 16 salt (le 4 n) (w .0)) (ap num (rest 16 salt (le 4 n) (w .0)) ∙ num-le 4 n (w .1))
+read-back (forTag f k) w =
+    ap₂ forTag (ap num (front 2 (le 2 f) (le 8 k) (length-le 2 f)) ∙ num-le 2 f (w .0)) (ap num (rest 2 (le 2 f) (le 8 k) (length-le 2 f)) ∙ num-le 8 k (w .1))
+read-back (forCheck salt epoch) w = ap₂ forCheck (front 16 salt (le 2 epoch) (w .0)) (ap num (rest 16 salt (le 2 epoch) (w .0)) ∙ num-le 2 epoch (w .1))
+read-back (forSeal head node) w = ap₂ forSeal (front 72 head node w) (rest 72 head node w)
+read-back (forLeaf n bytes tags) w =
+    let after = rest 4 (le 4 n) (bytes ++ tags) (length-le 4 n) in
+    rw (front 4 (le 4 n) (bytes ++ tags) (length-le 4 n), num-le 4 n (w .0), after, front 18 bytes tags (w .1), rest 18 bytes tags (w .1)) refl
+read-back (forInner left right) w = ap₂ forInner (front 32 left right w) (rest 32 left right w)
+
+pub one-message : OneMessage
+one-message a b wa wb e = sym (read-back a wa) ∙ ap readBack e ∙ read-back b wb
+
+-- so the nugget is told by a nugget key's message, and flake and keycount by a tag key's
+pub nugget-told : (salt : List ℕ) (n m : ℕ) → length salt ≡ 16 → n < 2 ^ 32 → m < 2 ^ 32 → nuggetMessage salt n ≡ nuggetMessage salt m → n ≡ m
+unfolding Wide bytesOf
+nugget-told salt n m long a b e =
+    let one : forNugget salt n ≡ forNugget salt m = one-message (forNugget salt n) (forNugget salt m) (long, a) (long, b) e in cc
+
+pub tag-told : (f g k l : ℕ) → f < 2 ^ 16 → g < 2 ^ 16 → k < 2 ^ 64 → l < 2 ^ 64 → tagMessage f k ≡ tagMessage g l → (f ≡ g) × (k ≡ l)
+unfolding Wide bytesOf
+tag-told f g k l a b c d e =
+    let one : forTag f k ≡ forTag g l = one-message (forTag f k) (forTag g l) (a, c) (b, d) e in (cc, cc)
