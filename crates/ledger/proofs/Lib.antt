@@ -6,3 +6,4 @@ pub mod TurnLaws
 pub mod StepLaws
 pub mod CalmLaws
 pub mod Theorems
+pub mod OnwardLaws

@@ -3,3 +3,4 @@ pub mod Totals
 pub mod Ledger
 pub mod Invariant
 pub mod Step
+pub mod Onward
