@@ -24,13 +24,14 @@ use Rattle.ledger.specs.Totals.{risen}
 use Rattle.ledger.specs.Ledger.{Ledger}
 use Rattle.ledger.specs.Step.{Fits, Step}
 use Rattle.ledger.proofs.StepLaws.{keeps}
+use Rattle.ledger.proofs.OnwardLaws.{onward-step}
 use Rattle.history.specs.World.{World}
 use Rattle.history.specs.Step.{left}
 use Rattle.history.specs.Demands.{plainIn}
 use Rattle.history.proofs.Quiet.{untouched-lent}
 use Rattle.history.proofs.View.{kitOf, viewOf, ledgerOf}
 use Rattle.history.proofs.After.{Due, record-after, put-after, kept-after, untouched-after}
-use Rattle.history.proofs.Sound.{Sound, counter-room}
+use Rattle.history.proofs.Sound.{Sound, Keeps, counter-room}
 use Rattle.records.proofs.RuleLaws.{formed-journal, formed-epoch}
 use Rattle.tree.specs.Path.{recordOf}
 
@@ -128,18 +129,21 @@ module _ (w : World) (x : Sound w) (way : ℕ → Way) (new : ℕ → ℕ → Li
           untouched = r .rest;
         }
 
-    pub worked-sound : Sound (left w (advanced d (worked d v way new)) (settled (advanced d (worked d v way new)) (worked d v way new)) (padsFor d v way) (w .secret) (w .old) after)
+    pub worked-keeps : Keeps w (left w (advanced d (worked d v way new)) (settled (advanced d (worked d v way new)) (worked d v way new)) (padsFor d v way) (w .secret) (w .old) after)
     unfolding left after-work advanced
-    worked-sound =
+    worked-keeps =
         record {
-          untouched = untouched-after d v way new due;
-          handed = record {
-            epoch-lt = x .handed .epoch-lt;
-            counter-lt = counter-room (d .counter) (x .handed .counter-lt) (r .low);
-            salt-long = x .handed .salt-long;
-            kept = kept-again (d .state) (w .old) (d .old) (x .handed .kept);
+          sound = record {
+            untouched = untouched-after d v way new due;
+            handed = record {
+              epoch-lt = x .handed .epoch-lt;
+              counter-lt = counter-room (d .counter) (x .handed .counter-lt) (r .low);
+              salt-long = x .handed .salt-long;
+              kept = kept-again (d .state) (w .old) (d .old) (x .handed .kept);
+            };
+            present = x .present;
+            counter = refl;
+            inv = keeps (kitOf d) way (ledgerOf w) after-work (x .inv) moves;
           };
-          present = x .present;
-          counter = refl;
-          inv = keeps (kitOf d) way (ledgerOf w) after-work (x .inv) moves;
+          onward = onward-step (kitOf d) way (ledgerOf w) after-work moves;
         }

@@ -31,7 +31,7 @@ either-base : (b : Bool) (new old : Drive) → baseOf new ≡ baseOf old → bas
 either-base true new old e = e
 either-base false new old e = refl
 
-step-base : (w : World) (c : Call) → Sound w → baseOf (step w c .drive) ≡ baseOf (w .drive)
+pub step-base : (w : World) (c : Call) → Sound w → baseOf (step w c .drive) ≡ baseOf (w .drive)
 unfolding step left writeDone beginDone sweepDone finishDone advanced begunDrive finishedDrive
 step-base w (mount any) x = ap (λ (u : World). baseOf (u .drive)) (mount-same w x any)
 step-base w (read o buffer) x = refl

@@ -1,38 +1,42 @@
 -- The demands, read off what stays true through every history.
 use mathlib.Core.Path.{_≡_, refl, ap, _∙_}
+use mathlib.Core.Bool.{true}
 use mathlib.Core.Logic.{inl}
 use mathlib.Core.List.{List, _∷_, _++_}
-use mathlib.Core.Option.{some}
-use Prim.Native.Nat.{ℕ, zero, suc, _+_, _/_, _<_}
+use Prim.Native.Nat.{ℕ, zero, suc, _+_, _<_}
 use native.Mathlib.Omega.{arith}
-use lib.ListN.{length, getD, getElem?}
+use lib.ListN.{length, getD}
+use Rattle.base.specs.Lists.{part}
 use Rattle.base.proofs.PickLaws.{yes}
+use Rattle.base.proofs.FoldLaws.{same-true}
 use Rattle.base.proofs.TabLaws.{getD-tab, tab-ext}
 use Rattle.answers.specs.Numbers.{accepts}
 use Rattle.layout.specs.declared.Shape.{Shape}
+use Rattle.layout.specs.Parts.{tagAt}
 use Rattle.layout.specs.Spots.{spotAt, offsetAt, capacity}
 use Rattle.layout.proofs.Limits.{limits}
 use Rattle.layout.proofs.Places.{offset-spot, spot-inside}
-use Rattle.records.specs.Listing.{Entry}
-use Rattle.keys.specs.Pads.{Size, Stretch, Lies}
-use Rattle.keys.proofs.Stretches.{no-stretch-twice as stretches-apart}
+use Rattle.records.specs.Journal.{bit}
+use Rattle.poly1305.specs.Poly1305.{poly1305}
+use Rattle.keys.specs.Keys.{nuggetKey, tagKey}
+use Rattle.keys.specs.Tags.{covered, tagOf}
 use Rattle.drive.specs.declared.Done.{Done}
 use Rattle.drive.specs.Drive.{shapeOf}
-use Rattle.nuggets.specs.Nugget.{byteOf}
+use Rattle.nuggets.specs.Nugget.{secretFor, keyFor, storedIn, byteOf}
+use Rattle.nuggets.specs.Tests.{goodFlake}
 use Rattle.reading.specs.Read.{readBuffer}
 use Rattle.reading.proofs.AnswerLaws.{read-lent}
 use Rattle.reports.specs.Counts.{flakesIn}
 use Rattle.reports.proofs.ReportLaws.{report-accepted, report-full}
 use Rattle.opening.specs.Format.{freshDrive, formatDone}
 use Rattle.opening.specs.Mount.{mountDone}
-use Rattle.ledger.specs.Listing.{Alike, NoneTwice}
 use Rattle.ledger.specs.Totals.{sum, presentIn}
-use Rattle.ledger.specs.Ledger.{entryAt}
-use Rattle.ledger.proofs.Theorems.{no-entry-twice as none-twice-in, entry-lies, entry-below}
+use Rattle.ledger.specs.Ledger.{secretAt, entryAt}
+use Rattle.ledger.proofs.Theorems.{no-entry-twice as none-twice-in}
 use Rattle.history.specs.World.{World, Call, mount, read, write, begin, sweep, finish, report, stored}
 use Rattle.history.specs.Step.{answerTo, step}
 use Rattle.history.specs.History.{Start, begun, run, history}
-use Rattle.history.specs.Demands.{ShapeKept, ReadsBack, WrittenLast, NeverWritten, NoEntryTwice, NoStretchTwice, stretchOf, EntriesListed, plainIn, UnderLastPad, StaleNeverMounts, NoFalseAlarm, MountsBack, ReportTells, ShareFull}
+use Rattle.history.specs.Demands.{ShapeKept, ReadsBack, WrittenLast, NeverWritten, NoEntryTwice, EntriesListed, plainIn, UnderLastPad, StaleNeverMounts, NoFalseAlarm, MountsBack, ReportTells, ShareFull}
 use Rattle.history.proofs.Quiet.{Quiet, untouched-lent, read-quiet, report-accepts, stored-quiet, write-quiet, begin-quiet, sweep-quiet, finish-quiet}
 use Rattle.history.proofs.View.{kitOf, ledgerOf, secret-seen, reads-plain}
 use Rattle.history.proofs.Sound.{Sound}
@@ -85,26 +89,6 @@ never-written x calls a off = run-kept a (begun x) calls off
 pub no-entry-twice : NoEntryTwice
 no-entry-twice x calls = let w = history x calls in none-twice-in (kitOf (w .drive)) (ledgerOf w) (sound x calls .inv)
 
--- a stretch of a listed entry is one that there is
-stretch-lies : (w : World) → Sound w → (i j : ℕ) (e : Entry) → getElem? (w .listing) i ≡ some e → j < w .drive .f / 64 → Lies (w .drive .f) (stretchOf e j)
-stretch-lies w x i j e at h =
-    let ok = limits (shapeOf (w .drive)) (untouched-lent (w .drive) (w .vol) (x .untouched) .limited) in
-    let lies = entry-lies (kitOf (w .drive)) (ledgerOf w) (x .inv) i e at in
-    let low = entry-below (kitOf (w .drive)) (ledgerOf w) (x .inv) i e at in
-    record { count = omega (arith, low, x .handed .counter-lt); few = omega (arith, lies .1, ok .narrow); inside = h }
-
-pub no-stretch-twice : NoStretchTwice
-unfolding NoneTwice
-no-stretch-twice x calls i j a b e g ei ej ha hb nuggets same =
-    let w = history x calls in
-    let y = sound x calls in
-    let ok = limits (shapeOf (w .drive)) (untouched-lent (w .drive) (w .vol) (y .untouched) .limited) in
-    let size : Size (w .drive .f) = record { least = ok .wide; most = ok .short; whole = ok .whole } in
-    let one : stretchOf e a ≡ stretchOf g b =
-    stretches-apart (w .drive .f) size (stretchOf e a) (stretchOf g b) (stretch-lies w y i a e ei ha) (stretch-lies w y j b g ej hb) same in
-    let alike : Alike e g = record { nuggets = nuggets; keycounts = ap (λ (s : Stretch). s .keycount) one; flakes = ap (λ (s : Stretch). s .flake) one } in
-    (no-entry-twice x calls i j e g ei ej alike, ap (λ (s : Stretch). s .place) one)
-
 -- the report's count of flakes is the ledger's
 flakes-sum : (p : ℕ) (v : List ℕ) (n : ℕ) → presentIn p n (recordOf v) ≡ flakesIn p v n
 unfolding flakesIn sum
@@ -116,6 +100,13 @@ entries-listed x calls =
     let w = history x calls in
     sound x calls .inv .tally ∙ ap (λ (k : ℕ). k + w .retired) (flakes-sum (w .drive .p) (w .vol) (w .drive .n))
 
+-- a present flake's tag, under the key of its nugget
+flake-tag : (w : World) → Sound w → (n f : ℕ) → n < w .drive .n → f < w .drive .p → bit (recordOf (w .vol) n .journal) f ≡ true
+    → part (tagAt (shapeOf (w .drive)) n f) 16 (w .vol)
+    ≡ poly1305 (tagKey (nuggetKey (entryAt (ledgerOf w) n f .secret) (w .drive .salt) n) f (recordOf (w .vol) n .keycount)) (storedIn (shapeOf (w .drive)) (w .vol) n f)
+unfolding goodFlake keyFor tagOf covered secretAt secretFor
+flake-tag w x n f a b on = same-true _ _ (x .untouched .tags n f a b on)
+
 pub under-last-pad : UnderLastPad
 under-last-pad x calls n f a b on =
     let w = history x calls in
@@ -125,6 +116,8 @@ under-last-pad x calls n f a b on =
       last = inv .named n f a on;
       laid = inv .laid n f a on;
       secret = secret-seen (w .drive) (w .vol) (w .listing) (w .retired) (w .contents) (recordOf (w .vol) n .epoch);
+      keycount = refl;
+      tagged = flake-tag w (sound x calls) n f a b on;
     }
 
 pub stale-never-mounts : StaleNeverMounts

@@ -11,3 +11,4 @@ pub mod Steps
 pub mod Written
 pub mod Counters
 pub mod Demands
+pub mod Pads

@@ -1,4 +1,4 @@
--- What stays true through every history, and the calls that leave the nuggets alone.
+-- What stays true through every history, what each call keeps, and the calls that leave the nuggets alone.
 use mathlib.Core.Path.{_≡_, refl, sym, ap}
 use mathlib.Core.Bool.{true}
 use mathlib.Core.List.{List, [], _++_, append-nil}
@@ -21,8 +21,10 @@ use Rattle.ledger.specs.Totals.{risen}
 use Rattle.ledger.specs.Ledger.{Ledger, secretAt}
 use Rattle.ledger.specs.Invariant.{Inv}
 use Rattle.ledger.specs.Step.{Kept, Calm, Begun, Finished}
+use Rattle.ledger.specs.Onward.{Onward}
 use Rattle.ledger.proofs.TotalLaws.{risen-none}
 use Rattle.ledger.proofs.CalmLaws.{calms, begin-calm, finish-calm}
+use Rattle.ledger.proofs.OnwardLaws.{onward-kept}
 use Rattle.history.specs.World.{World}
 use Rattle.history.specs.Step.{left}
 use Rattle.history.specs.Demands.{plainIn}
@@ -41,6 +43,11 @@ pub record Sound (w : World) : Type 0 where
   pub counter : w .drive .counter ≡ w .outside
   -- the ledger's invariant
   pub inv : Inv (kitOf (w .drive)) (ledgerOf w)
+
+-- what a call that makes u of w keeps
+pub record Keeps (w u : World) : Type 0 where
+  pub sound : Sound u
+  pub onward : Onward (kitOf (w .drive)) (ledgerOf w) (ledgerOf u)
 
 -- contents that agree at each offset agree in each flake
 pub plain-same : (s : Shape) (a b : ℕ → ℕ) → ((i : ℕ) → a i ≡ b i) → (n f : ℕ) → plainIn s a n f ≡ plainIn s b n f
@@ -73,17 +80,20 @@ module _ (w : World) (x : Sound w) where
           counterUp = omega arith;
         }
 
-    pub same-sound : Sound (left w (w .drive) (w .vol) [] (w .secret) (w .old) after)
+    pub same-keeps : Keeps w (left w (w .drive) (w .vol) [] (w .secret) (w .old) after)
     unfolding left secretAt
-    same-sound =
+    same-keeps =
         record {
-          untouched = x .untouched;
-          handed = x .handed;
-          present = x .present;
-          counter = refl;
-          inv =
-              calms (kitOf (w .drive)) (ledgerOf w) _ (x .inv)
-              (record { kept = same-kept; stillFormed = x .inv .formed; sameSecrets = λ n h. refl });
+          sound = record {
+            untouched = x .untouched;
+            handed = x .handed;
+            present = x .present;
+            counter = refl;
+            inv =
+                calms (kitOf (w .drive)) (ledgerOf w) _ (x .inv)
+                (record { kept = same-kept; stillFormed = x .inv .formed; sameSecrets = λ n h. refl });
+          };
+          onward = onward-kept (kitOf (w .drive)) (ledgerOf w) _ same-kept;
         }
 
   -- another head alone
@@ -121,10 +131,10 @@ module _ (w : World) (x : Sound w) where
         headed-untouched d (w .vol) (x .untouched) (x .handed .salt-long) state epoch counter present old fits (calm .stillFormed) (calm .sameSecrets)
 
   -- an accepted begin
-  pub begun-sound : (secret : List ℕ) → Begins (w .drive)
-      → Sound (left w (begunDrive (w .drive) secret) (settled (begunDrive (w .drive) secret) (w .vol)) [] secret (w .secret) (w .contents))
+  pub begun-keeps : (secret : List ℕ) → Begins (w .drive)
+      → Keeps w (left w (begunDrive (w .drive) secret) (settled (begunDrive (w .drive) secret) (w .vol)) [] secret (w .secret) (w .contents))
   unfolding left begunDrive after-head
-  begun-sound secret b =
+  begun-keeps secret b =
       let d = w .drive in
       let l = ledgerOf w in
       let up : d .counter ≤ d .counter + 1 = omega arith in
@@ -132,23 +142,26 @@ module _ (w : World) (x : Sound w) where
       let turn : Begun l m = record { wasSteady = b .steady; isChanging = refl; epochUp = refl; oldKept = refl } in
       let calm = begin-calm (kitOf d) l m (x .inv) (head-kept (Changing (d .epoch)) (d .epoch + 1) (d .counter + 1) secret (d .present) up) turn in
       record {
-        untouched = head-untouched (Changing (d .epoch)) (d .epoch + 1) (d .counter + 1) secret (d .present) up (begin-fits d (w .vol) (x .untouched) (b .steady)) calm;
-        handed = record {
-          epoch-lt = omega (arith, x .handed .epoch-lt, b .epoch-low);
-          counter-lt = counter-room (d .counter) (x .handed .counter-lt) (b .counter-low);
-          salt-long = x .handed .salt-long;
-          kept = sym (x .present);
+        sound = record {
+          untouched = head-untouched (Changing (d .epoch)) (d .epoch + 1) (d .counter + 1) secret (d .present) up (begin-fits d (w .vol) (x .untouched) (b .steady)) calm;
+          handed = record {
+            epoch-lt = omega (arith, x .handed .epoch-lt, b .epoch-low);
+            counter-lt = counter-room (d .counter) (x .handed .counter-lt) (b .counter-low);
+            salt-long = x .handed .salt-long;
+            kept = sym (x .present);
+          };
+          present = refl;
+          counter = refl;
+          inv = calms (kitOf d) l m (x .inv) calm;
         };
-        present = refl;
-        counter = refl;
-        inv = calms (kitOf d) l m (x .inv) calm;
+        onward = onward-kept (kitOf d) l m (calm .kept);
       }
 
   -- an accepted finish
-  pub finished-sound : Finishes (w .drive) (w .vol)
-      → Sound (left w (finishedDrive (w .drive)) (settled (finishedDrive (w .drive)) (w .vol)) [] (w .secret) (w .old) (w .contents))
+  pub finished-keeps : Finishes (w .drive) (w .vol)
+      → Keeps w (left w (finishedDrive (w .drive)) (settled (finishedDrive (w .drive)) (w .vol)) [] (w .secret) (w .old) (w .contents))
   unfolding left finishedDrive after-head
-  finished-sound b =
+  finished-keeps b =
       let d = w .drive in
       let l = ledgerOf w in
       let up : d .counter ≤ d .counter + 1 = omega arith in
@@ -156,14 +169,17 @@ module _ (w : World) (x : Sound w) where
       let turn : Finished (kitOf d) l m = record { noneLeft = b .moved; epochKept = refl; presentKept = refl } in
       let calm = finish-calm (kitOf d) l m (x .inv) (head-kept Steady (d .epoch) (d .counter + 1) (d .present) (zeros 32) up) turn in
       record {
-        untouched = head-untouched Steady (d .epoch) (d .counter + 1) (d .present) (zeros 32) up (finish-fits d (w .vol) (x .untouched) (b .changing)) calm;
-        handed = record {
-          epoch-lt = x .handed .epoch-lt;
-          counter-lt = counter-room (d .counter) (x .handed .counter-lt) (b .counter-low);
-          salt-long = x .handed .salt-long;
-          kept = refl;
+        sound = record {
+          untouched = head-untouched Steady (d .epoch) (d .counter + 1) (d .present) (zeros 32) up (finish-fits d (w .vol) (x .untouched) (b .changing)) calm;
+          handed = record {
+            epoch-lt = x .handed .epoch-lt;
+            counter-lt = counter-room (d .counter) (x .handed .counter-lt) (b .counter-low);
+            salt-long = x .handed .salt-long;
+            kept = refl;
+          };
+          present = x .present;
+          counter = refl;
+          inv = calms (kitOf d) l m (x .inv) calm;
         };
-        present = x .present;
-        counter = refl;
-        inv = calms (kitOf d) l m (x .inv) calm;
+        onward = onward-kept (kitOf d) l m (calm .kept);
       }

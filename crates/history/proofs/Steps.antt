@@ -36,15 +36,16 @@ use Rattle.changes.specs.Rekey.{beginAnswer, beginDone, beginVolume, sweepAnswe
 use Rattle.changes.proofs.SettleLaws.{settled-record}
 use Rattle.ledger.specs.Invariant.{Inv}
 use Rattle.ledger.proofs.CalmLaws.{starts}
+use Rattle.ledger.proofs.OnwardLaws.{onward-same}
 use Rattle.history.specs.World.{World, Call, mount, read, write, begin, sweep, finish, report, stored}
 use Rattle.history.specs.Step.{oldFor, overlaid, mounted, step}
 use Rattle.history.specs.History.{Start, begun, run, history}
 use Rattle.history.specs.Demands.{plainIn}
 use Rattle.history.proofs.Quiet.{Untouched, whole-quiet}
 use Rattle.history.proofs.Taken.{begins, sweeps, finishes, writes-some}
-use Rattle.history.proofs.View.{kitOf, viewOf}
-use Rattle.history.proofs.Sound.{Sound, same-sound, begun-sound, finished-sound}
-use Rattle.history.proofs.Ways.{written-sound, swept-sound}
+use Rattle.history.proofs.View.{kitOf, viewOf, ledgerOf}
+use Rattle.history.proofs.Sound.{Sound, Keeps, same-keeps, begun-keeps, finished-keeps}
+use Rattle.history.proofs.Ways.{written-keeps, swept-keeps}
 use Rattle.tree.specs.Path.{recordOf}
 
 -- a fresh drive and volume
@@ -132,54 +133,60 @@ module _ (w : World) (x : Sound w) where
   unfolding step mounted
   mount-same any = ap (λ (done : Done). mounted w (done .drive)) (mount-back any)
 
-  write-sound : (o : ℕ) (bytes : List ℕ) → Sound (step w (write o bytes))
+  write-keeps : (o : ℕ) (bytes : List ℕ) → Keeps w (step w (write o bytes))
   unfolding step writeDone writeVolume writePads
-  write-sound o bytes = go (told (writes (writeAnswer (w .drive) (w .vol) o (length bytes)) bytes))
+  write-keeps o bytes = go (told (writes (writeAnswer (w .drive) (w .vol) o (length bytes)) bytes))
     where
       go : (writes (writeAnswer (w .drive) (w .vol) o (length bytes)) bytes ≡ true) ⊎ (writes (writeAnswer (w .drive) (w .vol) o (length bytes)) bytes ≡ false)
-          → Sound (step w (write o bytes))
+          → Keeps w (step w (write o bytes))
       go (inl e) =
           let accepted = both-left (accepts (writeAnswer (w .drive) (w .vol) o (length bytes))) _ e in
           let some : 0 < length bytes = ltb-true 0 (length bytes) (both-right (accepts (writeAnswer (w .drive) (w .vol) o (length bytes))) _ e) in
-          rw e (written-sound w x o bytes (writes-some (w .drive) (w .vol) o (length bytes) some accepted) (overlaid w o bytes) (λ a. yes _ accepted refl))
+          rw e (written-keeps w x o bytes (writes-some (w .drive) (w .vol) o (length bytes) some accepted) (overlaid w o bytes) (λ a. yes _ accepted refl))
       go (inr e) =
           rw e
-          (same-sound w x (overlaid w o bytes) (λ a. none-over (accepts (writeAnswer (w .drive) (w .vol) o (length bytes))) o bytes a (w .contents a) e))
+          (same-keeps w x (overlaid w o bytes) (λ a. none-over (accepts (writeAnswer (w .drive) (w .vol) o (length bytes))) o bytes a (w .contents a) e))
 
-  begin-sound : (secret : List ℕ) → Sound (step w (begin secret))
+  begin-keeps : (secret : List ℕ) → Keeps w (step w (begin secret))
   unfolding step beginDone beginVolume
-  begin-sound secret = go (told (accepts (beginAnswer (w .drive) (w .vol) secret)))
+  begin-keeps secret = go (told (accepts (beginAnswer (w .drive) (w .vol) secret)))
     where
-      go : (accepts (beginAnswer (w .drive) (w .vol) secret) ≡ true) ⊎ (accepts (beginAnswer (w .drive) (w .vol) secret) ≡ false) → Sound (step w (begin secret))
-      go (inl e) = rw e (begun-sound w x secret (begins (w .drive) (w .vol) secret e))
-      go (inr e) = rw e (same-sound w x (w .contents) (λ a. refl))
+      go : (accepts (beginAnswer (w .drive) (w .vol) secret) ≡ true) ⊎ (accepts (beginAnswer (w .drive) (w .vol) secret) ≡ false) → Keeps w (step w (begin secret))
+      go (inl e) = rw e (begun-keeps w x secret (begins (w .drive) (w .vol) secret e))
+      go (inr e) = rw e (same-keeps w x (w .contents) (λ a. refl))
 
-  sweep-sound : (n : ℕ) → Sound (step w (sweep n))
+  sweep-keeps : (n : ℕ) → Keeps w (step w (sweep n))
   unfolding step sweepDone sweepVolume sweepPads
-  sweep-sound n = go (told (accepts (sweepAnswer (w .drive) (w .vol) n)))
+  sweep-keeps n = go (told (accepts (sweepAnswer (w .drive) (w .vol) n)))
     where
-      go : (accepts (sweepAnswer (w .drive) (w .vol) n) ≡ true) ⊎ (accepts (sweepAnswer (w .drive) (w .vol) n) ≡ false) → Sound (step w (sweep n))
-      go (inl e) = rw e (swept-sound w x n (sweeps (w .drive) (w .vol) n e))
-      go (inr e) = rw e (same-sound w x (w .contents) (λ a. refl))
+      go : (accepts (sweepAnswer (w .drive) (w .vol) n) ≡ true) ⊎ (accepts (sweepAnswer (w .drive) (w .vol) n) ≡ false) → Keeps w (step w (sweep n))
+      go (inl e) = rw e (swept-keeps w x n (sweeps (w .drive) (w .vol) n e))
+      go (inr e) = rw e (same-keeps w x (w .contents) (λ a. refl))
 
-  finish-sound : Sound (step w finish)
+  finish-keeps : Keeps w (step w finish)
   unfolding step finishDone finishVolume
-  finish-sound = go (told (accepts (finishAnswer (w .drive) (w .vol))))
+  finish-keeps = go (told (accepts (finishAnswer (w .drive) (w .vol))))
     where
-      go : (accepts (finishAnswer (w .drive) (w .vol)) ≡ true) ⊎ (accepts (finishAnswer (w .drive) (w .vol)) ≡ false) → Sound (step w finish)
-      go (inl e) = rw e (finished-sound w x (finishes (w .drive) (w .vol) e))
-      go (inr e) = rw e (same-sound w x (w .contents) (λ a. refl))
+      go : (accepts (finishAnswer (w .drive) (w .vol)) ≡ true) ⊎ (accepts (finishAnswer (w .drive) (w .vol)) ≡ false) → Keeps w (step w finish)
+      go (inl e) = rw e (finished-keeps w x (finishes (w .drive) (w .vol) e))
+      go (inr e) = rw e (same-keeps w x (w .contents) (λ a. refl))
+
+unchanged : (w : World) → Sound w → Keeps w w
+unchanged w x = record { sound = x; onward = onward-same (kitOf (w .drive)) (ledgerOf w) }
+
+pub step-keeps : (w : World) (c : Call) → Sound w → Keeps w (step w c)
+unfolding step
+step-keeps w (mount any) x = rw (mount-same w x any) (unchanged w x)
+step-keeps w (read o buffer) x = unchanged w x
+step-keeps w (write o bytes) x = write-keeps w x o bytes
+step-keeps w (begin secret) x = begin-keeps w x secret
+step-keeps w (sweep n) x = sweep-keeps w x n
+step-keeps w finish x = finish-keeps w x
+step-keeps w report x = unchanged w x
+step-keeps w (stored n f) x = unchanged w x
 
 pub step-sound : (w : World) (c : Call) → Sound w → Sound (step w c)
-unfolding step
-step-sound w (mount any) x = rw (mount-same w x any) x
-step-sound w (read o buffer) x = x
-step-sound w (write o bytes) x = write-sound w x o bytes
-step-sound w (begin secret) x = begin-sound w x secret
-step-sound w (sweep n) x = sweep-sound w x n
-step-sound w finish x = finish-sound w x
-step-sound w report x = x
-step-sound w (stored n f) x = x
+step-sound w c x = step-keeps w c x .sound
 
 pub run-sound : (w : World) (calls : List Call) → Sound w → Sound (run w calls)
 unfolding run

@@ -34,8 +34,8 @@ use Rattle.history.specs.Step.{left}
 use Rattle.history.specs.Demands.{plainIn}
 use Rattle.history.proofs.Taken.{Sweeps, Writes}
 use Rattle.history.proofs.View.{reads-plain}
-use Rattle.history.proofs.Sound.{Sound, plain-same}
-use Rattle.history.proofs.Changed.{Ready, worked-turns, worked-sound}
+use Rattle.history.proofs.Sound.{Sound, Keeps, plain-same}
+use Rattle.history.proofs.Changed.{Ready, worked-turns, worked-keeps}
 use Rattle.tree.specs.Path.{recordOf}
 
 -- bytes laid over what was written to a flake
@@ -106,9 +106,9 @@ module _ (w : World) (x : Sound w) where
         ≡ turned (ways n) (w .drive .epoch) (recordOf (w .vol) n)
     written-turns n h = worked-turns w x ways (newContents (w .drive) (w .vol) o bytes) after ready n h
 
-    pub written-sound : Sound (left w (writtenDrive (w .drive) (w .vol) o bytes) (settled (writtenDrive (w .drive) (w .vol) o bytes) (writeWork (w .drive) (w .vol) o bytes))
+    pub written-keeps : Keeps w (left w (writtenDrive (w .drive) (w .vol) o bytes) (settled (writtenDrive (w .drive) (w .vol) o bytes) (writeWork (w .drive) (w .vol) o bytes))
         (padsFor (w .drive) (w .vol) ways) (w .secret) (w .old) after)
-    written-sound = worked-sound w x ways (newContents (w .drive) (w .vol) o bytes) after ready
+    written-keeps = worked-keeps w x ways (newContents (w .drive) (w .vol) o bytes) after ready
 
   module _ (n : ℕ) (b : Sweeps (w .drive) (w .vol) n) where
     sweep-ready : Ready w x (sweepWays n) (contentsOf (w .drive) (w .vol)) (w .contents)
@@ -125,6 +125,6 @@ module _ (w : World) (x : Sound w) where
         space m (inl e) = rw (e, eqb-true m n e) (b .room)
         space m (inr e) = rw e (idle-room (recordOf (w .vol) m))
 
-    pub swept-sound : Sound (left w (sweptDrive (w .drive) (w .vol) n) (settled (sweptDrive (w .drive) (w .vol) n) (sweepWork (w .drive) (w .vol) n))
+    pub swept-keeps : Keeps w (left w (sweptDrive (w .drive) (w .vol) n) (settled (sweptDrive (w .drive) (w .vol) n) (sweepWork (w .drive) (w .vol) n))
         (padsFor (w .drive) (w .vol) (sweepWays n)) (w .secret) (w .old) (w .contents))
-    swept-sound = worked-sound w x (sweepWays n) (contentsOf (w .drive) (w .vol)) (w .contents) sweep-ready
+    swept-keeps = worked-keeps w x (sweepWays n) (contentsOf (w .drive) (w .vol)) (w .contents) sweep-ready

@@ -1,20 +1,22 @@
 -- The demands as theorems over every history. Each is proved, under the same name in small letters, in proofs/Demands.antt.
-use Prim.Native.Nat.{ℕ, _+_, _/_, _<_, _≤_}
+use Prim.Native.Nat.{ℕ, _+_, _<_, _≤_}
 use mathlib.Core.Path.{_≡_}
 use mathlib.Core.Bool.{true, false}
 use mathlib.Core.Logic.{_⊎_, _↔_}
 use mathlib.Core.List.{List, _∷_, _++_}
 use mathlib.Core.Option.{some}
-use lib.ListN.{length, getD, getElem?}
-use Rattle.base.specs.Lists.{tab}
+use lib.ListN.{length, getD}
+use Rattle.base.specs.Lists.{tab, part}
 use Rattle.answers.specs.declared.Answer.the-variants as A
 use Rattle.answers.specs.Numbers.{numberOf}
 use Rattle.layout.specs.declared.Shape.{Shape}
+use Rattle.layout.specs.Parts.{tagAt}
 use Rattle.layout.specs.Spots.{offsetAt}
 use Rattle.records.specs.Journal.{bit}
 use Rattle.records.specs.Listing.{Entry}
-use Rattle.keys.specs.Keys.{nuggetKey}
-use Rattle.keys.specs.Pads.{under, Stretch, inputOf}
+use Rattle.poly1305.specs.Poly1305.{poly1305}
+use Rattle.keys.specs.Keys.{nuggetKey, tagKey}
+use Rattle.keys.specs.Pads.{under}
 use Rattle.drive.specs.Drive.{shapeOf}
 use Rattle.opening.specs.Mount.{mountAnswer, mountDone}
 use Rattle.nuggets.specs.Nugget.{secretFor, storedIn}
@@ -61,20 +63,6 @@ NeverWritten = (start : Start) (calls : List Call) (a : ℕ) → among (writesAt
 abbrev pub NoEntryTwice : Type 0
 NoEntryTwice = (start : Start) (calls : List Call) → NoneTwice (history start calls .listing)
 
--- 64 bytes of an entry's pad
-abbrev pub stretchOf : Entry → ℕ → Stretch
-stretchOf e j = record { keycount = e .keycount; flake = e .flake; place = j }
-
--- The auditor's question: "Was any stretch of keystream ever laid over two different contents?" For a nugget's keys no
--- nonce and block of ChaCha20 serve twice: two stretches made of the same ones are one stretch of one entry.
-abbrev pub NoStretchTwice : Type 0
-NoStretchTwice =
-    (start : Start) (calls : List Call) (i j a b : ℕ) (e g : Entry)
-    → let w = history start calls in
-    let size = w .drive .f in
-    getElem? (w .listing) i ≡ some e → getElem? (w .listing) j ≡ some g → a < size / 64 → b < size / 64 → e .nugget ≡ g .nugget
-    → inputOf size (stretchOf e a) ≡ inputOf size (stretchOf g b) → (i ≡ j) × (a ≡ b)
-
 -- 3. "Entries listed equal flakes now present plus, for each keycount rise, its nugget's flakes present just before."
 abbrev pub EntriesListed : Type 0
 EntriesListed =
@@ -86,13 +74,17 @@ EntriesListed =
 unfoldable pub plainIn : Shape → (ℕ → ℕ) → ℕ → ℕ → List ℕ
 plainIn s contents n f = tab (s .f) (λ b. contents (offsetAt s n f b))
 
--- a flake is its contents under the pad last listed for it, and that pad is of the secret of its nugget's epoch
+-- a flake is its contents under the pad last listed for it, that pad is of the secret of its nugget's epoch and of its
+-- nugget's keycount, and the flake's tag is Poly1305 under that pad's tag key over the stored bytes
 pub record LastPad (w : World) (n f : ℕ) : Type 0 where
   pub pad : Entry
   pub last : lastOf n f (w .listing) ≡ some pad
   pub laid : storedIn (shapeOf (w .drive)) (w .vol) n f
       ≡ under (nuggetKey (pad .secret) (w .drive .salt) n) (pad .keycount) f (w .drive .f) (plainIn (shapeOf (w .drive)) (w .contents) n f)
   pub secret : pad .secret ≡ secretFor (w .drive) (recordOf (w .vol) n .epoch)
+  pub keycount : pad .keycount ≡ recordOf (w .vol) n .keycount
+  pub tagged : part (tagAt (shapeOf (w .drive)) n f) 16 (w .vol)
+      ≡ poly1305 (tagKey (nuggetKey (pad .secret) (w .drive .salt) n) f (pad .keycount)) (storedIn (shapeOf (w .drive)) (w .vol) n f)
 
 -- 4. "Each present flake is its contents under the pad last listed for it."
 abbrev pub UnderLastPad : Type 0

@@ -2,3 +2,4 @@ pub mod World
 pub mod Step
 pub mod History
 pub mod Demands
+pub mod Pads
