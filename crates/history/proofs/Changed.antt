@@ -42,7 +42,7 @@ kept-twice (Changing epoch) a b e = refl
 kept-again : (s : State) (a b : List ℕ) → keptOld s a ≡ b → keptOld s a ≡ keptOld s b
 kept-again s a b e = e ∙ sym (kept-twice s a b e)
 
-kept-changing : (s : State) (a : List ℕ) → isChanging s ≡ true → keptOld s a ≡ a
+pub kept-changing : (s : State) (a : List ℕ) → isChanging s ≡ true → keptOld s a ≡ a
 kept-changing Steady a e = absurd (clash e refl)
 kept-changing (Changing epoch) a e = refl
 

@@ -1,18 +1,31 @@
 -- Pads and keys, read off what stays true through every history.
 use mathlib.Core.Path.{_≡_, refl, sym, ap, _∙_, subst}
+use mathlib.Core.Bool.{true}
 use mathlib.Core.List.{List, [], _∷_, _++_}
 use mathlib.Core.Option.{some}
-use Prim.Native.Nat.{ℕ, _/_, _^_, _<_}
+use Prim.Native.Nat.{ℕ, _+_, _/_, _^_, _<_}
 use native.Mathlib.Omega.{arith}
 use lib.ListN.{getElem?}
+use Rattle.base.proofs.PickLaws.{clash}
+use Rattle.base.proofs.FoldLaws.{same-true}
 use Rattle.messages.proofs.ReadBack.{nugget-told, tag-told}
 use Rattle.layout.specs.declared.Shape.{Shape}
-use Rattle.layout.proofs.Limits.{limits}
+use Rattle.layout.specs.Shape.{leaves}
+use Rattle.layout.proofs.Limits.{limits, lent-small}
 use Rattle.records.specs.Listing.{Entry}
-use Rattle.keys.specs.Keys.{nuggetKey, tagKey}
+use Rattle.keys.specs.Keys.{nuggetKey, tagKey, checkOf, sealOf}
 use Rattle.keys.specs.Pads.{Size, Stretch, Lies, Input, padOf, inputOf}
 use Rattle.keys.proofs.Stretches.{stretch-is, no-stretch-twice as stretches-apart}
-use Rattle.drive.specs.Drive.{shapeOf}
+use Rattle.nodes.specs.Nodes.{leafOf, innerOf}
+use Rattle.nodes.proofs.MadeLaws.{made-leaf, made-inner}
+use Rattle.drive.specs.declared.Drive.{Drive}
+use Rattle.drive.specs.declared.State.{State}
+use Rattle.drive.specs.declared.State.the-variants.{Steady, Changing}
+use Rattle.drive.specs.Drive.{shapeOf, isChanging}
+use Rattle.drive.specs.Head.{checkFor}
+use Rattle.opening.specs.Mount.{sealed, checked}
+use Rattle.opening.proofs.HeadBack.{Opened, opened}
+use Rattle.opening.proofs.Reopens.{drive-back, reopens}
 use Rattle.nuggets.specs.Nugget.{storedIn}
 use Rattle.ledger.specs.Listing.{Alike, NoneTwice}
 use Rattle.ledger.specs.Ledger.{Kit}
@@ -22,10 +35,12 @@ use Rattle.ledger.proofs.OnwardLaws.{onward-same, onward-trans}
 use Rattle.history.specs.World.{World, Call}
 use Rattle.history.specs.Step.{step}
 use Rattle.history.specs.History.{begun, run, history}
-use Rattle.history.specs.Pads.{keyOf, stretchOf, stretchSource, StretchSource, StretchMade, NoStretchTwice, tagSource, TagSource, TagKeyMade, NoTagKeyTwice, OnePadOneContents}
-use Rattle.history.proofs.Quiet.{untouched-lent}
+use Rattle.history.specs.Pads.{keyOf, stretchOf, stretchSource, StretchSource, StretchMade, NoStretchTwice, tagSource, TagSource, TagKeyMade, NoTagKeyTwice, OnePadOneContents, Hashed, HashesStand}
+use Rattle.history.proofs.Quiet.{untouched-lent, whole-quiet}
+use Rattle.history.proofs.Heads.{untouched-node}
 use Rattle.history.proofs.View.{kitOf, ledgerOf}
 use Rattle.history.proofs.Sound.{Sound}
+use Rattle.history.proofs.Changed.{kept-changing}
 use Rattle.history.proofs.Steps.{step-keeps, step-sound, sound}
 use Rattle.history.proofs.Runs.{run-append}
 use Rattle.history.proofs.Counters.{baseOf, step-base}
@@ -118,3 +133,35 @@ one-pad-one-contents x calls later n f h few on same =
     let at = shape-kept x calls .0 in
     let stays = onward .stays n f (omega (arith, h, ap (λ (s : Shape). s .n) at)) (omega (arith, few, ap (λ (s : Shape). s .p) at)) on same in
     (stays .0, sym (ap (λ (s : Shape). storedIn s (u .vol) n f) (shape-kept x (calls ++ later) .0)) ∙ stays .1 ∙ ap (λ (s : Shape). storedIn s (w .vol) n f) at)
+
+check-for : (s : State) (old salt : List ℕ) (epoch : ℕ) → isChanging s ≡ true → checkFor s old salt epoch ≡ checkOf old salt epoch
+check-for Steady old salt epoch e = absurd (clash e refl)
+check-for (Changing left) old salt epoch e = refl
+
+-- head and tree of a sound world
+module _ (w : World) (x : Sound w) where
+  abbrev d : Drive
+  d = w .drive
+
+  found : Opened (w .vol) d (d .counter)
+  found =
+      subst (λ (e : Drive). Opened (w .vol) e (d .counter)) (drive-back d (w .vol) (w .old) (x .handed) (x .untouched .opens))
+      (opened (w .vol) (d .present) (w .old) (d .counter) (reopens d (w .vol) (w .old) (x .handed) (x .untouched .opens) ∙ whole-quiet d (w .vol) (x .untouched)))
+
+  hashed : Hashed (shapeOf (w .drive)) w
+  unfolding sealed checked sealOf checkOf leafOf innerOf
+  hashed =
+      let big = lent-small (untouched-lent d (w .vol) (x .untouched)) in
+      record {
+        seal = rw (← x .present, untouched-node {d = d} {v = w .vol} (x .untouched)) (same-true _ _ (found .seal));
+        check = λ changing.
+            same-true _ _ (found .check)
+            ∙ check-for (d .state) (d .old) (d .salt) (d .epoch) changing
+            ∙ ap (λ (old : List ℕ). checkOf old (d .salt) (d .epoch)) (sym (x .handed .kept) ∙ kept-changing (d .state) (w .old) changing);
+        leaf = λ n h.
+            x .untouched .good (leaves (d .n) + n) (omega (arith, big .some-leaves)) (omega (arith, big .enough-leaves, h)) ∙ made-leaf (shapeOf d) (w .vol) n h;
+        inner = λ i low high. x .untouched .good i low (omega (arith, high)) ∙ made-inner (shapeOf d) (w .vol) i high;
+      }
+
+pub hashes-stand : HashesStand
+hashes-stand x calls = subst (λ (s : Shape). Hashed s (history x calls)) (shape-kept x calls .0) (hashed (history x calls) (sound x calls))

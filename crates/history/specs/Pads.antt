@@ -2,20 +2,24 @@
 -- every history, for all its nuggets and all its secrets. Each statement is proved, under the same name in small letters, in
 -- proofs/Pads.antt.
 -- What is left to trust is only that BLAKE2s gives different messages different keys.
-use Prim.Native.Nat.{ℕ, _*_, _/_, _<_}
+use Prim.Native.Nat.{ℕ, _+_, _*_, _/_, _<_, _≤_}
 use mathlib.Core.Path.{_≡_}
 use mathlib.Core.Bool.{true}
-use mathlib.Core.List.{List, _++_}
+use mathlib.Core.List.{List, [], _++_}
 use mathlib.Core.Option.{some}
 use lib.ListN.{getElem?}
 use Rattle.base.specs.Lists.{part}
-use Rattle.messages.specs.Messages.{nuggetMessage, tagMessage}
+use Rattle.messages.specs.Messages.{nuggetMessage, tagMessage, checkMessage, sealMessage, leafMessage, innerMessage}
+use Rattle.layout.specs.declared.Shape.{Shape}
+use Rattle.layout.specs.Shape.{leaves}
 use Rattle.records.specs.Journal.{bit}
 use Rattle.records.specs.Listing.{Entry}
 use Rattle.chacha20.specs.ChaCha20.{blockOf}
 use Rattle.blake2s.specs.Hash.{blake2s}
 use Rattle.keys.specs.Keys.{nuggetKey, tagKey}
 use Rattle.keys.specs.Pads.{Stretch, inputOf, padOf}
+use Rattle.nodes.specs.Nodes.{nodeIn, recordPart, tagsPart}
+use Rattle.drive.specs.Drive.{isChanging}
 use Rattle.tree.specs.Path.{recordOf}
 use Rattle.nuggets.specs.Nugget.{storedIn}
 use Rattle.history.specs.World.{World, Call}
@@ -95,3 +99,16 @@ OnePadOneContents =
     let u = history start (calls ++ later) .vol in
     n < start .shape .n → f < start .shape .p → bit (recordOf v n .journal) f ≡ true → recordOf u n .keycount ≡ recordOf v n .keycount
     → (bit (recordOf u n .journal) f ≡ true) × (storedIn (start .shape) u n f ≡ storedIn (start .shape) v n f)
+
+-- what stands in head and tree, each with the message that it is hashed from: its letter, and all that goes into it
+pub record Hashed (s : Shape) (w : World) : Type 0 where
+  pub seal : part 72 32 (w .vol) ≡ blake2s (w .secret) (sealMessage (part 0 72 (w .vol)) (nodeIn s (w .vol) 1))
+  pub check : isChanging (w .drive .state) ≡ true → part 40 32 (w .vol) ≡ blake2s (w .old) (checkMessage (w .drive .salt) (w .drive .epoch))
+  pub leaf : (n : ℕ) → n < s .n → nodeIn s (w .vol) (leaves (s .n) + n) ≡ blake2s [] (leafMessage n (recordPart (w .vol) n) (tagsPart s (w .vol) n))
+  pub inner : (i : ℕ) → 1 ≤ i → i < leaves (s .n)
+      → nodeIn s (w .vol) i ≡ blake2s [] (innerMessage (nodeIn s (w .vol) (2 * i)) (nodeIn s (w .vol) (2 * i + 1)))
+
+-- Seal, old-secret check, leaves and inner nodes of every history are hashed from messages that tell all that goes into them
+-- (`OneMessage` of crate `messages`).
+abbrev pub HashesStand : Type 0
+HashesStand = (start : Start) (calls : List Call) → Hashed (start .shape) (history start calls)
