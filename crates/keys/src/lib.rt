@@ -1,5 +1,5 @@
-// Document 01's keys, pads and tags: which bytes are hashed for which key, and what is laid over a flake.
-// It touches `base`, `words`, `chacha20`, `poly1305` and `blake2s`; no flake is copied, and no secret is kept.
+// Document 01's keys, pads and tags: which message is hashed for which key, and what is laid over a flake.
+// It touches `base`, `words`, `messages`, `chacha20`, `poly1305` and `blake2s`; no flake is copied, and no secret is kept.
 ghost use mathlib.Core.Path.{_≡_};
 ghost use mathlib.Core.List.{_∷_, _++_};
 ghost use Prim.Native.Nat.{_<_, _≤_};

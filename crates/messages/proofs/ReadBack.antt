@@ -1,5 +1,5 @@
 -- A message is read back from its bytes, so no two have the same.
-use mathlib.Core.Path.{_≡_, refl, sym, ap, ap₂, _∙_}
+use mathlib.Core.Path.{_≡_, sym, ap, ap₂, _∙_}
 use mathlib.Core.List.{List, [], _∷_, _++_}
 use Prim.Native.Nat.{ℕ, _^_, _<_}
 use lib.Dec.{eqb}
@@ -40,8 +40,11 @@ read-back (forTag f k) w =
 read-back (forCheck salt epoch) w = ap₂ forCheck (front 16 salt (le 2 epoch) (w .0)) (ap num (rest 16 salt (le 2 epoch) (w .0)) ∙ num-le 2 epoch (w .1))
 read-back (forSeal head node) w = ap₂ forSeal (front 72 head node w) (rest 72 head node w)
 read-back (forLeaf n bytes tags) w =
-    let after = rest 4 (le 4 n) (bytes ++ tags) (length-le 4 n) in
-    rw (front 4 (le 4 n) (bytes ++ tags) (length-le 4 n), num-le 4 n (w .0), after, front 18 bytes tags (w .1), rest 18 bytes tags (w .1)) refl
+    let behind = rest 4 (le 4 n) (bytes ++ tags) (length-le 4 n) in
+    let number = ap num (front 4 (le 4 n) (bytes ++ tags) (length-le 4 n)) ∙ num-le 4 n (w .0) in
+    let entry = ap (λ (l : List ℕ). take 18 l) behind ∙ front 18 bytes tags (w .1) in
+    let others = ap (λ (l : List ℕ). drop 18 l) behind ∙ rest 18 bytes tags (w .1) in
+    λ i. forLeaf (number i) (entry i) (others i)
 read-back (forInner left right) w = ap₂ forInner (front 32 left right w) (rest 32 left right w)
 
 pub one-message : OneMessage

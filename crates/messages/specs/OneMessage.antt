@@ -37,7 +37,7 @@ Wide (forSeal front node) = length front ≡ 72
 Wide (forLeaf n bytes tags) = (n < 2 ^ 32) × (length bytes ≡ 18)
 Wide (forInner left right) = length left ≡ 32
 
--- A message tells everything that goes into it, and messages of different letters differ. So if BLAKE2s gives different
--- messages different values, no two hashes of a drive are alike unless they were made of the same things.
+-- A message tells everything that goes into it, and messages of different letters differ. What is left to trust is only that
+-- BLAKE2s gives different messages different values.
 abbrev pub OneMessage : Type 0
 OneMessage = (a b : Message) → Wide a → Wide b → bytesOf a ≡ bytesOf b → a ≡ b

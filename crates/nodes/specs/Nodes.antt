@@ -1,10 +1,10 @@
--- Document 01, "Keys, pads and hashes": leaf and inner node. "All hashes are BLAKE2s with 32 bytes out. The first message
--- byte is the letter shown."
-use mathlib.Core.List.{List, [], _∷_, _++_}
+-- Document 01, "Keys, pads and hashes": leaf and inner node. "All hashes are BLAKE2s with 32 bytes out." Their messages are
+-- those of crate `messages`.
+use mathlib.Core.List.{List, []}
 use Prim.Native.Nat.{ℕ, _*_}
 use lib.ListN.{replicate}
 use Rattle.base.specs.Lists.{part}
-use Rattle.words.specs.Le.{le}
+use Rattle.messages.specs.Messages.{leafMessage, innerMessage}
 use Rattle.layout.specs.Parts.{recordAt, tagAt, nodeAt}
 use Rattle.layout.specs.declared.Shape.{Shape}
 use Rattle.blake2s.specs.Hash.{blake2s}
@@ -23,11 +23,11 @@ tagsPart s v n = part (tagAt s n 0) (16 * s .p) v
 
 -- "no key, `L`, nugget (4), the 18 record bytes, the nugget's P tags"
 unfoldable pub leafOf : Shape → List ℕ → ℕ → List ℕ
-leafOf s v n = blake2s [] ((0x4C ∷ le 4 n) ++ (recordPart v n ++ tagsPart s v n))
+leafOf s v n = blake2s [] (leafMessage n (recordPart v n) (tagsPart s v n))
 
 -- "no key, `T`, node 2i, node 2i + 1"
 unfoldable pub innerOf : List ℕ → List ℕ → List ℕ
-innerOf a b = blake2s [] (0x54 ∷ (a ++ b))
+innerOf a b = blake2s [] (innerMessage a b)
 
 -- "Nodes L + N and above are 32 zeros."
 unfoldable pub zeroLeaf : List ℕ

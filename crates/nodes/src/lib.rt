@@ -1,5 +1,5 @@
 // The nodes of the tree in a lent volume: what each has to be, whether it is so, and a node stored anew.
-// It touches `base`, `words`, `layout` and `blake2s`.
+// It touches `base`, `words`, `messages`, `layout` and `blake2s`.
 use layout::Shape;
 ghost use mathlib.Core.Path.{_≡_};
 ghost use Prim.Native.Nat.{_+_, _*_, _<_, _≤_};
