@@ -9,3 +9,4 @@ pub mod ViewLaws
 pub mod SettleLaws
 pub mod SpanLaws
 pub mod SweepLaws
+pub mod Exact

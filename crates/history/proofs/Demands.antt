@@ -1,7 +1,6 @@
 -- The demands, read off what stays true through every history.
 use mathlib.Core.Path.{_≡_, refl, ap, _∙_}
 use mathlib.Core.Bool.{true}
-use mathlib.Core.Logic.{inl}
 use mathlib.Core.List.{List, _∷_, _++_}
 use Prim.Native.Nat.{ℕ, zero, suc, _+_, _<_}
 use native.Mathlib.Omega.{arith}
@@ -20,24 +19,22 @@ use Rattle.records.specs.Journal.{bit}
 use Rattle.poly1305.specs.Poly1305.{poly1305}
 use Rattle.keys.specs.Keys.{nuggetKey, tagKey}
 use Rattle.keys.specs.Tags.{covered, tagOf}
-use Rattle.drive.specs.declared.Done.{Done}
 use Rattle.drive.specs.Drive.{shapeOf}
 use Rattle.nuggets.specs.Nugget.{secretFor, keyFor, storedIn, byteOf}
 use Rattle.nuggets.specs.Tests.{goodFlake}
 use Rattle.reading.specs.Read.{readBuffer}
 use Rattle.reading.proofs.AnswerLaws.{read-lent}
 use Rattle.reports.specs.Counts.{flakesIn}
-use Rattle.reports.proofs.ReportLaws.{report-accepted, report-full}
+use Rattle.reports.proofs.ReportLaws.{report-full}
 use Rattle.opening.specs.Format.{freshDrive, formatDone}
-use Rattle.opening.specs.Mount.{mountDone}
 use Rattle.ledger.specs.Totals.{sum, presentIn}
 use Rattle.ledger.specs.Ledger.{secretAt, entryAt}
 use Rattle.ledger.proofs.Theorems.{no-entry-twice as none-twice-in}
-use Rattle.history.specs.World.{World, Call, mount, read, write, begin, sweep, finish, report, stored}
-use Rattle.history.specs.Step.{answerTo, step}
+use Rattle.history.specs.World.{World, Call, write}
+use Rattle.history.specs.Step.{step}
 use Rattle.history.specs.History.{Start, begun, run, history}
-use Rattle.history.specs.Demands.{ShapeKept, ReadsBack, WrittenLast, NeverWritten, NoEntryTwice, EntriesListed, plainIn, UnderLastPad, StaleNeverMounts, NoFalseAlarm, MountsBack, ReportTells, ShareFull}
-use Rattle.history.proofs.Quiet.{Quiet, untouched-lent, read-quiet, report-accepts, stored-quiet, write-quiet, begin-quiet, sweep-quiet, finish-quiet}
+use Rattle.history.specs.Demands.{ShapeKept, ReadsBack, WrittenLast, NeverWritten, NoEntryTwice, EntriesListed, plainIn, UnderLastPad, StaleNeverMounts, MountsBack, ShareFull}
+use Rattle.history.proofs.Quiet.{untouched-lent, report-accepts}
 use Rattle.history.proofs.View.{kitOf, ledgerOf, secret-seen, reads-plain}
 use Rattle.history.proofs.Sound.{Sound}
 use Rattle.history.proofs.Steps.{start-sound, sound, mount-back}
@@ -90,7 +87,7 @@ pub no-entry-twice : NoEntryTwice
 no-entry-twice x calls = let w = history x calls in none-twice-in (kitOf (w .drive)) (ledgerOf w) (sound x calls .inv)
 
 -- the report's count of flakes is the ledger's
-flakes-sum : (p : ℕ) (v : List ℕ) (n : ℕ) → presentIn p n (recordOf v) ≡ flakesIn p v n
+pub flakes-sum : (p : ℕ) (v : List ℕ) (n : ℕ) → presentIn p n (recordOf v) ≡ flakesIn p v n
 unfolding flakesIn sum
 flakes-sum p v zero = refl
 flakes-sum p v (suc n) = rw (flakes-sum p v n)
@@ -128,26 +125,6 @@ stale-never-mounts x calls later present old changed e =
 
 pub mounts-back : MountsBack
 mounts-back x calls any = mount-back (history x calls) (sound x calls) any
-
-pub no-false-alarm : NoFalseAlarm
-unfolding mountDone
-no-false-alarm x calls c = go c
-  where
-    go : (c : Call) → Quiet (answerTo (history x calls) c)
-    go (mount any) = inl (ap (λ (done : Done). done .answer) (mounts-back x calls any))
-    go (read o buffer) = read-quiet _ _ (sound x calls .untouched) o (length buffer)
-    go (write o bytes) = write-quiet _ _ (sound x calls .untouched) o (length bytes)
-    go (begin secret) = begin-quiet _ _ (sound x calls .untouched) secret
-    go (sweep n) = sweep-quiet _ _ (sound x calls .untouched) n
-    go finish = finish-quiet _ _ (sound x calls .untouched)
-    go report = inl (report-accepts _ _ (sound x calls .untouched))
-    go (stored n f) = stored-quiet _ _ (sound x calls .untouched) n f
-
-pub report-tells : ReportTells
-report-tells x calls =
-    let w = history x calls in
-    let e = report-accepts (w .drive) (w .vol) (sound x calls .untouched) in
-    report-accepted (w .drive) (w .vol) (ap accepts e) ∙ rw e refl
 
 pub share-full : ShareFull
 share-full x calls =

@@ -8,7 +8,12 @@ pub mod Sound
 pub mod Changed
 pub mod Ways
 pub mod Steps
+pub mod Table
 pub mod Written
 pub mod Counters
 pub mod Demands
 pub mod Pads
+pub mod Moves
+pub mod Told
+pub mod Complete
+pub mod Old

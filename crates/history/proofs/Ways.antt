@@ -125,6 +125,10 @@ module _ (w : World) (x : Sound w) where
         space m (inl e) = rw (e, eqb-true m n e) (b .room)
         space m (inr e) = rw e (idle-room (recordOf (w .vol) m))
 
+    pub swept-turns : (m : ℕ) → m < w .drive .n → recordOf (settled (sweptDrive (w .drive) (w .vol) n) (sweepWork (w .drive) (w .vol) n)) m
+        ≡ turned (sweepWays n m) (w .drive .epoch) (recordOf (w .vol) m)
+    swept-turns m h = worked-turns w x (sweepWays n) (contentsOf (w .drive) (w .vol)) (w .contents) sweep-ready m h
+
     pub swept-keeps : Keeps w (left w (sweptDrive (w .drive) (w .vol) n) (settled (sweptDrive (w .drive) (w .vol) n) (sweepWork (w .drive) (w .vol) n))
         (padsFor (w .drive) (w .vol) (sweepWays n)) (w .secret) (w .old) (w .contents))
     swept-keeps = worked-keeps w x (sweepWays n) (contentsOf (w .drive) (w .vol)) (w .contents) sweep-ready

@@ -21,8 +21,8 @@ use Rattle.drive.specs.Drive.{shapeOf}
 use Rattle.opening.specs.Mount.{mountAnswer, mountDone}
 use Rattle.nuggets.specs.Nugget.{secretFor, storedIn}
 use Rattle.reading.specs.Read.{readBuffer}
-use Rattle.reports.specs.Counts.{movedIn, flakesIn}
-use Rattle.reports.specs.Report.{counted, reportOf}
+use Rattle.reports.specs.Counts.{flakesIn}
+use Rattle.reports.specs.Report.{reportOf}
 use Rattle.ledger.specs.Listing.{lastOf, NoneTwice}
 use Rattle.history.specs.World.{World, Call, read, write}
 use Rattle.history.specs.Step.{oldFor, answerTo, step, changesBy, writesAt}
@@ -115,15 +115,7 @@ MountsBack =
     → let w = history start calls in
     mountDone (w .vol) (w .secret) (oldFor w any) (w .outside) ≡ record { answer = A.Accepted; drive = w .drive }
 
--- 7. "Report gives N, nuggets moved (epoch equal to the head's), left, flakes present, and share": those of the records.
-abbrev pub ReportTells : Type 0
-ReportTells =
-    (start : Start) (calls : List Call)
-    → let w = history start calls in
-    let n = w .drive .n in
-    reportOf (w .drive) (w .vol) ≡ counted A.Accepted n (movedIn (w .drive .epoch) (w .vol) n) (flakesIn (w .drive .p) (w .vol) n)
-
--- The share is 100.00 exactly when nothing is left.
+-- 7. The share is 100.00 exactly when nothing is left.
 abbrev pub ShareFull : Type 0
 ShareFull =
     (start : Start) (calls : List Call)

@@ -3,3 +3,4 @@ pub mod Step
 pub mod History
 pub mod Demands
 pub mod Pads
+pub mod Answers

@@ -1,4 +1,5 @@
 pub mod FillLaws
 pub mod AnswerLaws
 pub mod Refused
+pub mod Exact
 pub mod Outcomes

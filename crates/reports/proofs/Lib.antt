@@ -2,4 +2,5 @@ pub mod CountLaws
 pub mod AnswerLaws
 pub mod ReportLaws
 pub mod StoredLaws
+pub mod Exact
 pub mod Outcomes

@@ -1,0 +1,111 @@
+-- Where nothing is altered, and no keycount is above the counter, the calls that change answer by numbers alone.
+use mathlib.Core.Path.{_≡_, refl, ap}
+use mathlib.Core.Bool.{Bool, true, false, not}
+use mathlib.Core.List.{List}
+use Prim.Native.Nat.{ℕ, zero, suc, _+_, _*_, _-_, _^_, _<_, _≤_}
+use native.Mathlib.Omega.{arith}
+use lib.Dec.{eqb, leb, ltb}
+use borrow.Author.Tests.{ne-eqb, eqb-false, ltb-true}
+use Rattle.base.specs.Pick.{pick}
+use Rattle.base.specs.Lists.{same}
+use Rattle.base.proofs.PickLaws.{yes, no}
+use Rattle.answers.specs.declared.Answer.{Answer}
+use Rattle.answers.specs.declared.Answer.the-variants as A
+use Rattle.answers.specs.Numbers.{accepts}
+use Rattle.answers.specs.Stages.{andThen}
+use Rattle.records.specs.declared.Way.{Way}
+use Rattle.records.specs.declared.Way.the-variants.{Idle, Add, Rekey}
+use Rattle.records.specs.Journal.{many}
+use Rattle.records.specs.Rule.{rekeys, atTop, sweepWay}
+use Rattle.tree.specs.Path.{recordOf}
+use Rattle.tree.specs.Whole.{wholeOf}
+use Rattle.drive.specs.declared.Drive.{Drive}
+use Rattle.drive.specs.Drive.{shapeOf, isChanging, counterTop}
+use Rattle.drive.specs.Opening.{openingOf}
+use Rattle.nuggets.specs.Tests.{flakesOf, pathFor}
+use Rattle.nuggets.specs.Touched.{fitsIn}
+use Rattle.reports.specs.Counts.{isMoved}
+use Rattle.reports.proofs.Exact.{many-not}
+use Rattle.changes.specs.Change.{idles, nuggetChange, testedTo}
+use Rattle.changes.specs.Write.{writeWay, writeAnswer}
+use Rattle.changes.specs.Rekey.{beginAnswer, sweepAnswer, leftIn, finishAnswer}
+
+-- every test that could call drive or volume altered passes
+pub record Clean (d : Drive) (v : List ℕ) : Type 0 where
+  pub opens : openingOf d v ≡ A.Accepted
+  pub paths : (n : ℕ) → n < d .n → pathFor d v n ≡ A.Accepted
+  pub whole : wholeOf (shapeOf d) (d .epoch) (isChanging (d .state)) v ≡ A.Accepted
+  pub flakes : (n : ℕ) → n < d .n → flakesOf d v n (recordOf v n .journal) ≡ A.Accepted
+  -- no keycount is above the counter, nor that above its top
+  pub counted : d .counter ≤ counterTop
+  pub below : (n : ℕ) → n < d .n → recordOf v n .keycount ≤ d .counter
+
+-- behind a test, where it holds and where it doesn't
+within : (b : Bool) {x y : Answer} (r : Answer) → (b ≡ true → x ≡ y) → pick b x r ≡ pick b y r
+within true r e = e refl
+within false r e = refl
+
+beyond : (b : Bool) {x y : Answer} (r : Answer) → (b ≡ false → x ≡ y) → pick b r x ≡ pick b r y
+beyond true r e = refl
+beyond false r e = e refl
+
+taken : (b : Bool) {x y : Answer} → x ≡ A.Accepted → y ≡ A.Accepted → pick b x y ≡ A.Accepted
+taken true p q = p
+taken false p q = q
+
+module _ (d : Drive) (v : List ℕ) (x : Clean d v) where
+  -- "14" isn't due while 13 isn't
+  room : eqb (d .counter) counterTop ≡ false → (way : Way) (n : ℕ) → n < d .n → atTop way (recordOf v n) ≡ false
+  unfolding atTop
+  room low Idle n h = refl
+  room low (Add t) n h = refl
+  room low (Rekey t) n h =
+      ne-eqb (recordOf v n .keycount) (2 ^ 64 - 1) (λ e. eqb-false (d .counter) counterTop low (omega (arith, e, x .below n h, x .counted)))
+
+  nugget-taken : eqb (d .counter) counterTop ≡ false → (n : ℕ) (way : Way) → n < d .n → nuggetChange d v n way ≡ A.Accepted
+  unfolding nuggetChange andThen
+  nugget-taken low n way h =
+      taken (idles way) refl (yes _ (ap accepts (x .paths n h)) (no _ (room low way n h) (taken (rekeys way) (x .flakes n h) refl)))
+
+  tested-taken : eqb (d .counter) counterTop ≡ false → (way : ℕ → Way) (n : ℕ) → n ≤ d .n → testedTo d v way n ≡ A.Accepted
+  unfolding testedTo andThen
+  tested-taken low way zero h = refl
+  tested-taken low way (suc n) h = yes _ (ap accepts (tested-taken low way n (omega arith))) (nugget-taken low n (way n) (omega arith))
+
+  pub write-exact : (o len : ℕ) → writeAnswer d v o len
+      ≡ pick (leb (o + len) (d .n * d .p * d .f)) (pick (eqb len 0) A.Accepted (pick (eqb (d .counter) (2 ^ 64 - 1)) A.CounterTop A.Accepted)) A.PastEnd
+  unfolding writeAnswer andThen fitsIn
+  write-exact o len =
+      yes _ (ap accepts (x .opens))
+      (within (leb (o + len) (d .n * d .p * d .f)) _
+      (λ fits. beyond (eqb len 0) _ (λ some. beyond (eqb (d .counter) counterTop) _ (λ low. tested-taken low (writeWay d v o len) (d .n) (omega arith)))))
+
+  pub begin-exact : (secret : List ℕ) → beginAnswer d v secret
+      ≡ pick (isChanging (d .state)) A.State
+      (pick (same secret (d .present)) A.SameSecret (pick (eqb (d .epoch) 65535) A.EpochTop (pick (eqb (d .counter) (2 ^ 64 - 1)) A.CounterTop A.Accepted)))
+  unfolding beginAnswer andThen
+  begin-exact secret = yes _ (ap accepts (x .opens)) refl
+
+  pub sweep-exact : (n : ℕ) → sweepAnswer d v n
+      ≡ pick (isChanging (d .state))
+      (pick (ltb n (d .n)) (pick (eqb (recordOf v n .epoch) (d .epoch)) A.Moved (pick (eqb (d .counter) (2 ^ 64 - 1)) A.CounterTop A.Accepted)) A.PastEnd)
+      A.State
+  unfolding sweepAnswer andThen
+  sweep-exact n =
+      yes _ (ap accepts (x .opens))
+      (within (isChanging (d .state)) _
+      (λ changing. within (ltb n (d .n)) _
+      (λ h. yes _ (ap accepts (x .paths n (ltb-true n (d .n) h)))
+      (beyond (eqb (recordOf v n .epoch) (d .epoch)) _
+      (λ left. beyond (eqb (d .counter) counterTop) _
+      (λ low. no _ (room low sweepWay n (ltb-true n (d .n) h)) (x .flakes n (ltb-true n (d .n) h))))))))
+
+  -- those left, counted one by one
+  pub left-counted : leftIn d v ≡ many (d .n) (λ i. not (eqb (recordOf v i .epoch) (d .epoch)))
+  left-counted = many-not (d .n) (isMoved (d .epoch) v)
+
+  pub finish-exact : let left = many (d .n) (λ i. not (eqb (recordOf v i .epoch) (d .epoch))) in
+      finishAnswer d v
+      ≡ pick (isChanging (d .state)) (pick (ltb 0 left) (A.Left left) (pick (eqb (d .counter) (2 ^ 64 - 1)) A.CounterTop A.Accepted)) A.State
+  unfolding finishAnswer andThen
+  finish-exact = yes _ (ap accepts (x .opens)) (rw (x .whole, left-counted) refl)

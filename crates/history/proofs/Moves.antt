@@ -1,0 +1,76 @@
+-- What a begin, a sweep and a finish need to be accepted, and what they leave.
+use mathlib.Core.Path.{_≡_, refl, ap, _∙_}
+use mathlib.Core.Bool.{true, false}
+use mathlib.Core.List.{List}
+use Prim.Native.Nat.{ℕ, _<_}
+use native.Mathlib.Omega.{arith}
+use lib.Dec.{ltb}
+use borrow.Author.Tests.{eq-eqb, ne-eqb, lt-ltb, le-ltb}
+use Rattle.base.specs.Lists.{same}
+use Rattle.base.proofs.PickLaws.{yes, no}
+use Rattle.answers.specs.declared.Answer.the-variants as A
+use Rattle.answers.specs.Numbers.{accepts}
+use Rattle.records.specs.declared.Record.{Record}
+use Rattle.records.specs.Rule.{turned, epochAfter}
+use Rattle.tree.specs.Path.{recordOf}
+use Rattle.drive.specs.Drive.{counterTop}
+use Rattle.changes.specs.Rekey.{epochTop, begunDrive, beginDone, sweepAnswer, sweepWays, sweptDrive, sweepDone, sweepVolume, finishedDrive, finishDone}
+use Rattle.changes.proofs.SweepLaws.{way-own, way-other}
+use Rattle.history.specs.World.{World, begin, sweep, finish}
+use Rattle.history.specs.Step.{answerTo, left, step}
+use Rattle.history.specs.Answers.{changing, isMoved, nuggetsLeft}
+use Rattle.history.proofs.Taken.{Sweeps, sweeps}
+use Rattle.history.proofs.Sound.{Sound}
+use Rattle.history.proofs.Ways.{swept-turns}
+use Rattle.history.proofs.Table.{exactly}
+
+module _ (w : World) (x : Sound w) where
+  module _ (low : w .drive .counter < counterTop) where
+    pub begin-accepted : (secret : List ℕ) → changing w ≡ false → same secret (w .secret) ≡ false → w .drive .epoch < epochTop → answerTo w (begin secret) ≡ A.Accepted
+    begin-accepted secret steady new early =
+        exactly w x (begin secret)
+        ∙ no _ steady
+        (no _ new (no _ (ne-eqb (w .drive .epoch) epochTop (λ e. omega (arith, e, early))) (no _ (ne-eqb (w .drive .counter) counterTop (λ e. omega (arith, e, low))) refl)))
+
+    pub sweep-accepted : (n : ℕ) → changing w ≡ true → n < w .drive .n → isMoved w n ≡ false → answerTo w (sweep n) ≡ A.Accepted
+    sweep-accepted n begun inside still =
+        exactly w x (sweep n)
+        ∙ yes _ begun (yes _ (lt-ltb n (w .drive .n) inside) (no _ still (no _ (ne-eqb (w .drive .counter) counterTop (λ e. omega (arith, e, low))) refl)))
+
+    pub finish-accepted : changing w ≡ true → nuggetsLeft w ≡ 0 → answerTo w finish ≡ A.Accepted
+    finish-accepted begun none =
+        exactly w x finish
+        ∙ yes _ begun
+        (no _ (le-ltb 0 (nuggetsLeft w) (omega (arith, none))) (no _ (ne-eqb (w .drive .counter) counterTop (λ e. omega (arith, e, low))) refl))
+
+  pub begin-leaves : (secret : List ℕ) → answerTo w (begin secret) ≡ A.Accepted → step w (begin secret) .drive ≡ begunDrive (w .drive) secret
+  unfolding step left beginDone
+  begin-leaves secret e = yes _ (ap accepts e) refl
+
+  pub finish-leaves : answerTo w finish ≡ A.Accepted → step w finish .drive ≡ finishedDrive (w .drive)
+  unfolding step left finishDone
+  finish-leaves e = yes _ (ap accepts e) refl
+
+  module _ (n : ℕ) (e : answerTo w (sweep n) ≡ A.Accepted) where
+    pub sweep-leaves : step w (sweep n) .drive ≡ sweptDrive (w .drive) (w .vol) n
+    unfolding step left sweepDone
+    sweep-leaves = yes _ (ap accepts e) refl
+
+    taken : accepts (sweepAnswer (w .drive) (w .vol) n) ≡ true
+    taken = ap accepts e
+
+    pub sweep-tells : Sweeps (w .drive) (w .vol) n
+    sweep-tells = sweeps (w .drive) (w .vol) n taken
+
+    -- each record is the one turned in its nugget's way
+    swept-record : (m : ℕ) → m < w .drive .n → recordOf (step w (sweep n) .vol) m ≡ turned (sweepWays n m) (w .drive .epoch) (recordOf (w .vol) m)
+    unfolding step left sweepVolume
+    swept-record m h = rw taken (swept-turns w x n sweep-tells m h)
+
+    pub swept-own : recordOf (step w (sweep n) .vol) n .epoch ≡ w .drive .epoch
+    unfolding epochAfter
+    swept-own = ap (λ (r : Record). r .epoch) (swept-record n (sweep-tells .inside)) ∙ rw (way-own n) refl
+
+    pub swept-other : (m : ℕ) → m < w .drive .n → (m ≡ n → ⊥) → recordOf (step w (sweep n) .vol) m .epoch ≡ recordOf (w .vol) m .epoch
+    unfolding epochAfter
+    swept-other m h far = ap (λ (r : Record). r .epoch) (swept-record m h) ∙ rw (way-other n m far) refl

@@ -1,0 +1,96 @@
+-- The report field by field, and a sweep that raises its moved by one.
+use mathlib.Core.Path.{_≡_, refl, sym, ap, _∙_}
+use mathlib.Core.Bool.{Bool, true, false}
+use mathlib.Core.Logic.{_⊎_, inl, inr}
+use Prim.Native.Nat.{ℕ, zero, suc, _+_, _<_}
+use native.Mathlib.Omega.{arith}
+use lib.Dec.{eqb, ltb}
+use borrow.Author.Tests.{eq-eqb, eqb-true, eqb-false}
+use Rattle.base.specs.Pick.{pick}
+use Rattle.base.proofs.PickLaws.{told}
+use Rattle.answers.specs.declared.Answer.the-variants as A
+use Rattle.answers.specs.Numbers.{accepts}
+use Rattle.answers.proofs.StageLaws.{passed, spared}
+use Rattle.records.specs.Journal.{many}
+use Rattle.tree.specs.Path.{recordOf}
+use Rattle.drive.specs.declared.Drive.{Drive}
+use Rattle.reports.proofs.Exact.{report-exact}
+use Rattle.changes.specs.Change.{advanced}
+use Rattle.history.specs.World.{World, sweep}
+use Rattle.history.specs.Step.{answerTo, step}
+use Rattle.history.specs.History.{history}
+use Rattle.history.specs.Answers.{changing, isMoved, Tells, reportOn, ReportTells, SweepMoves}
+use Rattle.history.proofs.Quiet.{report-accepts}
+use Rattle.history.proofs.Sound.{Sound}
+use Rattle.history.proofs.Steps.{step-sound, sound}
+use Rattle.history.proofs.Table.{exactly}
+use Rattle.history.proofs.Demands.{flakes-sum}
+use Rattle.history.proofs.Moves.{sweep-tells, sweep-leaves, swept-own, swept-other}
+
+tells : (w : World) → Sound w → Tells w (reportOn w)
+tells w x =
+    let t = report-exact (w .drive) (w .vol) (report-accepts (w .drive) (w .vol) (x .untouched)) in
+    record {
+      accepted = t .answer-told;
+      nuggets = t .n-told;
+      moved = t .moved-told;
+      left = t .left-told;
+      flakes = t .flakes-told ∙ sym (flakes-sum (w .drive .p) (w .vol) (w .drive .n));
+      share = t .share-told;
+    }
+
+pub report-tells : ReportTells
+report-tells start calls = tells (history start calls) (sound start calls)
+
+-- counts of tests that agree, and of tests that differ at one place
+many-same : (k : ℕ) (g h : ℕ → Bool) → ((i : ℕ) → i < k → h i ≡ g i) → many k h ≡ many k g
+unfolding many
+many-same zero g h e = refl
+many-same (suc k) g h e = rw (e k (omega arith), many-same k g h (λ i l. e i (omega arith))) refl
+
+many-one : (k : ℕ) (g h : ℕ → Bool) (n : ℕ) → n < k → g n ≡ false → h n ≡ true → ((i : ℕ) → i < k → (i ≡ n → ⊥) → h i ≡ g i) → many k h ≡ many k g + 1
+unfolding many
+many-one zero g h n l off on e = absurd (omega arith)
+many-one (suc k) g h n l off on e = go (told (eqb n k)) (λ far. many-one k g h n (omega (arith, far)) off on (λ i a b. e i (omega arith) b))
+  where
+    go : (eqb n k ≡ true) ⊎ (eqb n k ≡ false) → ((n ≡ k → ⊥) → many k h ≡ many k g + 1) → many k h + pick (h k) 1 0 ≡ many k g + pick (g k) 1 0 + 1
+    go (inl q) again =
+        let here = eqb-true n k q in
+        let was : g k ≡ false = rw here at off in
+        let is : h k ≡ true = rw here at on in
+        rw (was, is) (omega (arith, many-same k g h (λ i a. e i (omega arith) (λ z. omega (arith, z, here)))))
+    go (inr q) again =
+        let far = eqb-false n k q in
+        rw (e k (omega arith) (λ z. far (sym z))) (omega (arith, again far))
+
+module _ (w : World) (x : Sound w) (n : ℕ) (e : answerTo w (sweep n) ≡ A.Accepted) where
+  -- it wasn't moved
+  still : isMoved w n ≡ false
+  still =
+      let t₁ = passed (changing w) _ A.State refl (ap accepts (sym (exactly w x (sweep n)) ∙ e)) in
+      let t₂ = passed (ltb n (w .drive .n)) _ A.PastEnd refl (t₁ .1) in
+      spared (isMoved w n) A.Moved _ refl (t₂ .1) .0
+
+  epoch-kept : step w (sweep n) .drive .epoch ≡ w .drive .epoch
+  unfolding advanced
+  epoch-kept = ap (λ (d : Drive). d .epoch) (sweep-leaves w x n e)
+
+  n-kept : step w (sweep n) .drive .n ≡ w .drive .n
+  unfolding advanced
+  n-kept = ap (λ (d : Drive). d .n) (sweep-leaves w x n e)
+
+  moves : many (w .drive .n) (isMoved (step w (sweep n))) ≡ many (w .drive .n) (isMoved w) + 1
+  moves =
+      many-one (w .drive .n) (isMoved w) (isMoved (step w (sweep n))) n (sweep-tells w x n e .inside) still
+      (eq-eqb (recordOf (step w (sweep n) .vol) n .epoch) (step w (sweep n) .drive .epoch) (swept-own w x n e ∙ sym epoch-kept))
+      (λ i a b. rw (swept-other w x n e i a b, epoch-kept) refl)
+
+  sweep-raises : reportOn (step w (sweep n)) .moved ≡ reportOn w .moved + 1
+  sweep-raises =
+      tells (step w (sweep n)) (step-sound w (sweep n) x) .moved
+      ∙ ap (λ (k : ℕ). many k (isMoved (step w (sweep n)))) n-kept
+      ∙ moves
+      ∙ ap (λ (k : ℕ). k + 1) (sym (tells w x .moved))
+
+pub sweep-moves : SweepMoves
+sweep-moves start calls n e = sweep-raises (history start calls) (sound start calls) n e

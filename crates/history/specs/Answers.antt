@@ -1,0 +1,167 @@
+-- What each call answers in every history, that a change of the secret can always be brought to its end, and when the old
+-- secret may go. Each statement is proved, under the same name in small letters, in proofs/.
+use Prim.Native.Nat.{ℕ, zero, suc, _+_, _*_, _-_, _/_, _^_, _<_}
+use mathlib.Core.Path.{_≡_}
+use mathlib.Core.Bool.{Bool, true, false, not}
+use mathlib.Core.Logic.{_⊎_}
+use mathlib.Core.List.{List, [], _∷_, _++_}
+use mathlib.Core.Option.{some}
+use lib.Dec.{eqb, leb, ltb}
+use lib.ListN.{length}
+use Rattle.base.specs.Pick.{pick, both}
+use Rattle.base.specs.Lists.{same}
+use Rattle.words.specs.Le.{le}
+use Rattle.blake2s.specs.Hash.{blake2s}
+use Rattle.answers.specs.declared.Answer.{Answer}
+use Rattle.answers.specs.declared.Answer.the-variants as A
+use Rattle.answers.specs.Numbers.{accepts}
+use Rattle.records.specs.Journal.{bit, many}
+use Rattle.records.specs.Listing.{Entry}
+use Rattle.tree.specs.Path.{recordOf}
+use Rattle.drive.specs.Drive.{isChanging}
+use Rattle.opening.specs.Mount.{mountAnswer, mountDone}
+use Rattle.reports.specs.declared.told.Report.{Report}
+use Rattle.reports.specs.Report.{reportOf}
+use Rattle.ledger.specs.Listing.{lastOf}
+use Rattle.ledger.specs.Totals.{sum}
+use Rattle.history.specs.World.{World, Call, mount, read, write, begin, sweep, finish, report, stored}
+use Rattle.history.specs.Step.{answerTo, step}
+use Rattle.history.specs.History.{Start, run, history}
+
+infixr 10 _if_else_ _unless_else_
+-- A line of the tables below: an answer, and when it is due. The first that is due is given.
+abbrev pub _if_else_ : Answer → Bool → Answer → Answer
+a if test else b = pick test a b
+
+abbrev pub _unless_else_ : Answer → Bool → Answer → Answer
+a unless test else b = pick test b a
+
+-- "State is either steady or changing"
+abbrev pub changing : World → Bool
+changing w = isChanging (w .drive .state)
+
+-- "moved (epoch equal to the head's)", and left: not so
+abbrev pub isMoved : World → ℕ → Bool
+isMoved w n = eqb (recordOf (w .vol) n .epoch) (w .drive .epoch)
+
+abbrev pub isLeft : World → ℕ → Bool
+isLeft w n = not (isMoved w n)
+
+-- nuggets left, of all N
+abbrev pub nuggetsLeft : World → ℕ
+nuggetsLeft w = many (w .drive .n) (isLeft w)
+
+-- "counter at its top"
+abbrev pub counterFull : World → Bool
+counterFull w = eqb (w .drive .counter) (2 ^ 64 - 1)
+
+-- the range lies within the N P F bytes of the drive
+abbrev pub within : World → ℕ → ℕ → Bool
+within w o len = leb (o + len) (w .drive .n * w .drive .p * w .drive .f)
+
+-- The table. 8: past the end; 9: not in this state; 10: the same secret; 11: nuggets left; 12: moved; 13: counter at its top;
+-- 15: epoch at its top. 1 to 7 aren't in it, nor is 14: no keycount is above the counter, so 13 comes first.
+abbrev pub due : World → Call → Answer
+due w (mount any) = A.Accepted
+due w (read o buffer) = A.PastEnd unless within w o (length buffer) else A.Accepted
+due w (write o bytes) =
+    A.PastEnd unless within w o (length bytes)
+    else A.Accepted if eqb (length bytes) 0
+    else A.CounterTop if counterFull w
+    else A.Accepted
+due w (begin secret) =
+    A.State if changing w
+    else A.SameSecret if same secret (w .secret)
+    else A.EpochTop if eqb (w .drive .epoch) 65535
+    else A.CounterTop if counterFull w
+    else A.Accepted
+due w (sweep n) =
+    A.State unless changing w
+    else A.PastEnd unless ltb n (w .drive .n)
+    else A.Moved if isMoved w n
+    else A.CounterTop if counterFull w
+    else A.Accepted
+due w finish =
+    A.State unless changing w
+    else A.Left (nuggetsLeft w) if ltb 0 (nuggetsLeft w)
+    else A.CounterTop if counterFull w
+    else A.Accepted
+due w report = A.Accepted
+due w (stored n f) = A.PastEnd unless both (ltb n (w .drive .n)) (ltb f (w .drive .p)) else A.Accepted
+
+-- In every history each call answers what the table says, and nothing else.
+abbrev pub AnswersExactly : Type 0
+AnswersExactly = (start : Start) (calls : List Call) (c : Call) → answerTo (history start calls) c ≡ due (history start calls) c
+
+-- each call is accepted, on what those before it left
+unfoldable pub allAccepted : World → List Call → Bool
+allAccepted w [] = true
+allAccepted w (c ∷ calls) = both (accepts (answerTo w c)) (allAccepted (step w c) calls)
+
+-- a sweep of each nugget below k that is left
+unfoldable pub sweepsOf : World → ℕ → List Call
+sweepsOf w zero = []
+sweepsOf w (suc k) = sweepsOf w k ++ pick (isLeft w k) (sweep k ∷ []) []
+
+-- what is to be done until the old secret may go: begin if it isn't begun, a sweep of each nugget left, finish
+abbrev pub restOf : World → List Call
+restOf w = sweepsOf w (w .drive .n) ++ (finish ∷ [])
+
+abbrev pub changeTo : List ℕ → World → List Call
+changeTo secret w = pick (changing w) (restOf w) (begin secret ∷ restOf (step w (begin secret)))
+
+-- From any point of a history with room in counter and epoch a change of the secret comes to its end: all its calls are
+-- accepted, and then the drive is steady.
+abbrev pub Completes : Type 0
+Completes =
+    (start : Start) (calls : List Call) (secret : List ℕ)
+    → let w = history start calls in
+    w .drive .counter + w .drive .n + 2 < 2 ^ 64 → (changing w ≡ false → (w .drive .epoch < 65535) × (secret ≡ w .secret → ⊥))
+    → (allAccepted w (changeTo secret w) ≡ true) × (changing (run w (changeTo secret w)) ≡ false)
+
+-- In a steady drive the old secret is free: each present flake lies under a pad of the present secret, and a mount with
+-- anything in its place is accepted and gives the very drive.
+abbrev pub OldSecretFree : Type 0
+OldSecretFree =
+    (start : Start) (calls : List Call)
+    → let w = history start calls in
+    changing w ≡ false
+    → ((n f : ℕ) (pad : Entry) → n < w .drive .n → bit (recordOf (w .vol) n .journal) f ≡ true → lastOf n f (w .listing) ≡ some pad → pad .secret ≡ w .secret)
+    × ((any : List ℕ) → mountDone (w .vol) (w .secret) any (w .outside) ≡ record { answer = A.Accepted; drive = w .drive })
+
+-- two different keyed messages with the same BLAKE2s value: two keys over one message
+pub record Collision (key other message : List ℕ) : Type 0 where
+  pub differ : key ≡ other → ⊥
+  pub agree : blake2s key message ≡ blake2s other message
+
+-- While changing it is needed, even with nothing left: a mount with another one is refused with 5, or else the two are a
+-- collision over the check's message. So a share of 100.00 isn't leave to destroy it; only an accepted finish is.
+abbrev pub OldSecretNeeded : Type 0
+OldSecretNeeded =
+    (start : Start) (calls : List Call) (other : List ℕ)
+    → let w = history start calls in
+    changing w ≡ true → (w .old ≡ other → ⊥)
+    → (mountAnswer (w .vol) (w .secret) other (w .outside) ≡ A.OldSecret) ⊎ Collision (w .old) other (79 ∷ (w .drive .salt ++ le 2 (w .drive .epoch)))
+
+-- "Report gives N, nuggets moved (epoch equal to the head's), left, flakes present, and share = moved × 10,000 / N rounded down"
+pub record Tells (w : World) (r : Report) : Type 0 where
+  pub accepted : r .answer ≡ A.Accepted
+  pub nuggets : r .n ≡ w .drive .n
+  pub moved : r .moved ≡ many (w .drive .n) (isMoved w)
+  pub left : r .left ≡ nuggetsLeft w
+  pub flakes : r .flakes ≡ sum (w .drive .n) (λ n. many (w .drive .p) (bit (recordOf (w .vol) n .journal)))
+  pub share : r .share ≡ r .moved * 10000 / r .n
+
+-- the report on what the user holds
+abbrev pub reportOn : World → Report
+reportOn w = reportOf (w .drive) (w .vol)
+
+abbrev pub ReportTells : Type 0
+ReportTells = (start : Start) (calls : List Call) → Tells (history start calls) (reportOn (history start calls))
+
+-- An accepted sweep raises the report's moved by one.
+abbrev pub SweepMoves : Type 0
+SweepMoves =
+    (start : Start) (calls : List Call) (n : ℕ)
+    → let w = history start calls in
+    answerTo w (sweep n) ≡ A.Accepted → reportOn (step w (sweep n)) .moved ≡ reportOn w .moved + 1

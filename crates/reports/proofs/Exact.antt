@@ -1,0 +1,72 @@
+-- An accepted report field by field, read off the records; and where nothing is altered what stored flake answers and shows.
+use mathlib.Core.Path.{_≡_, refl, sym, ap, _∙_}
+use mathlib.Core.Bool.{Bool, true, false, not}
+use mathlib.Core.List.{List}
+use Prim.Native.Nat.{ℕ, zero, suc, _+_, _*_, _-_, _/_}
+use native.Mathlib.Omega.{arith}
+use lib.Dec.{eqb, ltb}
+use lib.ListN.{length}
+use borrow.Author.Tests.{eq-eqb}
+use Rattle.base.specs.Pick.{pick, both}
+use Rattle.base.specs.Lists.{part}
+use Rattle.base.proofs.PickLaws.{yes}
+use Rattle.answers.specs.declared.Answer.the-variants as A
+use Rattle.answers.specs.Numbers.{accepts}
+use Rattle.layout.specs.Parts.{lengthOf, flakeAt}
+use Rattle.records.specs.Journal.{many}
+use Rattle.tree.specs.Path.{recordOf}
+use Rattle.drive.specs.declared.Drive.{Drive}
+use Rattle.drive.specs.Drive.{shapeOf}
+use Rattle.drive.specs.Opening.{openingOf}
+use Rattle.drive.proofs.OpeningLaws.{opening-told}
+use Rattle.reports.specs.declared.told.Report.{Report}
+use Rattle.reports.specs.Counts.{flakesIn}
+use Rattle.reports.specs.Report.{reportAnswer, reportOf}
+use Rattle.reports.specs.Stored.{isFlake, storedAnswer, storedFlake}
+use Rattle.reports.proofs.ReportLaws.{report-accepted}
+
+-- those that pass a test and those that don't are all
+many-rest : (n : ℕ) (g : ℕ → Bool) → many n g + many n (λ i. not (g i)) ≡ n
+unfolding many
+many-rest zero g = refl
+many-rest (suc n) g = go (g n) (many-rest n g)
+  where
+    go : (b : Bool) → many n g + many n (λ i. not (g i)) ≡ n → many n g + pick b 1 0 + (many n (λ i. not (g i)) + pick (not b) 1 0) ≡ suc n
+    go true h = omega arith
+    go false h = omega arith
+
+-- so those that don't are the rest
+pub many-not : (n : ℕ) (g : ℕ → Bool) → n - many n g ≡ many n (λ i. not (g i))
+many-not n g = omega (arith, many-rest n g)
+
+module _ (d : Drive) (v : List ℕ) where
+  -- "Report gives N, nuggets moved (epoch equal to the head's), left, flakes present, and share"
+  pub record Told (r : Report) : Type 0 where
+    pub answer-told : r .answer ≡ A.Accepted
+    pub n-told : r .n ≡ d .n
+    pub moved-told : r .moved ≡ many (d .n) (λ i. eqb (recordOf v i .epoch) (d .epoch))
+    pub left-told : r .left ≡ many (d .n) (λ i. not (eqb (recordOf v i .epoch) (d .epoch)))
+    pub flakes-told : r .flakes ≡ flakesIn (d .p) v (d .n)
+    pub share-told : r .share ≡ r .moved * 10000 / r .n
+
+  pub report-exact : reportAnswer d v ≡ A.Accepted → Told (reportOf d v)
+  report-exact e =
+      rw (report-accepted d v (ap accepts e))
+      (record {
+        answer-told = e;
+        n-told = refl;
+        moved-told = refl;
+        left-told = many-not (d .n) (λ i. eqb (recordOf v i .epoch) (d .epoch));
+        flakes-told = refl;
+        share-told = refl;
+      })
+
+  -- stored flake: 8 past the end, else accepted
+  pub stored-exact : openingOf d v ≡ A.Accepted → (n f : ℕ) → storedAnswer d v n f ≡ pick (both (ltb n (d .n)) (ltb f (d .p))) A.Accepted A.PastEnd
+  unfolding storedAnswer isFlake
+  stored-exact e n f = let t = opening-told d v e in yes _ (t .form) (yes _ (eq-eqb (length v) (lengthOf (shapeOf d)) (t .long)) refl)
+
+  -- "as that part of the volume itself"
+  pub stored-shown : (n f : ℕ) → storedAnswer d v n f ≡ A.Accepted → storedFlake d v n f ≡ part (flakeAt (shapeOf d) n f) (d .f) v
+  unfolding storedFlake
+  stored-shown n f e = yes _ (ap accepts e) refl
