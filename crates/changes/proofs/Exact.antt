@@ -41,13 +41,13 @@ pub record Clean (d : Drive) (v : List ℕ) : Type 0 where
   pub below : (n : ℕ) → n < d .n → recordOf v n .keycount ≤ d .counter
 
 -- behind a test, where it holds and where it doesn't
-within : (b : Bool) {x y : Answer} (r : Answer) → (b ≡ true → x ≡ y) → pick b x r ≡ pick b y r
-within true r e = e refl
-within false r e = refl
+pub yes-same : (b : Bool) {A : Type 0} {x y : A} (r : A) → (b ≡ true → x ≡ y) → pick b x r ≡ pick b y r
+yes-same true r e = e refl
+yes-same false r e = refl
 
-beyond : (b : Bool) {x y : Answer} (r : Answer) → (b ≡ false → x ≡ y) → pick b r x ≡ pick b r y
-beyond true r e = refl
-beyond false r e = e refl
+pub no-same : (b : Bool) {A : Type 0} {x y : A} (r : A) → (b ≡ false → x ≡ y) → pick b r x ≡ pick b r y
+no-same true r e = refl
+no-same false r e = e refl
 
 taken : (b : Bool) {x y : Answer} → x ≡ A.Accepted → y ≡ A.Accepted → pick b x y ≡ A.Accepted
 taken true p q = p
@@ -77,8 +77,8 @@ module _ (d : Drive) (v : List ℕ) (x : Clean d v) where
   unfolding writeAnswer andThen fitsIn
   write-exact o len =
       yes _ (ap accepts (x .opens))
-      (within (leb (o + len) (d .n * d .p * d .f)) _
-      (λ fits. beyond (eqb len 0) _ (λ some. beyond (eqb (d .counter) counterTop) _ (λ low. tested-taken low (writeWay d v o len) (d .n) (omega arith)))))
+      (yes-same (leb (o + len) (d .n * d .p * d .f)) _
+      (λ fits. no-same (eqb len 0) _ (λ some. no-same (eqb (d .counter) counterTop) _ (λ low. tested-taken low (writeWay d v o len) (d .n) (omega arith)))))
 
   pub begin-exact : (secret : List ℕ) → beginAnswer d v secret
       ≡ pick (isChanging (d .state)) A.State
@@ -93,11 +93,11 @@ module _ (d : Drive) (v : List ℕ) (x : Clean d v) where
   unfolding sweepAnswer andThen
   sweep-exact n =
       yes _ (ap accepts (x .opens))
-      (within (isChanging (d .state)) _
-      (λ changing. within (ltb n (d .n)) _
+      (yes-same (isChanging (d .state)) _
+      (λ changing. yes-same (ltb n (d .n)) _
       (λ h. yes _ (ap accepts (x .paths n (ltb-true n (d .n) h)))
-      (beyond (eqb (recordOf v n .epoch) (d .epoch)) _
-      (λ left. beyond (eqb (d .counter) counterTop) _
+      (no-same (eqb (recordOf v n .epoch) (d .epoch)) _
+      (λ left. no-same (eqb (d .counter) counterTop) _
       (λ low. no _ (room low sweepWay n (ltb-true n (d .n) h)) (x .flakes n (ltb-true n (d .n) h))))))))
 
   -- those left, counted one by one

@@ -9,21 +9,20 @@ use lib.Dec.{eqb}
 use borrow.Author.Tests.{eq-eqb, eqb-true, eqb-false, ne-eqb, not-true, not-false}
 use Rattle.base.specs.Pick.{pick, both}
 use Rattle.base.specs.Lists.{same}
-use Rattle.base.proofs.PickLaws.{told, clash, both-on}
+use Rattle.base.proofs.PickLaws.{told, both-on}
 use Rattle.base.proofs.FoldLaws.{same-true}
 use Rattle.answers.specs.declared.Answer.the-variants as A
 use Rattle.answers.specs.Numbers.{accepts}
-use Rattle.records.specs.Journal.{many}
 use Rattle.tree.specs.Path.{recordOf}
 use Rattle.drive.specs.declared.Drive.{Drive}
-use Rattle.drive.specs.declared.State.{State}
 use Rattle.drive.specs.Drive.{isChanging}
 use Rattle.changes.specs.Change.{advanced}
 use Rattle.changes.specs.Rekey.{begunDrive, finishedDrive}
 use Rattle.history.specs.World.{World, Call, begin, sweep, finish}
 use Rattle.history.specs.Step.{answerTo, step}
 use Rattle.history.specs.History.{run, history}
-use Rattle.history.specs.Answers.{changing, isMoved, isLeft, nuggetsLeft, allAccepted, sweepsOf, restOf, changeTo, Completes}
+use Rattle.history.specs.Answers.{changing, isMoved, isLeft, nuggetsLeft, allAccepted, sweepsOf, restOf, Completes}
+use Rattle.history.proofs.Counts.{many-none}
 use Rattle.history.proofs.Sound.{Sound}
 use Rattle.history.proofs.Steps.{step-sound, sound}
 use Rattle.history.proofs.Runs.{run-append}
@@ -40,11 +39,6 @@ accepted-append w [] b = refl
 accepted-append w (c ∷ a) b =
     ap (both (accepts (answerTo w c))) (accepted-append (step w c) a b)
     ∙ both-assoc (accepts (answerTo w c)) (allAccepted (step w c) a) (allAccepted (run (step w c) a) b)
-
-none-many : (k : ℕ) (g : ℕ → Bool) → ((i : ℕ) → i < k → g i ≡ false) → many k g ≡ 0
-unfolding many
-none-many zero g e = refl
-none-many (suc k) g e = rw (e k (omega arith), none-many k g (λ i l. e i (omega arith))) refl
 
 -- so far: the nuggets below k have moved, and the others are as they were
 record Swept (w : World) (k : ℕ) (u : World) : Type 0 where
@@ -130,7 +124,7 @@ module _ (w : World) (x : Sound w) (begun : changing w ≡ true) (room : w .driv
   rest-accepted =
       let (g, all) = swept (w .drive .n) (omega arith) in
       let u = run w (sweepsOf w (w .drive .n)) in
-      let none : nuggetsLeft u ≡ 0 = none-many (u .drive .n) (isLeft u) (λ i l. ap not (eq-eqb (recordOf (u .vol) i .epoch) (u .drive .epoch) (g .done i (rw (g .shape) at l) ∙ sym (g .epoch)))) in
+      let none : nuggetsLeft u ≡ 0 = many-none (u .drive .n) (isLeft u) (λ i l. ap not (eq-eqb (recordOf (u .vol) i .epoch) (u .drive .epoch) (g .done i (rw (g .shape) at l) ∙ sym (g .epoch)))) in
       let ok = finish-accepted u (g .sounds) (omega (arith, g .counter, room)) (g .begun) none in (
         accepted-append w (sweepsOf w (w .drive .n)) (finish ∷ []) ∙ both-on all (both-on (ap accepts ok) refl),
         ap changing (run-append w (sweepsOf w (w .drive .n)) (finish ∷ [])) ∙ ap (λ (d : Drive). isChanging (d .state)) (finish-leaves u (g .sounds) ok),

@@ -30,7 +30,7 @@ use Rattle.opening.specs.Format.{freshDrive, formatDone}
 use Rattle.ledger.specs.Totals.{sum, presentIn}
 use Rattle.ledger.specs.Ledger.{secretAt, entryAt}
 use Rattle.ledger.proofs.Theorems.{no-entry-twice as none-twice-in}
-use Rattle.history.specs.World.{World, Call, write}
+use Rattle.history.specs.World.{World, write}
 use Rattle.history.specs.Step.{step}
 use Rattle.history.specs.History.{Start, begun, run, history}
 use Rattle.history.specs.Demands.{ShapeKept, ReadsBack, WrittenLast, NeverWritten, NoEntryTwice, EntriesListed, plainIn, UnderLastPad, StaleNeverMounts, MountsBack, ShareFull}

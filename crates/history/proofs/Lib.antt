@@ -1,3 +1,4 @@
+pub mod Counts
 pub mod Quiet
 pub mod Runs
 pub mod Taken
@@ -14,6 +15,7 @@ pub mod Counters
 pub mod Demands
 pub mod Pads
 pub mod Moves
+pub mod Columns
 pub mod Told
 pub mod Complete
 pub mod Old

@@ -1,25 +1,28 @@
 -- What a begin, a sweep and a finish need to be accepted, and what they leave.
 use mathlib.Core.Path.{_≡_, refl, ap, _∙_}
 use mathlib.Core.Bool.{true, false}
+use mathlib.Core.Logic.{_⊎_, inl, inr}
 use mathlib.Core.List.{List}
-use Prim.Native.Nat.{ℕ, _<_}
+use Prim.Native.Nat.{ℕ, _+_, _<_}
 use native.Mathlib.Omega.{arith}
-use lib.Dec.{ltb}
-use borrow.Author.Tests.{eq-eqb, ne-eqb, lt-ltb, le-ltb}
+use borrow.Author.Tests.{ne-eqb, lt-ltb, le-ltb}
 use Rattle.base.specs.Lists.{same}
-use Rattle.base.proofs.PickLaws.{yes, no}
+use Rattle.base.proofs.PickLaws.{yes, no, clash}
 use Rattle.answers.specs.declared.Answer.the-variants as A
 use Rattle.answers.specs.Numbers.{accepts}
 use Rattle.records.specs.declared.Record.{Record}
 use Rattle.records.specs.Rule.{turned, epochAfter}
+use Rattle.records.proofs.RuleLaws.{formed-epoch}
 use Rattle.tree.specs.Path.{recordOf}
-use Rattle.drive.specs.Drive.{counterTop}
-use Rattle.changes.specs.Rekey.{epochTop, begunDrive, beginDone, sweepAnswer, sweepWays, sweptDrive, sweepDone, sweepVolume, finishedDrive, finishDone}
+use Rattle.drive.specs.Drive.{shapeOf, counterTop}
+use Rattle.opening.proofs.Reopens.{length-head}
+use Rattle.changes.specs.Rekey.{epochTop, beginAnswer, begunDrive, beginDone, beginVolume, sweepAnswer, sweepWays, sweptDrive, sweepDone, sweepVolume, finishedDrive, finishDone}
+use Rattle.changes.proofs.SettleLaws.{settled-record}
 use Rattle.changes.proofs.SweepLaws.{way-own, way-other}
 use Rattle.history.specs.World.{World, begin, sweep, finish}
 use Rattle.history.specs.Step.{answerTo, left, step}
 use Rattle.history.specs.Answers.{changing, isMoved, nuggetsLeft}
-use Rattle.history.proofs.Taken.{Sweeps, sweeps}
+use Rattle.history.proofs.Taken.{begins, Sweeps, sweeps}
 use Rattle.history.proofs.Sound.{Sound}
 use Rattle.history.proofs.Ways.{swept-turns}
 use Rattle.history.proofs.Table.{exactly}
@@ -46,6 +49,24 @@ module _ (w : World) (x : Sound w) where
   pub begin-leaves : (secret : List ℕ) → answerTo w (begin secret) ≡ A.Accepted → step w (begin secret) .drive ≡ begunDrive (w .drive) secret
   unfolding step left beginDone
   begin-leaves secret e = yes _ (ap accepts e) refl
+
+  -- in a steady drive each record's epoch is the head's
+  pub steady-epoch : changing w ≡ false → (n : ℕ) → n < w .drive .n → recordOf (w .vol) n .epoch ≡ w .drive .epoch
+  steady-epoch steady n h = go (formed-epoch (w .drive .p) (w .drive .epoch) (changing w) (recordOf (w .vol) n) (x .inv .formed n h))
+    where
+      go : (recordOf (w .vol) n .epoch ≡ w .drive .epoch) ⊎ ((changing w ≡ true) × (recordOf (w .vol) n .epoch + 1 ≡ w .drive .epoch))
+          → recordOf (w .vol) n .epoch ≡ w .drive .epoch
+      go (inl e) = e
+      go (inr e) = absurd (clash (e .0) steady)
+
+  -- so after a begin none has moved
+  pub begin-moves-none : (secret : List ℕ) → answerTo w (begin secret) ≡ A.Accepted → (n : ℕ) → n < w .drive .n → isMoved (step w (begin secret)) n ≡ false
+  unfolding step left beginVolume beginDone begunDrive
+  begin-moves-none secret e n h =
+      let taken : accepts (beginAnswer (w .drive) (w .vol) secret) ≡ true = ap accepts e in
+      let was = steady-epoch (begins (w .drive) (w .vol) secret taken .steady) n h in
+      let kept = settled-record (shapeOf (w .drive)) (begunDrive (w .drive) secret) (w .vol) (length-head (begunDrive (w .drive) secret) (x .handed .salt-long)) n in
+      rw (taken, kept) (ne-eqb (recordOf (w .vol) n .epoch) (w .drive .epoch + 1) (λ z. omega (arith, z, was)))
 
   pub finish-leaves : answerTo w finish ≡ A.Accepted → step w finish .drive ≡ finishedDrive (w .drive)
   unfolding step left finishDone

@@ -4,7 +4,7 @@ use mathlib.Core.Bool.{true, false}
 use mathlib.Core.Logic.{_⊎_, inl, inr}
 use mathlib.Core.List.{List, [], _∷_, _++_}
 use mathlib.Core.Option.{some}
-use Prim.Native.Nat.{ℕ, _+_, _<_}
+use Prim.Native.Nat.{ℕ, _<_}
 use lib.ListN.{length}
 use borrow.Author.Tests.{eq-eqb, le-leb}
 use Rattle.base.specs.Lists.{same}
@@ -15,7 +15,6 @@ use Rattle.blake2s.specs.Hash.{blake2s}
 use Rattle.answers.specs.declared.Answer.the-variants as A
 use Rattle.records.specs.Journal.{bit}
 use Rattle.records.specs.Listing.{Entry}
-use Rattle.records.proofs.RuleLaws.{formed-epoch}
 use Rattle.keys.specs.Keys.{checkOf}
 use Rattle.tree.specs.Path.{recordOf}
 use Rattle.drive.specs.declared.Drive.{Drive}
@@ -36,15 +35,7 @@ use Rattle.history.specs.Answers.{changing, OldSecretFree, Collision, Ol
 use Rattle.history.proofs.View.{ledgerOf}
 use Rattle.history.proofs.Sound.{Sound}
 use Rattle.history.proofs.Steps.{sound, mount-back}
-
--- in a steady drive each record's epoch is the head's
-steady-epoch : (w : World) → Sound w → changing w ≡ false → (n : ℕ) → n < w .drive .n → recordOf (w .vol) n .epoch ≡ w .drive .epoch
-steady-epoch w x steady n h = go (formed-epoch (w .drive .p) (w .drive .epoch) (changing w) (recordOf (w .vol) n) (x .inv .formed n h))
-  where
-    go : (recordOf (w .vol) n .epoch ≡ w .drive .epoch) ⊎ ((changing w ≡ true) × (recordOf (w .vol) n .epoch + 1 ≡ w .drive .epoch))
-        → recordOf (w .vol) n .epoch ≡ w .drive .epoch
-    go (inl e) = e
-    go (inr e) = absurd (clash (e .0) steady)
+use Rattle.history.proofs.Moves.{steady-epoch}
 
 pad-present : (w : World) → Sound w → changing w ≡ false → (n f : ℕ) (pad : Entry) → n < w .drive .n → bit (recordOf (w .vol) n .journal) f ≡ true
     → lastOf n f (w .listing) ≡ some pad → pad .secret ≡ w .secret

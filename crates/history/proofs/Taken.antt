@@ -1,20 +1,17 @@
 -- What an accepted change says of the drive and the volume that it was given.
 use mathlib.Core.Path.{_≡_, refl}
-use mathlib.Core.Bool.{Bool, true, false}
-use mathlib.Core.Logic.{_⊎_, inl, inr}
+use mathlib.Core.Bool.{true, false}
 use mathlib.Core.List.{List}
-use Prim.Native.Nat.{ℕ, zero, suc, _+_, _<_, _≤_}
+use Prim.Native.Nat.{ℕ, _+_, _<_, _≤_}
 use native.Mathlib.Omega.{arith}
 use lib.Dec.{eqb, ltb}
 use borrow.Author.Tests.{eqb-true, eqb-false, ltb-true, ltb-false, ne-eqb}
 use Rattle.base.specs.Pick.{pick}
 use Rattle.base.specs.Lists.{same}
-use Rattle.base.proofs.PickLaws.{told}
 use Rattle.answers.specs.declared.Answer.the-variants as A
 use Rattle.answers.specs.Numbers.{accepts}
 use Rattle.answers.proofs.StageLaws.{passed, both-stages, spared}
 use Rattle.layout.specs.Spots.{capacity}
-use Rattle.records.specs.Journal.{many}
 use Rattle.records.specs.Rule.{sweepWay, atTop}
 use Rattle.records.proofs.CountLaws.{many-le}
 use Rattle.tree.specs.Whole.{wholeOf}
@@ -30,6 +27,7 @@ use Rattle.changes.specs.Write.{writeWay, writeAnswer}
 use Rattle.changes.specs.Rekey.{epochTop, beginAnswer, sweepAnswer, leftIn, finishAnswer}
 use Rattle.changes.proofs.SpanLaws.{tested-each, change-room}
 use Rattle.tree.specs.Path.{recordOf}
+use Rattle.history.proofs.Counts.{many-all}
 
 pub record Begins (d : Drive) : Type 0 where
   pub steady : isChanging (d .state) ≡ false
@@ -68,17 +66,6 @@ sweeps d v n e =
       counter-low = eqb-false (d .counter) counterTop (t₆ .0);
       room = t₇ .0;
     }
-
--- as many as there are: each
-many-all : (k : ℕ) (g : ℕ → Bool) → many k g ≡ k → (i : ℕ) → i < k → g i ≡ true
-unfolding many
-many-all zero g e i h = absurd (omega arith)
-many-all (suc k) g e i h = go (g k) refl (told (eqb i k)) (λ q l. many-all k g q i l)
-  where
-    go : (b : Bool) → g k ≡ b → (eqb i k ≡ true) ⊎ (eqb i k ≡ false) → (many k g ≡ k → i < k → g i ≡ true) → g i ≡ true
-    go true q (inl x) again = rw (eqb-true i k x) q
-    go true q (inr x) again = let z : many k g + 1 ≡ suc k = rw q at e in again (omega arith) (omega (arith, eqb-false i k x))
-    go false q x again = let z : many k g + 0 ≡ suc k = rw q at e in absurd (omega (arith, many-le k g))
 
 pub record Finishes (d : Drive) (v : List ℕ) : Type 0 where
   pub changing : isChanging (d .state) ≡ true

@@ -1,13 +1,9 @@
 -- The report field by field, and a sweep that raises its moved by one.
 use mathlib.Core.Path.{_≡_, refl, sym, ap, _∙_}
-use mathlib.Core.Bool.{Bool, true, false}
-use mathlib.Core.Logic.{_⊎_, inl, inr}
-use Prim.Native.Nat.{ℕ, zero, suc, _+_, _<_}
-use native.Mathlib.Omega.{arith}
-use lib.Dec.{eqb, ltb}
-use borrow.Author.Tests.{eq-eqb, eqb-true, eqb-false}
-use Rattle.base.specs.Pick.{pick}
-use Rattle.base.proofs.PickLaws.{told}
+use mathlib.Core.Bool.{false}
+use Prim.Native.Nat.{ℕ, _+_}
+use lib.Dec.{ltb}
+use borrow.Author.Tests.{eq-eqb}
 use Rattle.answers.specs.declared.Answer.the-variants as A
 use Rattle.answers.specs.Numbers.{accepts}
 use Rattle.answers.proofs.StageLaws.{passed, spared}
@@ -20,6 +16,7 @@ use Rattle.history.specs.World.{World, sweep}
 use Rattle.history.specs.Step.{answerTo, step}
 use Rattle.history.specs.History.{history}
 use Rattle.history.specs.Answers.{changing, isMoved, Tells, reportOn, ReportTells, SweepMoves}
+use Rattle.history.proofs.Counts.{many-one}
 use Rattle.history.proofs.Quiet.{report-accepts}
 use Rattle.history.proofs.Sound.{Sound}
 use Rattle.history.proofs.Steps.{step-sound, sound}
@@ -41,27 +38,6 @@ tells w x =
 
 pub report-tells : ReportTells
 report-tells start calls = tells (history start calls) (sound start calls)
-
--- counts of tests that agree, and of tests that differ at one place
-many-same : (k : ℕ) (g h : ℕ → Bool) → ((i : ℕ) → i < k → h i ≡ g i) → many k h ≡ many k g
-unfolding many
-many-same zero g h e = refl
-many-same (suc k) g h e = rw (e k (omega arith), many-same k g h (λ i l. e i (omega arith))) refl
-
-many-one : (k : ℕ) (g h : ℕ → Bool) (n : ℕ) → n < k → g n ≡ false → h n ≡ true → ((i : ℕ) → i < k → (i ≡ n → ⊥) → h i ≡ g i) → many k h ≡ many k g + 1
-unfolding many
-many-one zero g h n l off on e = absurd (omega arith)
-many-one (suc k) g h n l off on e = go (told (eqb n k)) (λ far. many-one k g h n (omega (arith, far)) off on (λ i a b. e i (omega arith) b))
-  where
-    go : (eqb n k ≡ true) ⊎ (eqb n k ≡ false) → ((n ≡ k → ⊥) → many k h ≡ many k g + 1) → many k h + pick (h k) 1 0 ≡ many k g + pick (g k) 1 0 + 1
-    go (inl q) again =
-        let here = eqb-true n k q in
-        let was : g k ≡ false = rw here at off in
-        let is : h k ≡ true = rw here at on in
-        rw (was, is) (omega (arith, many-same k g h (λ i a. e i (omega arith) (λ z. omega (arith, z, here)))))
-    go (inr q) again =
-        let far = eqb-false n k q in
-        rw (e k (omega arith) (λ z. far (sym z))) (omega (arith, again far))
 
 module _ (w : World) (x : Sound w) (n : ℕ) (e : answerTo w (sweep n) ≡ A.Accepted) where
   -- it wasn't moved

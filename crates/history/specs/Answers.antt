@@ -93,6 +93,44 @@ due w (stored n f) = A.PastEnd unless both (ltb n (w .drive .n)) (ltb f (w .driv
 abbrev pub AnswersExactly : Type 0
 AnswersExactly = (start : Start) (calls : List Call) (c : Call) → answerTo (history start calls) c ≡ due (history start calls) c
 
+-- what the table goes by, beside the range and the nuggets left: state, epoch, counter and the secret that the user keeps
+pub record Columns : Type 0 where
+  pub begun : Bool
+  pub epoch : ℕ
+  pub counter : ℕ
+  pub secret : List ℕ
+
+abbrev pub columns : Bool → ℕ → ℕ → List ℕ → Columns
+columns b e k s = record { begun = b; epoch = e; counter = k; secret = s }
+
+abbrev pub columnsOf : World → Columns
+columnsOf w = columns (changing w) (w .drive .epoch) (w .drive .counter) (w .secret)
+
+-- after an accepted call
+abbrev pub columnsAfter : Columns → Call → Columns
+columnsAfter k (mount any) = k
+columnsAfter k (read o buffer) = k
+columnsAfter k (write o bytes) = columns (k .begun) (k .epoch) (k .counter + pick (eqb (length bytes) 0) 0 1) (k .secret)
+columnsAfter k (begin secret) = columns true (k .epoch + 1) (k .counter + 1) secret
+columnsAfter k (sweep n) = columns (k .begun) (k .epoch) (k .counter + 1) (k .secret)
+columnsAfter k finish = columns false (k .epoch) (k .counter + 1) (k .secret)
+columnsAfter k report = k
+columnsAfter k (stored n f) = k
+
+-- They follow from the calls that were accepted: a refused call changes none of them, an accepted one as above.
+abbrev pub ColumnsFollow : Type 0
+ColumnsFollow =
+    (start : Start) (calls : List Call) (c : Call)
+    → let w = history start calls in
+    columnsOf (step w c) ≡ pick (accepts (answerTo w c)) (columnsAfter (columnsOf w) c) (columnsOf w)
+
+-- and the nuggets left: all of them after an accepted begin, one less after an accepted sweep (SweepMoves)
+abbrev pub BeginLeavesAll : Type 0
+BeginLeavesAll =
+    (start : Start) (calls : List Call) (secret : List ℕ)
+    → let w = history start calls in
+    answerTo w (begin secret) ≡ A.Accepted → nuggetsLeft (step w (begin secret)) ≡ w .drive .n
+
 -- each call is accepted, on what those before it left
 unfoldable pub allAccepted : World → List Call → Bool
 allAccepted w [] = true

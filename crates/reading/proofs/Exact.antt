@@ -8,7 +8,7 @@ use native.Mathlib.Omega.{arith}
 use lib.Dec.{leb}
 use borrow.Author.Tests.{leb-true}
 use Rattle.base.specs.Pick.{pick}
-use Rattle.base.proofs.PickLaws.{yes, no, told}
+use Rattle.base.proofs.PickLaws.{yes, told}
 use Rattle.answers.specs.declared.Answer.the-variants as A
 use Rattle.answers.specs.Numbers.{accepts}
 use Rattle.layout.specs.Spots.{spotAt, capacity}
