@@ -1,0 +1,252 @@
+-- The example, by the theorems over histories: no hash is computed.
+use mathlib.Core.Path.{_≡_, refl, sym, ap, _∙_}
+use mathlib.Core.Bool.{true, false, not}
+use mathlib.Core.List.{List, [], _∷_}
+use Prim.Native.Nat.{ℕ, _+_, _*_, _<_}
+use native.Mathlib.Omega.{arith}
+use lib.ListN.{getD}
+use borrow.Author.Tests.{eq-eqb, lt-ltb, le-leb}
+use Rattle.base.specs.Lists.{tab, same}
+use Rattle.base.proofs.PickLaws.{yes, clash, both-on}
+use Rattle.base.proofs.TabLaws.{tab-ext}
+use Rattle.answers.specs.declared.Answer.the-variants as A
+use Rattle.answers.specs.Numbers.{accepts}
+use Rattle.layout.specs.declared.Shape.{Shape}
+use Rattle.layout.specs.Shape.{shape, inLimits, heightOf, heightFrom}
+use Rattle.layout.specs.Parts.{lengthOf}
+use Rattle.drive.specs.declared.Drive.{Drive}
+use Rattle.drive.specs.Drive.{shapeOf, isChanging, zeros, counterTop}
+use Rattle.drive.specs.Opening.{openingOf}
+use Rattle.drive.proofs.OpeningLaws.{blank-form, blank-limits}
+use Rattle.opening.specs.Format.{formatAnswer, freshDrive}
+use Rattle.tree.specs.Path.{recordOf}
+use Rattle.reading.specs.Read.{readAnswer, readBuffer}
+use Rattle.reports.specs.Report.{reportAnswer}
+use Rattle.reports.specs.Stored.{storedAnswer}
+use Rattle.reports.proofs.Exact.{stored-shown}
+use Rattle.answers.specs.Stages.{andThen}
+use Rattle.changes.specs.Write.{writeAnswer}
+use Rattle.changes.specs.Rekey.{beginAnswer, sweepAnswer, finishAnswer}
+use Rattle.history.specs.World.{World, Call, mount, read, write, begin, sweep, finish, report, stored}
+use Rattle.history.specs.Step.{answerTo, step}
+use Rattle.history.specs.History.{Start, begun, run, history, among}
+use Rattle.history.specs.Answers.{changing, isMoved, isLeft, nuggetsLeft, Columns, columns, columnsOf, columnsAfter, allAccepted}
+use Rattle.history.proofs.Counts.{many-none}
+use Rattle.history.proofs.Sound.{Sound}
+use Rattle.history.proofs.Steps.{start-sound, begun-drive, step-sound, sound, mount-same}
+use Rattle.history.proofs.Table.{exactly}
+use Rattle.history.proofs.Written.{write-accepted}
+use Rattle.history.proofs.Counters.{run-base}
+use Rattle.history.proofs.Demands.{shape-kept, reads-back, written-last}
+use Rattle.history.proofs.Moves.{begin-accepted, sweep-accepted, finish-accepted, begin-moves-none, swept-own}
+use Rattle.history.proofs.Columns.{follows}
+use Rattle.assurances.specs.Example.{secretOf, example, Example, takesDrive, BlankRefused, StoredShows}
+
+pub blank-refused : BlankRefused
+unfolding readAnswer writeAnswer beginAnswer sweepAnswer finishAnswer reportAnswer storedAnswer andThen
+blank-refused w c e h = go c h
+  where
+    shut : openingOf (w .drive) (w .vol) ≡ A.Limits
+    shut = ap (λ (d : Drive). openingOf d (w .vol)) e ∙ blank-limits (w .vol)
+
+    go : (c : Call) → takesDrive c ≡ true → answerTo w c ≡ A.Limits
+    go (mount any) q = absurd (clash q refl)
+    go (read o buffer) q = rw shut refl
+    go (write o bytes) q = rw shut refl
+    go (begin secret) q = rw shut refl
+    go (sweep n) q = rw shut refl
+    go finish q = rw shut refl
+    go report q = rw shut refl
+    go (stored n f) q = rw (e, blank-form) refl
+
+pub stored-shows : StoredShows
+stored-shows w n f e = stored-shown (w .drive) (w .vol) n f e
+
+-- what a step of the example is made on
+record At (w : World) (k : Columns) : Type 0 where
+  sounds : Sound w
+  shaped : shapeOf (w .drive) ≡ shape 1 2 64
+  tells : columnsOf w ≡ k
+
+at-next : (w : World) (k : Columns) (c : Call) → At w k → answerTo w c ≡ A.Accepted → At (step w c) (columnsAfter k c)
+unfolding run
+at-next w k c x ok =
+    record {
+      sounds = step-sound w c (x .sounds);
+      shaped = ap (λ (b : Shape × List ℕ). b .0) (run-base w (c ∷ []) (x .sounds)) ∙ x .shaped;
+      tells = follows w (x .sounds) c ∙ yes _ (ap accepts ok) (ap (λ (z : Columns). columnsAfter z c) (x .tells));
+    }
+
+-- a mount between two calls
+mounted-on : (w : World) (any : List ℕ) (calls : List Call) → Sound w → allAccepted w calls ≡ true → allAccepted w (mount any ∷ calls) ≡ true
+unfolding allAccepted
+mounted-on w any calls x e = both-on (ap accepts (exactly w x (mount any))) (ap (λ (u : World). allAccepted u calls) (mount-same w x any) ∙ e)
+
+module _ (w : World) (k : Columns) (x : At w k) where
+  n-is : w .drive .n ≡ 1
+  n-is = ap (λ (s : Shape). s .n) (x .shaped)
+
+  p-is : w .drive .p ≡ 2
+  p-is = ap (λ (s : Shape). s .p) (x .shaped)
+
+  f-is : w .drive .f ≡ 64
+  f-is = ap (λ (s : Shape). s .f) (x .shaped)
+
+  low : k .counter < 9 → w .drive .counter < counterTop
+  low h = let c = ap (λ (z : Columns). z .counter) (x .tells) in omega (arith, c, h)
+
+  state-is : changing w ≡ k .begun
+  state-is = ap (λ (z : Columns). z .begun) (x .tells)
+
+  epoch-is : w .drive .epoch ≡ k .epoch
+  epoch-is = ap (λ (z : Columns). z .epoch) (x .tells)
+
+  secret-is : w .secret ≡ k .secret
+  secret-is = ap (λ (z : Columns). z .secret) (x .tells)
+
+abbrev bytes : List ℕ
+bytes = 1 ∷ 2 ∷ 3 ∷ []
+
+-- what comes after the write, the begin, the sweep and the finish, each with its mount
+abbrev rest₄ : List Call
+rest₄ = report ∷ stored 0 1 ∷ []
+
+abbrev rest₃ : List Call
+rest₃ = finish ∷ mount (secretOf 9) ∷ rest₄
+
+abbrev rest₂ : List Call
+rest₂ = sweep 0 ∷ mount (secretOf 9) ∷ rest₃
+
+abbrev rest₁ : List Call
+rest₁ = begin (secretOf 7) ∷ mount (secretOf 9) ∷ rest₂
+
+module _ (w : World) (x : At w (columns false 1 1 (secretOf 0))) where
+  abbrev k₀ : Columns
+  k₀ = columns false 1 1 (secretOf 0)
+
+  ok₁ : answerTo w (write 63 bytes) ≡ A.Accepted
+  ok₁ = write-accepted w (x .sounds) (low w k₀ x (omega arith)) 63 bytes (rw (n-is w k₀ x, p-is w k₀ x, f-is w k₀ x) (omega arith))
+
+  abbrev w₁ : World
+  w₁ = step w (write 63 bytes)
+
+  abbrev k₁ : Columns
+  k₁ = columns false 1 2 (secretOf 0)
+
+  x₁ : At w₁ k₁
+  x₁ = at-next w k₀ (write 63 bytes) x ok₁
+
+  ok₂ : answerTo w₁ (begin (secretOf 7)) ≡ A.Accepted
+  unfolding same
+  ok₂ =
+      begin-accepted w₁ (x₁ .sounds) (low w₁ k₁ x₁ (omega arith)) (secretOf 7) (state-is w₁ k₁ x₁) (ap (same (secretOf 7)) (secret-is w₁ k₁ x₁))
+      (let e = epoch-is w₁ k₁ x₁ in omega (arith, e))
+
+  abbrev w₂ : World
+  w₂ = step w₁ (begin (secretOf 7))
+
+  abbrev k₂ : Columns
+  k₂ = columns true 2 3 (secretOf 7)
+
+  x₂ : At w₂ k₂
+  x₂ = at-next w₁ k₁ (begin (secretOf 7)) x₁ ok₂
+
+  ok₃ : answerTo w₂ (sweep 0) ≡ A.Accepted
+  ok₃ =
+      sweep-accepted w₂ (x₂ .sounds) (low w₂ k₂ x₂ (omega arith)) 0 (state-is w₂ k₂ x₂) (rw (n-is w₂ k₂ x₂) (omega arith))
+      (begin-moves-none w₁ (x₁ .sounds) (secretOf 7) ok₂ 0 (rw (n-is w₁ k₁ x₁) (omega arith)))
+
+  abbrev w₃ : World
+  w₃ = step w₂ (sweep 0)
+
+  abbrev k₃ : Columns
+  k₃ = columns true 2 4 (secretOf 7)
+
+  x₃ : At w₃ k₃
+  x₃ = at-next w₂ k₂ (sweep 0) x₂ ok₃
+
+  none-left : nuggetsLeft w₃ ≡ 0
+  none-left = many-none (w₃ .drive .n) (isLeft w₃) (λ i l. rw (only i (rw (n-is w₃ k₃ x₃) at l)) (ap not moved))
+    where
+      only : (i : ℕ) → i < 1 → i ≡ 0
+      only i l = omega arith
+
+      moved : isMoved w₃ 0 ≡ true
+      moved = eq-eqb (recordOf (w₃ .vol) 0 .epoch) (w₃ .drive .epoch) (swept-own w₂ (x₂ .sounds) 0 ok₃ ∙ epoch-is w₂ k₂ x₂ ∙ sym (epoch-is w₃ k₃ x₃))
+
+  ok₄ : answerTo w₃ finish ≡ A.Accepted
+  ok₄ = finish-accepted w₃ (x₃ .sounds) (low w₃ k₃ x₃ (omega arith)) (state-is w₃ k₃ x₃) none-left
+
+  abbrev w₄ : World
+  w₄ = step w₃ finish
+
+  abbrev k₄ : Columns
+  k₄ = columns false 2 5 (secretOf 7)
+
+  x₄ : At w₄ k₄
+  x₄ = at-next w₃ k₃ finish x₃ ok₄
+
+  end : allAccepted w₄ rest₄ ≡ true
+  unfolding allAccepted step
+  end =
+      let shown = exactly w₄ (x₄ .sounds) (stored 0 1) ∙ yes A.PastEnd (both-on (lt-ltb 0 (w₄ .drive .n) (rw (n-is w₄ k₄ x₄) (omega arith))) (lt-ltb 1 (w₄ .drive .p) (rw (p-is w₄ k₄ x₄) (omega arith)))) refl in
+      both-on (ap accepts (exactly w₄ (x₄ .sounds) report)) (both-on (ap accepts shown) refl)
+
+  all-accepted : allAccepted w example ≡ true
+  unfolding allAccepted
+  all-accepted =
+      both-on (ap accepts ok₁)
+      (mounted-on w₁ (secretOf 9) rest₁ (x₁ .sounds)
+      (both-on (ap accepts ok₂)
+      (mounted-on w₂ (secretOf 9) rest₂ (x₂ .sounds)
+      (both-on (ap accepts ok₃)
+      (mounted-on w₃ (secretOf 9) rest₃ (x₃ .sounds)
+      (both-on (ap accepts ok₄) (mounted-on w₄ (secretOf 9) rest₄ (x₄ .sounds) end)))))))
+
+-- there is such a drive
+abbrev small : Shape
+small = shape 1 2 64
+
+format-accepts : formatAnswer small 0 (zeros (lengthOf small)) ≡ A.Accepted
+unfolding formatAnswer inLimits heightOf heightFrom
+format-accepts = refl
+
+fresh : Start
+fresh =
+    record {
+      shape = small;
+      salt = zeros 16;
+      secret = secretOf 0;
+      outside = 0;
+      given = zeros (lengthOf small);
+      salted = refl;
+      low = omega arith;
+      accepted = format-accepts;
+    }
+
+at-start : At (begun fresh) (columns false 1 1 (secretOf 0))
+unfolding begun freshDrive fresh
+at-start =
+    let d = begun-drive fresh in
+    record {
+      sounds = start-sound fresh;
+      shaped = ap shapeOf d;
+      tells = λ i. columns (isChanging (d i .state)) (d i .epoch) (d i .counter) (secretOf 0);
+    }
+
+reads : let w = history fresh example in
+    readBuffer (w .drive) (w .vol) 63 (0 ∷ 0 ∷ 0 ∷ []) ≡ bytes
+unfolding run among tab fresh
+reads =
+    let w = history fresh example in
+    let s = shape-kept fresh example .0 in
+    let n-is = ap (λ (z : Shape). z .n) s in
+    let p-is = ap (λ (z : Shape). z .p) s in
+    let f-is = ap (λ (z : Shape). z .f) s in
+    let ok = exactly w (sound fresh example) (read 63 (0 ∷ 0 ∷ 0 ∷ [])) ∙ yes A.PastEnd (le-leb 66 (w .drive .n * w .drive .p * w .drive .f) (rw (n-is, p-is, f-is) (omega arith))) refl in
+    reads-back fresh example 63 (0 ∷ 0 ∷ 0 ∷ []) ok
+    ∙ tab-ext 3 (λ i. w .contents (63 + i)) (λ i. getD bytes i 0) (λ i h. written-last fresh [] (mount (secretOf 9) ∷ rest₁) 63 bytes i h (ok₁ (begun fresh) at-start) refl)
+
+pub exampled : Example
+unfolding fresh
+exampled = (fresh, refl, all-accepted (begun fresh) at-start, reads)

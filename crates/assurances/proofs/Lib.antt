@@ -1,0 +1,5 @@
+pub mod SameReads
+pub mod Absent
+pub mod Steady
+pub mod OldUnseen
+pub mod Example

@@ -1,0 +1,62 @@
+-- The theorems over histories don't speak of nothing: there is a history in which every kind of call is accepted. And a
+-- refused mount leaves nothing to go on with.
+use Prim.Native.Nat.{ℕ}
+use mathlib.Core.Path.{_≡_}
+use mathlib.Core.Bool.{Bool, true, false}
+use mathlib.Core.List.{List, [], _∷_}
+use lib.ListN.{replicate}
+use Rattle.answers.specs.declared.Answer.the-variants as A
+use Rattle.layout.specs.Shape.{shape}
+use Rattle.drive.specs.Drive.{shapeOf, blankDrive}
+use Rattle.nuggets.specs.Nugget.{storedIn}
+use Rattle.reading.specs.Read.{readBuffer}
+use Rattle.reports.specs.Stored.{storedFlake}
+use Rattle.history.specs.World.{World, Call, mount, read, write, begin, sweep, finish, report, stored}
+use Rattle.history.specs.Step.{answerTo}
+use Rattle.history.specs.History.{Start, begun, history}
+use Rattle.history.specs.Answers.{allAccepted}
+
+-- a secret of 32 equal bytes
+abbrev pub secretOf : ℕ → List ℕ
+secretOf b = replicate 32 b
+
+-- three bytes written, the secret changed, with a mount after each change; anything is brought as old secret of a steady drive
+abbrev pub example : List Call
+example =
+    write 63 (1 ∷ 2 ∷ 3 ∷ [])
+    ∷ mount (secretOf 9)
+    ∷ begin (secretOf 7)
+    ∷ mount (secretOf 9)
+    ∷ sweep 0
+    ∷ mount (secretOf 9)
+    ∷ finish
+    ∷ mount (secretOf 9)
+    ∷ report
+    ∷ stored 0 1
+    ∷ []
+
+-- There is a drive of one nugget with two flakes on which all of them are accepted, and so is a read that then gives the three bytes.
+abbrev pub Example : Type 0
+Example =
+    (start : Start) × (start .shape ≡ shape 1 2 64)
+    × (allAccepted (begun start) example ≡ true)
+    × (let w = history start example in readBuffer (w .drive) (w .vol) 63 (0 ∷ 0 ∷ 0 ∷ []) ≡ 1 ∷ 2 ∷ 3 ∷ [])
+
+-- "A refused format or mount returns the blank drive: every field zero, steady; every later call on it gives 1." A mount isn't made on a drive.
+abbrev pub takesDrive : Call → Bool
+takesDrive (mount any) = false
+takesDrive (read o buffer) = true
+takesDrive (write o bytes) = true
+takesDrive (begin secret) = true
+takesDrive (sweep n) = true
+takesDrive finish = true
+takesDrive report = true
+takesDrive (stored n f) = true
+
+abbrev pub BlankRefused : Type 0
+BlankRefused = (w : World) (c : Call) → w .drive ≡ blankDrive → takesDrive c ≡ true → answerTo w c ≡ A.Limits
+
+-- "Stored flake shows a backup tool the stored bytes as that part of the volume itself": those that UnderLastPad speaks of.
+abbrev pub StoredShows : Type 0
+StoredShows =
+    (w : World) (n f : ℕ) → answerTo w (stored n f) ≡ A.Accepted → storedFlake (w .drive) (w .vol) n f ≡ storedIn (shapeOf (w .drive)) (w .vol) n f
