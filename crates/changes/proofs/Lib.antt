@@ -10,3 +10,4 @@ pub mod SettleLaws
 pub mod SpanLaws
 pub mod SweepLaws
 pub mod Exact
+pub mod AnswerLaws

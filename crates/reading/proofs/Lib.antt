@@ -3,3 +3,4 @@ pub mod AnswerLaws
 pub mod Refused
 pub mod Exact
 pub mod Outcomes
+pub mod TestedLaws

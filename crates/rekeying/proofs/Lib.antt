@@ -1,4 +1,3 @@
 pub mod DoneLaws
-pub mod AnswerLaws
 pub mod Refusals
 pub mod Outcomes

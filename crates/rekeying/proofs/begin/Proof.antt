@@ -1,4 +1,4 @@
-use Rattle.rekeying.proofs.AnswerLaws.{begin-told}
+use Rattle.changes.proofs.AnswerLaws.{begin-told}
 use Rattle.rekeying.proofs.DoneLaws.{done-on, done-off}
 use Rattle.changes.specs.Rekey.{begunDrive, beginDone, beginVolume}
 use Rattle.changes.specs.Change.{settled}

@@ -1,4 +1,4 @@
-use Rattle.rekeying.proofs.AnswerLaws.{finish-told}
+use Rattle.changes.proofs.AnswerLaws.{finish-told}
 use Rattle.rekeying.proofs.DoneLaws.{done-on, done-off}
 use Rattle.changes.specs.Rekey.{finishedDrive, finishDone, finishVolume}
 use Rattle.changes.specs.Change.{settled}

@@ -1,4 +1,4 @@
-use Rattle.rekeying.proofs.AnswerLaws.{sweep-told}
+use Rattle.changes.proofs.AnswerLaws.{sweep-told}
 use Rattle.rekeying.proofs.DoneLaws.{done-on, done-off}
 use Rattle.changes.specs.Rekey.{sweepWork, sweptDrive, sweepDone, sweepVolume}
 use Rattle.changes.specs.Change.{advanced, settled}

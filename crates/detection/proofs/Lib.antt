@@ -1,0 +1,5 @@
+pub mod RightLaws
+pub mod TouchedLaws
+pub mod Detection
+pub mod PathsLaws
+pub mod Collision

@@ -1,0 +1,115 @@
+-- From the tests to the bytes: an accepted path, an accepted test of flakes, an accepted whole and an accepted opening.
+use mathlib.Core.Path.{_≡_, refl, sym, ap, _∙_}
+use mathlib.Core.Bool.{Bool, true, false}
+use mathlib.Core.Logic.{_⊎_, inl, inr}
+use mathlib.Core.List.{List}
+use Prim.Native.Nat.{ℕ, zero, suc, _+_, _-_, _*_, _/_, _^_, _<_, _≤_}
+use native.Mathlib.Nat.{pow-suc, pow-succ', div-one, div-div-eq-div-mul}
+use native.Mathlib.Omega.{arith}
+use lib.Dec.{eqb}
+use borrow.Author.Tests.{eqb-true, eqb-false, eq-eqb}
+use Rattle.base.specs.Lists.{part, same}
+use Rattle.base.proofs.PickLaws.{told, either-left, either-right, both-left, both-right}
+use Rattle.base.proofs.FoldLaws.{same-true}
+use Rattle.layout.specs.declared.Shape.{Shape}
+use Rattle.layout.specs.Shape.{heightOf, leaves}
+use Rattle.layout.specs.Parts.{nodeAt}
+use Rattle.layout.specs.Lent.{Lent}
+use Rattle.layout.proofs.Limits.{lent-small}
+use Rattle.answers.specs.declared.Answer.the-variants as A
+use Rattle.answers.specs.declared.Place.the-variants as P
+use Rattle.answers.specs.Numbers.{accepts}
+use Rattle.answers.proofs.StageLaws.{granted}
+use Rattle.records.specs.declared.Record.{Record}
+use Rattle.records.specs.Journal.{bit}
+use Rattle.records.specs.Record.{wellFormed}
+use Rattle.records.proofs.BitLaws.{none-above}
+use Rattle.records.proofs.RuleLaws.{formed-journal, formed-epoch}
+use Rattle.nodes.proofs.MadeLaws.{made-leaf, made-inner, made-bottom, bottom-zero}
+use Rattle.tree.specs.Good.{upward}
+use Rattle.tree.specs.Path.{recordOf}
+use Rattle.tree.specs.Whole.{wholeOf}
+use Rattle.tree.proofs.PathLaws.{path-belongs}
+use Rattle.tree.proofs.WholeLaws.{whole-formed, whole-good}
+use Rattle.drive.specs.declared.Drive.{Drive}
+use Rattle.drive.specs.Drive.{shapeOf, isChanging}
+use Rattle.drive.specs.Head.{headOf}
+use Rattle.drive.specs.Opening.{headStands, openingOf}
+use Rattle.drive.proofs.OpeningLaws.{opening-told}
+use Rattle.nuggets.specs.declared.Nugget.{Nugget}
+use Rattle.nuggets.specs.Nugget.{nuggetOf}
+use Rattle.nuggets.specs.Tests.{goodFlake, passes, flakesUp, flakesIn, flakesOf, pathFor}
+use Rattle.detection.specs.Right.{HeadRight, Formed, stepsUp, PathGood, TagRight, WholeGood}
+
+pub head-right : (d : Drive) (v : List ℕ) → openingOf d v ≡ A.Accepted → HeadRight d v
+unfolding headStands
+head-right d v e =
+    let t = opening-told d v e in
+    record {
+      long = t .long;
+      head = same-true (part 0 104 v) (headOf d) (both-left _ _ (t .stands));
+      node = same-true (part (nodeAt (shapeOf d) 1) 32 v) (d .node) (both-right (same (part 0 104 v) (headOf d)) _ (t .stands));
+    }
+
+formed-right : (d : Drive) (r : Record) → wellFormed (d .p) (d .epoch) (isChanging (d .state)) r ≡ true → Formed d r
+formed-right d r e =
+    record {
+      flakes = λ f h. none-above (d .p) (r .journal) f (formed-journal (d .p) (d .epoch) (isChanging (d .state)) r e) h;
+      epoch = formed-epoch (d .p) (d .epoch) (isChanging (d .state)) r e;
+    }
+
+-- two steps up by halves
+half-steps : (j k : ℕ) → j / 2 ^ suc k ≡ j / 2 / 2 ^ k
+half-steps j k = rw (pow-succ' 2 k) (sym (div-div-eq-div-mul j 2 (2 ^ k)))
+
+-- the node k steps up is among those from a node up
+upward-steps : (h j k : ℕ) → k < h → upward h j (j / 2 ^ k) ≡ true
+unfolding upward
+upward-steps zero j k l = absurd (omega arith)
+upward-steps (suc h) j zero l = either-left _ (eq-eqb j (j / 2 ^ 0) (omega arith))
+upward-steps (suc h) j (suc k) l = either-right (eqb j (j / 2 ^ suc k)) (rw (half-steps j k) (upward-steps h (j / 2) k (omega arith)))
+
+module _ (d : Drive) (v : List ℕ) where
+  pub path-good : (n : ℕ) → Lent (shapeOf d) v → n < d .n → pathFor d v n ≡ A.Accepted → PathGood d v n
+  path-good n l h e =
+      let s = shapeOf d in
+      let b = path-belongs s (d .epoch) (isChanging (d .state)) v n l h e in
+      record {
+        formed = formed-right d (recordOf v n) (b .well-formed);
+        leaf = b .leaf;
+        above = λ k p q. b .above (stepsUp s n k) (on k p q);
+      }
+    where
+      on : (k : ℕ) → 1 ≤ k → k ≤ heightOf (d .n) → upward (heightOf (d .n)) ((leaves (d .n) + n) / 2) (stepsUp (shapeOf d) n k) ≡ true
+      on zero p q = absurd (omega arith)
+      on (suc k) p q = rw (half-steps (leaves (d .n) + n) k) (upward-steps (heightOf (d .n)) ((leaves (d .n) + n) / 2) k (omega arith))
+
+  pub whole-right : wholeOf (shapeOf d) (d .epoch) (isChanging (d .state)) v ≡ A.Accepted → Lent (shapeOf d) v → WholeGood d v
+  whole-right e l =
+      let s = shapeOf d in
+      let small = lent-small l in
+      let good = whole-good s (d .epoch) (isChanging (d .state)) v e in
+      record {
+        formed = λ n h. formed-right d (recordOf v n) (whole-formed s (d .epoch) (isChanging (d .state)) v e n h);
+        leaf = λ n h. good (leaves (d .n) + n) (omega (arith, small .some-leaves)) (omega (arith, h, small .enough-leaves)) ∙ made-leaf s v n h;
+        spare = λ i a b. good i (omega (arith, a, small .some-leaves)) b ∙ made-bottom s v i (omega (arith, a)) ∙ bottom-zero s v i a;
+        inner = λ i a b. good i a (omega (arith, b)) ∙ made-inner s v i b;
+      }
+
+-- flakes that were tested one by one
+flakes-each : (s : Shape) (v : List ℕ) (g : Nugget) (mask k f : ℕ) → flakesUp s v g mask k f ≡ A.Accepted → (i : ℕ) → f ≤ i → i < f + k → bit mask i ≡ true
+    → goodFlake s v g i ≡ true
+unfolding flakesUp passes
+flakes-each s v g mask zero f e i a b on = absurd (omega arith)
+flakes-each s v g mask (suc k) f e i a b on =
+    let q = granted (passes s v g mask f) (flakesUp s v g mask k (suc f)) (A.Altered (P.Flake (g .number) f)) refl e in
+    go (told (eqb f i)) (q .0) (λ h. flakes-each s v g mask k (suc f) (q .1) i h (omega arith) on)
+  where
+    go : (eqb f i ≡ true) ⊎ (eqb f i ≡ false) → passes s v g mask f ≡ true → (suc f ≤ i → goodFlake s v g i ≡ true) → goodFlake s v g i ≡ true
+    go (inl q) here later = rw on at (rw (eqb-true f i q) at here)
+    go (inr q) here later = later (omega (arith, eqb-false f i q))
+
+-- the tag of each flake of the set
+pub tag-right : (d : Drive) (v : List ℕ) (n mask f : ℕ) → flakesOf d v n mask ≡ A.Accepted → f < d .p → bit mask f ≡ true → TagRight d v n f
+unfolding flakesIn goodFlake
+tag-right d v n mask f e h on = same-true _ _ (flakes-each (shapeOf d) v (nuggetOf d v n) mask (d .p) 0 e f (omega arith) (omega (arith, h)) on)
