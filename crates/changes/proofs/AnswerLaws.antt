@@ -29,7 +29,7 @@ use Rattle.reports.proofs.CountLaws.{moved-le}
 use Rattle.changes.specs.Change.{idles, nuggetChange}
 use Rattle.changes.specs.Write.{writeWay, writeAnswer}
 use Rattle.changes.specs.Rekey.{epochTop, beginAnswer, sweepAnswer, leftIn, finishAnswer}
-use Rattle.changes.proofs.SpanLaws.{tested-each}
+use Rattle.changes.proofs.SpanLaws.{tested-each, change-room}
 
 pub record Begins (d : Drive) (v : List ℕ) : Type 0 where
   pub opens : openingOf d v ≡ A.Accepted
@@ -118,23 +118,32 @@ change-told d v n way some e =
     let room = spared (atTop way (recordOf v n)) A.KeycountTop _ refl (stages .1) in
     record { path = accepted-is (pathFor d v n) (stages .0); flakes = λ r. accepted-is _ (rw r at (room .1)) }
 
--- "All others start 1, 2, 7 head. [..] Write: 8, 13 unless empty, nuggets."
-pub record Writes (d : Drive) (v : List ℕ) (o len : ℕ) : Type 0 where
-  pub opens : openingOf d v ≡ A.Accepted
-  pub fits : o + len ≤ capacity (shapeOf d)
-  pub nuggets : 0 < len → (n : ℕ) → n < d .n → idles (writeWay d v o len n) ≡ false → Tests d v n (writeWay d v o len n)
-
-pub write-told : (d : Drive) (v : List ℕ) (o len : ℕ) → accepts (writeAnswer d v o len) ≡ true → Writes d v o len
+-- "All others start 1, 2, 7 head": an empty write too
+pub write-opens : (d : Drive) (v : List ℕ) (o len : ℕ) → accepts (writeAnswer d v o len) ≡ true → openingOf d v ≡ A.Accepted
 unfolding writeAnswer
-write-told d v o len e =
-    let opened = both-stages (openingOf d v) _ e in
-    let inside = passed (fitsIn (shapeOf d) o len) _ A.PastEnd refl (opened .1) in
+write-opens d v o len e = accepted-is (openingOf d v) (both-stages (openingOf d v) _ e .0)
+
+-- what an accepted write of at least one byte says
+pub record Granted (d : Drive) (v : List ℕ) (o len : ℕ) : Type 0 where
+  pub lent : Lent (shapeOf d) v
+  pub inRange : o + len ≤ capacity (shapeOf d)
+  pub room : (n : ℕ) → n < d .n → atTop (writeWay d v o len n) (recordOf v n) ≡ false
+  pub counterRoom : d .counter ≡ counterTop → ⊥
+  pub tests : (n : ℕ) → n < d .n → idles (writeWay d v o len n) ≡ false → Tests d v n (writeWay d v o len n)
+
+pub write-told : (d : Drive) (v : List ℕ) (o len : ℕ) → 0 < len → accepts (writeAnswer d v o len) ≡ true → Granted d v o len
+unfolding writeAnswer
+write-told d v o len some e =
+    let way = writeWay d v o len in
+    let (opens, rest) = both-stages (openingOf d v) _ e in
+    let (fits, more) = passed (fitsIn (shapeOf d) o len) _ A.PastEnd refl rest in
+    let full : len ≡ 0 → ⊥ = λ z. omega (arith, z, some) in
+    let tests = ap accepts (sym (no {b = eqb len 0} A.Accepted (ne-eqb len 0 full) refl)) ∙ more in
+    let (low, nuggets) = spared (eqb (d .counter) counterTop) A.CounterTop _ refl tests in
     record {
-      opens = accepted-is (openingOf d v) (opened .0);
-      fits = fits-within d o len refl (inside .0);
-      nuggets = λ some n h moves.
-          let full : len ≡ 0 → ⊥ = λ z. omega (arith, z, some) in
-          let tests = ap accepts (sym (no {b = eqb len 0} A.Accepted (ne-eqb len 0 full) refl)) ∙ inside .1 in
-          let low = spared (eqb (d .counter) counterTop) A.CounterTop _ refl tests in
-          change-told d v n (writeWay d v o len n) moves (tested-each d v (writeWay d v o len) (d .n) n h (low .1));
+      lent = opening-lent d v opens;
+      inRange = fits-within d o len refl fits;
+      room = λ n h. change-room d v n (way n) (tested-each d v way (d .n) n h nuggets);
+      counterRoom = eqb-false (d .counter) counterTop low;
+      tests = λ n h moves. change-told d v n (way n) moves (tested-each d v way (d .n) n h nuggets);
     }

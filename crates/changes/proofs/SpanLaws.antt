@@ -156,4 +156,4 @@ module _ (d : Drive) (v : List ℕ) (n : ℕ) where
   unfolding nuggetChange atTop
   change-room Idle e = refl
   change-room (Add t) e = refl
-  change-room (Rekey t) e = spared _ _ _ refl (both-stages (pathFor d v n) _ e .1) .0
+  change-room (Rekey t) e = spared _ _ _ refl (both-stages _ _ e .1) .0

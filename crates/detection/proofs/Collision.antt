@@ -7,10 +7,9 @@ use Prim.Native.Nat.{ℕ, _+_, _*_, _<_, _≤_}
 use native.Mathlib.Omega.{arith}
 use lib.ListN.{length, getD}
 use Rattle.base.specs.Lists.{part, tab}
-use Rattle.base.proofs.PickLaws.{yes, no, told}
+use Rattle.base.proofs.PickLaws.{yes, told}
 use Rattle.base.proofs.PartLaws.{part-part}
 use Rattle.base.proofs.TabLaws.{getD-tab}
-use Rattle.layout.specs.declared.Shape.{Shape}
 use Rattle.layout.specs.Parts.{recordAt, tagAt}
 use Rattle.layout.specs.Spots.{spotAt}
 use Rattle.layout.proofs.Limits.{limits}
@@ -18,7 +17,6 @@ use Rattle.layout.proofs.Places.{Inside}
 use Rattle.answers.specs.declared.Answer.the-variants as A
 use Rattle.answers.specs.Numbers.{accepts}
 use Rattle.records.specs.Journal.{bit}
-use Rattle.nodes.specs.Nodes.{tagsPart}
 use Rattle.nodes.specs.Alike.{Alike}
 use Rattle.tree.specs.Path.{recordOf}
 use Rattle.drive.specs.declared.Drive.{Drive}
@@ -28,7 +26,7 @@ use Rattle.nuggets.specs.Nugget.{keyFor, storedIn, contentsIn, byteOf}
 use Rattle.reading.specs.Read.{readAnswer, readBuffer}
 use Rattle.reading.proofs.TestedLaws.{read-tests}
 use Rattle.changes.proofs.PadsLaws.{record-told}
-use Rattle.detection.specs.Right.{Present, tagFor}
+use Rattle.detection.specs.Right.{Present}
 use Rattle.detection.specs.Collision.{Collision, Forgery, OneDriveOneTree, OneDriveOneTag, OneDriveOneRead}
 use Rattle.detection.proofs.RightLaws.{head-right}
 use Rattle.detection.proofs.TouchedLaws.{spot-within}

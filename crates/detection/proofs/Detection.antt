@@ -1,18 +1,15 @@
 -- The theorems of specs/Detection.antt, each under its name.
 use mathlib.Core.Path.{_≡_, refl, ap, _∙_}
-use mathlib.Core.Bool.{true, false}
 use mathlib.Core.Logic.{_⊎_}
 use mathlib.Core.List.{List}
 use Prim.Native.Nat.{ℕ, _+_, _<_, _≤_}
 use native.Mathlib.Omega.{arith}
 use lib.Bits.{bitAnd}
-use lib.Dec.{leb}
 use lib.ListN.{length}
 use borrow.Author.Tests.{eqb-true, eq-eqb, ne-eqb, leb-true}
 use Rattle.base.specs.Lists.{part}
 use Rattle.base.proofs.PickLaws.{both-left, both-right, both-on}
 use Rattle.base.proofs.FoldLaws.{same-true}
-use Rattle.words.specs.Le.{num}
 use Rattle.layout.specs.Shape.{inLimits}
 use Rattle.layout.specs.Parts.{lengthOf}
 use Rattle.layout.specs.Spots.{spotAt}
@@ -38,9 +35,9 @@ use Rattle.opening.specs.Mount.{shapeIn, stateByteIn, headFits, lengthFits, sea
 use Rattle.opening.proofs.HeadBack.{opened}
 use Rattle.changes.specs.Write.{writeWay, writeAnswer}
 use Rattle.changes.proofs.SpanLaws.{idles-way}
-use Rattle.changes.proofs.AnswerLaws.{Tests, Writes, begin-told, sweep-told, finish-told, write-told}
+use Rattle.changes.proofs.AnswerLaws.{Tests, Granted, begin-told, sweep-told, finish-told, write-opens, write-told}
 use Rattle.detection.specs.Right.{PathGood, Present, TagsRight}
-use Rattle.detection.specs.Detection.{Answered, read, write, begin, sweep, finish, report, HeadDetected, ReadDetected, WriteDetected, RekeyDetected, SweepDetected, FinishDetected, ReportDetected, MountDetected}
+use Rattle.detection.specs.Detection.{read, write, begin, sweep, finish, report, HeadDetected, ReadDetected, WriteDetected, RekeyDetected, SweepDetected, FinishDetected, ReportDetected, MountDetected}
 use Rattle.detection.proofs.RightLaws.{head-right, path-good, whole-right, tag-right}
 use Rattle.detection.proofs.TouchedLaws.{spot-within, touched-bit, touched-some, way-rekeys}
 
@@ -57,7 +54,7 @@ report-stages d v e =
 
 pub head-detected : HeadDetected
 head-detected d v a (read o len) e = head-right d v (read-opens d v o len e)
-head-detected d v a (write o len) e = head-right d v (write-told d v o len (ap accepts e) .opens)
+head-detected d v a (write o len) e = head-right d v (write-opens d v o len (ap accepts e))
 head-detected d v a (begin secret) e = head-right d v (begin-told d v secret (ap accepts e) .opens)
 head-detected d v a (sweep n) e = head-right d v (sweep-told d v n (ap accepts e) .opens)
 head-detected d v a finish e = head-right d v (finish-told d v (ap accepts e) .opens)
@@ -79,27 +76,24 @@ read-detected d v o len a e h k =
 
 -- the tests of the nugget of a written byte
 module _ (d : Drive) (v : List ℕ) (o len a : ℕ) (e : writeAnswer d v o len ≡ A.Accepted) (h : o ≤ a) (k : a < o + len) where
-  told : Writes d v o len
-  told = write-told d v o len (ap accepts e)
-
-  lent : Lent (shapeOf d) v
-  lent = lent-by d v (told .opens)
+  told : Granted d v o len
+  told = write-told d v o len (omega (arith, h, k)) (ap accepts e)
 
   lim : Limits (shapeOf d)
-  lim = limits (shapeOf d) (lent .limited)
+  lim = limits (shapeOf d) (told .lent .limited)
 
   spot : Inside (shapeOf d) a
-  spot = spot-within (shapeOf d) o len a lim h k (told .fits)
+  spot = spot-within (shapeOf d) o len a lim h k (told .inRange)
 
   tested : Tests d v (spotAt (shapeOf d) a .nugget) (writeWay d v o len (spotAt (shapeOf d) a .nugget))
   tested =
       let n = spotAt (shapeOf d) a .nugget in
-      told .nuggets (omega (arith, h, k)) n (spot .nugget-is)
+      told .tests n (spot .nugget-is)
       (idles-way (recordOf v n) (touchedOf (shapeOf d) o len n) (d .epoch)
       ∙ touched-some (touchedOf (shapeOf d) o len n) (spotAt (shapeOf d) a .flake) (touched-bit (shapeOf d) o len a lim h k spot))
 
   written-path : PathGood d v (spotAt (shapeOf d) a .nugget)
-  written-path = path-good d v (spotAt (shapeOf d) a .nugget) lent (spot .nugget-is) (tested .path)
+  written-path = path-good d v (spotAt (shapeOf d) a .nugget) (told .lent) (spot .nugget-is) (tested .path)
 
   rekeyed-tags : Present v (spotAt (shapeOf d) a .nugget) (spotAt (shapeOf d) a .flake) ⊎ (recordOf v (spotAt (shapeOf d) a .nugget) .epoch ≡ d .epoch → ⊥)
       → TagsRight d v (spotAt (shapeOf d) a .nugget)

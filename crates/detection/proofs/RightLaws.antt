@@ -1,10 +1,10 @@
 -- From the tests to the bytes: an accepted path, an accepted test of flakes, an accepted whole and an accepted opening.
-use mathlib.Core.Path.{_≡_, refl, sym, ap, _∙_}
-use mathlib.Core.Bool.{Bool, true, false}
+use mathlib.Core.Path.{_≡_, refl, sym, _∙_}
+use mathlib.Core.Bool.{true, false}
 use mathlib.Core.Logic.{_⊎_, inl, inr}
 use mathlib.Core.List.{List}
-use Prim.Native.Nat.{ℕ, zero, suc, _+_, _-_, _*_, _/_, _^_, _<_, _≤_}
-use native.Mathlib.Nat.{pow-suc, pow-succ', div-one, div-div-eq-div-mul}
+use Prim.Native.Nat.{ℕ, zero, suc, _+_, _-_, _/_, _^_, _<_, _≤_}
+use native.Mathlib.Nat.{pow-succ', div-div-eq-div-mul}
 use native.Mathlib.Omega.{arith}
 use lib.Dec.{eqb}
 use borrow.Author.Tests.{eqb-true, eqb-false, eq-eqb}
@@ -18,7 +18,6 @@ use Rattle.layout.specs.Lent.{Lent}
 use Rattle.layout.proofs.Limits.{lent-small}
 use Rattle.answers.specs.declared.Answer.the-variants as A
 use Rattle.answers.specs.declared.Place.the-variants as P
-use Rattle.answers.specs.Numbers.{accepts}
 use Rattle.answers.proofs.StageLaws.{granted}
 use Rattle.records.specs.declared.Record.{Record}
 use Rattle.records.specs.Journal.{bit}

@@ -1,6 +1,6 @@
 -- The flake of each byte of a range is touched, and what that makes of its nugget under a write.
-use mathlib.Core.Path.{_≡_, refl, sym, ap, _∙_}
-use mathlib.Core.Bool.{Bool, true, false}
+use mathlib.Core.Path.{_≡_, refl, _∙_}
+use mathlib.Core.Bool.{true, false}
 use mathlib.Core.Logic.{_⊎_, inl, inr}
 use Prim.Native.Nat.{ℕ, _+_, _<_, _≤_, max, min}
 use native.Mathlib.Omega.{arith}
@@ -13,8 +13,7 @@ use Rattle.layout.specs.Spots.{spotAt, offsetAt, capacity}
 use Rattle.layout.proofs.Limits.{Limits}
 use Rattle.layout.proofs.Places.{Inside, spot-inside, offset-spot}
 use Rattle.records.specs.declared.Record.{Record}
-use Rattle.records.specs.declared.Way.{Way}
-use Rattle.records.specs.declared.Way.the-variants.{Idle, Add, Rekey}
+use Rattle.records.specs.declared.Way.the-variants.{Add, Rekey}
 use Rattle.records.specs.Journal.{bit, shareNone}
 use Rattle.records.specs.Rule.{wayOf, rekeys}
 use Rattle.records.proofs.BitLaws.{bit-empty, share-none-bits}

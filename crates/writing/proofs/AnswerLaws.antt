@@ -1,4 +1,4 @@
--- The answer of a write: the tests of one nugget, one turn over the nuggets that the range meets, and what an accepted one says.
+-- The answer of a write: the tests of one nugget, and one turn over the nuggets that the range meets.
 use mathlib.Core.Path.{_≡_, refl, sym, ap, _∙_}
 use mathlib.Core.Bool.{true, false}
 use mathlib.Core.Logic.{_⊎_, inl, inr}
@@ -6,8 +6,7 @@ use mathlib.Core.List.{List}
 use Prim.Native.Nat.{ℕ, _+_, _-_, _^_, _<_, _≤_}
 use native.Mathlib.Numerals.{add-one}
 use native.Mathlib.Omega.{arith}
-use borrow.Author.Tests.{eq-eqb, ne-eqb, eqb-false, lt-ltb, le-ltb}
-use lib.Dec.{eqb}
+use borrow.Author.Tests.{eq-eqb, ne-eqb, lt-ltb, le-ltb}
 use lib.ListN.{length}
 use Rattle.base.specs.Pick.{pick}
 use Rattle.base.proofs.PickLaws.{yes, no, told, both-on, both-off}
@@ -22,7 +21,7 @@ use Rattle.answers.specs.declared.Answer.{Answer}
 use Rattle.answers.specs.declared.Answer.the-variants as A
 use Rattle.answers.specs.Numbers.{accepts}
 use Rattle.answers.specs.Stages.{andThen}
-use Rattle.answers.proofs.StageLaws.{goes-on, stops, accepted-is, passed, both-stages, spared}
+use Rattle.answers.proofs.StageLaws.{goes-on, stops, accepted-is}
 use Rattle.records.specs.declared.Record.{Record}
 use Rattle.records.specs.declared.Way.{Way}
 use Rattle.records.specs.declared.Way.the-variants.{Idle, Add, Rekey}
@@ -38,9 +37,9 @@ use Rattle.nuggets.specs.Touched.{touchedOf, fitsIn}
 use Rattle.nuggets.proofs.TouchLaws.{fits-within}
 use Rattle.changes.specs.Change.{nuggetChange, testedTo, settled}
 use Rattle.changes.specs.Write.{writeWay, writeAnswer, writes, writeWork, writtenDrive, writeDoneAt, writeVolumeAt, writeDone, writeVolume}
-use Rattle.changes.proofs.SpanLaws.{still-to, idle-below, idle-above, tested-idle, tested-each, tested-next, tested-stays, change-room}
+use Rattle.changes.proofs.SpanLaws.{still-to, idle-below, idle-above, tested-idle, tested-next, tested-stays}
 use Rattle.writing.specs.declared.Span.{Span}
-use Rattle.writing.specs.Span.{spanOf, Room}
+use Rattle.writing.specs.Span.{spanOf}
 use Rattle.tree.specs.Path.{recordOf}
 
 -- what the code's numbers have to know of the range
@@ -171,28 +170,6 @@ module _ (d : Drive) (v : List ℕ) (o len : ℕ) where
       -- what the tests of nuggets may ask
       pub answer-lent : Lent (shapeOf d) v × (o + len ≤ capacity (shapeOf d))
       answer-lent = (opening-lent d v opened, fits-within d o len refl within)
-
--- what an accepted write of at least one byte says
-pub record Granted (d : Drive) (v : List ℕ) (o len : ℕ) : Type 0 where
-  pub lent : Lent (shapeOf d) v
-  pub inRange : o + len ≤ capacity (shapeOf d)
-  pub room : Room d v o len
-  pub counterRoom : d .counter ≡ counterTop → ⊥
-
-pub write-told : (d : Drive) (v : List ℕ) (o len : ℕ) → 0 < len → accepts (writeAnswer d v o len) ≡ true → Granted d v o len
-unfolding writeAnswer
-write-told d v o len some e =
-    let (opens, rest) = both-stages (openingOf d v) _ e in
-    let (fits, more) = passed (fitsIn (shapeOf d) o len) _ A.PastEnd refl rest in
-    let full : len ≡ 0 → ⊥ = λ z. omega (arith, z, some) in
-    let tests = ap accepts (sym (no {b = eqb len 0} A.Accepted (ne-eqb len 0 full) refl)) ∙ more in
-    let (low, nuggets) = spared (eqb (d .counter) counterTop) A.CounterTop _ refl tests in
-    record {
-      lent = opening-lent d v opens;
-      inRange = fits-within d o len refl fits;
-      room = λ n h. change-room d v n (writeWay d v o len n) (tested-each d v (writeWay d v o len) (d .n) n h nuggets);
-      counterRoom = eqb-false (d .counter) counterTop low;
-    }
 
 -- the answer, with the drive and the volume that it leaves
 module _ (d : Drive) (v : List ℕ) (o : ℕ) (bytes : List ℕ) {a : Answer} (ea : a ≡ writeAnswer d v o (length bytes)) where

@@ -1,4 +1,5 @@
-use Rattle.writing.proofs.AnswerLaws.{write-told, met-stored, met-empty, met-refused}
+use Rattle.changes.proofs.AnswerLaws.{write-told}
+use Rattle.writing.proofs.AnswerLaws.{met-stored, met-empty, met-refused}
 use Rattle.answers.specs.Numbers.{accepts}
 use lib.ListN.{length}
 use native.Mathlib.Omega.{arith}
