@@ -1,6 +1,7 @@
 """The auditor's page. Run: python3 second/audit.py < input
 
-The sheet's line; then, if the volume mounts, one line for each nugget, ascending, and the outside counter.
+The sheet's line; then, if the volume mounts, one line for each nugget, ascending, the outside counter, and whether the
+old secret is still needed.
 """
 
 import sys
@@ -16,6 +17,11 @@ def key_word(drive, record):
     if record.epoch == drive.epoch:
         return "new" if drive.changing else "present"
     return "old"
+
+
+def old_word(drive):
+    """Every mount asks for the old secret until a finish is accepted, even with no nugget left."""
+    return "needed" if drive.changing else "free"
 
 
 def flakes_words(record, flakes):
@@ -38,7 +44,8 @@ def lines(data):
     if mounted.answer.number:
         return [first]
     drive = mounted.drive
-    return [first] + [nugget_line(drive, volume, n) for n in range(drive.n)] + [f"counter={outside}"]
+    return ([first] + [nugget_line(drive, volume, n) for n in range(drive.n)]
+            + [f"counter={outside}", f"old={old_word(drive)}"])
 
 
 def page(data):

@@ -1,5 +1,6 @@
 """The built auditor's page against the second program's: the sheet's inputs; random drives of many shapes, steady and changing,
-with numbers at their tops; the fullest volumes; and drives well sealed over records that are ill formed.
+with numbers at their tops; the fullest volumes; a drive at 100.00 before and after its finish; and drives well sealed over
+records that are ill formed.
 
 Run after `rt check audit`.
 """
@@ -12,6 +13,9 @@ from layout import EPOCH_TOP, TOP, layout
 DRIVES = 60
 SHOWN = inputs.REFUSALS + [b"key=old", b"key=new", b"key=present", b"flakes=-", b"flakes=0,1,2,", b",63\n", b"epoch=65535",
                            b"keycount=%d" % TOP, b"counter=%d" % TOP]
+# 100.00 twice: swept to the end and not finished, and finished.
+SWEPT = b"nuggets=1 moved=1 left=0 flakes=1 share=100.00\nnugget=0 key=new epoch=2 keycount=1 flakes=0\ncounter=3\nold=needed\n"
+FINISHED = b"nuggets=1 moved=1 left=0 flakes=1 share=100.00\nnugget=0 key=present epoch=2 keycount=1 flakes=0\ncounter=4\nold=free\n"
 
 
 def given(spec, **other):
@@ -48,6 +52,11 @@ def drives(source):
     assert layout(292, 1, 64).length > sheet.MOST - 72
 
 
+def at_the_end():
+    for state in (1, 0):
+        yield f"everything moved, state {state}", given(Spec(1, 1, 64, state, 2, 4 - state, [[1, 1, 2]]))
+
+
 def spoilt(source, spec):
     """The spec with one record ill formed: a bit past P, or an epoch that isn't the head's nor the one left."""
     records = [list(record) for record in spec.records]
@@ -75,7 +84,8 @@ def hostile(source):
 def cases(source):
     yield from inputs.around_the_sample(source, 30)
     yield from drives(source)
+    yield from at_the_end()
     yield from hostile(source)
 
 
-inputs.compare("audit", audit.page, cases, SHOWN)
+inputs.compare("audit", audit.page, cases, SHOWN + [SWEPT, FINISHED])

@@ -10,8 +10,8 @@ use Rattle.drive.specs.declared.Drive.{Drive}
 use Rattle.drive.specs.Drive.{isChanging}
 use Rattle.line.specs.Decimal.{decimal, longDecimal}
 use Rattle.line.specs.Texts.{t-flakes}
-use Rattle.pages.specs.Words.{t-nugget, t-key, t-new, t-old, t-present, t-epoch, t-keycount, t-counter}
-use Rattle.pages.specs.Page.{keyText, presentFlakes, flakesText, nuggetText, counterText}
+use Rattle.pages.specs.Words.{t-nugget, t-key, t-new, t-old, t-present, t-epoch, t-keycount, t-counter, t-secret, t-needed, t-free}
+use Rattle.pages.specs.Page.{keyText, presentFlakes, flakesText, nuggetText, counterText, oldState, oldText}
 use Rattle.auditor.specs.Reading.{fieldAt, value, flakesRead, lineRead}
 use Rattle.auditor.proofs.ReadLaws.{free, free-append, up-to, up-to-end, past-free, past-to, decimal-free, long-free, flakes-free, far-newline, far-space, decimal-value, long-value, flakes-back}
 use Rattle.auditor.proofs.ListLaws.{short-flakes}
@@ -157,3 +157,20 @@ counter-told k h =
 pub counter-free : (k : ℕ) → free 10 (counterText k) ≡ true
 unfolding free
 counter-free k = free-append 10 t-counter (longDecimal k) refl (long-free 10 k far-newline)
+
+-- what the last line tells
+state-free : (x : ℕ) (d : Drive) → free x t-needed ≡ true → free x t-free ≡ true → free x (oldState d) ≡ true
+unfolding oldState
+state-free x d p q = go (isChanging (d .state))
+  where
+    go : (b : Bool) → free x (pick b t-needed t-free) ≡ true
+    go true = p
+    go false = q
+
+pub old-told : (d : Drive) → fieldAt 0 (oldText d) ≡ pick (isChanging (d .state)) t-needed t-free
+unfolding oldState free
+old-told d = field-last t-old (oldState d) refl (state-free 32 d refl refl)
+
+pub old-line-free : (d : Drive) → free 10 (oldText d) ≡ true
+unfolding free
+old-line-free d = free-append 10 t-secret (oldState d) refl (state-free 10 d refl refl)

@@ -51,7 +51,7 @@ report-is-line n m l k h =
     (line-more (decimal k) _ (decimal-free 10 k far-newline) (line-more t-share _ refl (line-more (shareText h) _ (share-free h) newline-line)))))))))
 
 -- a line of known text
-line-ends : (l rest : List ℕ) → free 10 l ≡ true → past 10 ((l ++ newline) ++ rest) ≡ rest
+pub line-ends : (l rest : List ℕ) → free 10 l ≡ true → past 10 ((l ++ newline) ++ rest) ≡ rest
 line-ends l rest f = rw (append-assoc l newline rest) (past-to 10 l rest f)
 
 pub line-text : (l rest : List ℕ) → free 10 l ≡ true → upTo 10 ((l ++ newline) ++ rest) ≡ l

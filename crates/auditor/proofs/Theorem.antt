@@ -33,13 +33,13 @@ use Rattle.line.specs.Lines.{newline, reportLine}
 use Rattle.sheets.specs.Sheet.{presentIn, oldIn, outsideIn, volumeIn, sized, reportText, mountedText, mountedBy, sheetLine}
 use Rattle.sheets.proofs.SheetLaws.{volume-taken}
 use Rattle.sheets.proofs.Follows.{report-follows}
-use Rattle.pages.specs.Page.{presentFlakes, nuggetText, nuggetLines, counterText, counterLine, driveText, mounts, auditPage}
+use Rattle.pages.specs.Page.{presentFlakes, nuggetText, nuggetLines, counterText, counterLine, oldText, oldLine, driveText, mounts, auditPage}
 use Rattle.pages.proofs.MountLaws.{mounted-drive, mounted-answer, opened-lent}
 use Rattle.auditor.specs.Reading.{upTo, past, linesFrom, lineAt, fieldAt, value, lineRead, toldOf, times}
 use Rattle.auditor.specs.Question.{keyWord, secretNamed, Answers}
 use Rattle.auditor.proofs.ListLaws.{times-present, times-above}
-use Rattle.auditor.proofs.LineLaws.{LineTold, line-told, counter-told, counter-free}
-use Rattle.auditor.proofs.PageLines.{Line, report-is-line, last-ends, last-text, from-next, lines-through, nugget-line}
+use Rattle.auditor.proofs.LineLaws.{LineTold, line-told, counter-told, counter-free, old-told, old-line-free}
+use Rattle.auditor.proofs.PageLines.{Line, report-is-line, line-ends, line-text, last-ends, last-text, from-next, lines-through, nugget-line}
 use Rattle.auditor.proofs.KeyLaws.{key-word, secret-named}
 use Rattle.tree.specs.Path.{recordOf}
 
@@ -64,7 +64,10 @@ module _ (d : Drive) (v : List ℕ) (lent : Lent (shapeOf d) v) (bytes : Bytes v
     abbrev page : List ℕ
     page = first ++ driveText d v outside
 
-    rest-is : past 10 page ≡ nuggetLines d v (d .n) ++ counterLine outside
+    abbrev ending : List ℕ
+    ending = counterLine outside ++ oldLine d
+
+    rest-is : past 10 page ≡ nuggetLines d v (d .n) ++ ending
     unfolding driveText
     rest-is = is-line (driveText d v outside) .0
 
@@ -75,18 +78,24 @@ module _ (d : Drive) (v : List ℕ) (lent : Lent (shapeOf d) v) (bytes : Bytes v
     -- nugget n's line is the one behind those before it
     nugget-text : (n : ℕ) → n < d .n → lineAt (suc n) page ≡ nuggetText d (recordOf v n) n
     unfolding linesFrom
-    nugget-text n h = ap (λ (t : List ℕ). lineAt n t) rest-is ∙ nugget-line d v (d .n) (λ k l. line k l .newlines) n (counterLine outside) h
+    nugget-text n h = ap (λ (t : List ℕ). lineAt n t) rest-is ∙ nugget-line d v (d .n) (λ k l. line k l .newlines) n ending h
 
-    counter-from : linesFrom (suc (d .n)) page ≡ counterLine outside
+    counter-from : linesFrom (suc (d .n)) page ≡ ending
     unfolding linesFrom
     counter-from =
-        ap (λ (t : List ℕ). linesFrom (d .n) t) rest-is ∙ lines-through d v (d .n) (λ k l. line k l .newlines) (d .n) (counterLine outside) (le-refl (d .n))
-
-    page-ends : linesFrom (suc (suc (d .n))) page ≡ []
-    page-ends = from-next (suc (d .n)) page ∙ ap (past 10) counter-from ∙ last-ends (counterText outside) (counter-free outside)
+        ap (λ (t : List ℕ). linesFrom (d .n) t) rest-is ∙ lines-through d v (d .n) (λ k l. line k l .newlines) (d .n) ending (le-refl (d .n))
 
     counter-line : lineAt (suc (d .n)) page ≡ counterText outside
-    counter-line = ap (upTo 10) counter-from ∙ last-text (counterText outside) (counter-free outside)
+    counter-line = ap (upTo 10) counter-from ∙ line-text (counterText outside) (oldLine d) (counter-free outside)
+
+    old-from : linesFrom (suc (suc (d .n))) page ≡ oldLine d
+    old-from = from-next (suc (d .n)) page ∙ ap (past 10) counter-from ∙ line-ends (counterText outside) (oldLine d) (counter-free outside)
+
+    old-line : lineAt (suc (suc (d .n))) page ≡ oldText d
+    old-line = ap (upTo 10) old-from ∙ last-text (oldText d) (old-line-free d)
+
+    page-ends : linesFrom (suc (suc (suc (d .n)))) page ≡ []
+    page-ends = from-next (suc (suc (d .n))) page ∙ ap (past 10) old-from ∙ last-ends (oldText d) (old-line-free d)
 
     answered : outside < 10 ^ 20 → d .counter ≡ outside
         → (let r = reportOf d v in first ≡ reportLine (r .n) (r .moved) (r .left) (r .flakes) (r .share))
@@ -106,6 +115,7 @@ module _ (d : Drive) (v : List ℕ) (lent : Lent (shapeOf d) v) (bytes : Bytes v
           key = λ n h. ap (λ (s : List ℕ). nuggetKey s (d .salt) n) (secret-named d (recordOf v n .epoch) (fits n h) ∙ ap (secretNamed d) (sym (named n h)));
           counter = ap (λ (l : List ℕ). value (fieldAt 0 l)) counter-line ∙ counter-told outside small;
           held = counter;
+          old = ap (fieldAt 0) old-line ∙ old-told d;
           ends = page-ends;
         }
 

@@ -12,8 +12,8 @@ use Rattle.drive.specs.Drive.{isChanging}
 use Rattle.nuggets.specs.Nugget.{keyFor}
 use Rattle.reports.specs.Report.{reportOf}
 use Rattle.line.specs.Lines.{newline, reportLine}
-use Rattle.pages.specs.Words.{t-new, t-old, t-present}
-use Rattle.auditor.specs.Reading.{linesFrom, lineAt, toldOf, counterTold, times}
+use Rattle.pages.specs.Words.{t-new, t-old, t-present, t-needed, t-free}
+use Rattle.auditor.specs.Reading.{linesFrom, lineAt, toldOf, counterTold, oldTold, times}
 use Rattle.tree.specs.Path.{recordOf}
 
 -- "One less means: under the old secret": `old` exactly if the epoch is one less than the head's. Else it is `new`, in a steady drive `present`.
@@ -38,7 +38,9 @@ pub record Answers (page : List ℕ) (d : Drive) (v : List ℕ) (outside : ℕ) 
   -- "under which key": the word is that of the record's epoch, and the nugget's key is made from the secret that the word names
   pub word : (n : ℕ) → n < d .n → toldOf page n .key ≡ keyWord d (recordOf v n .epoch)
   pub key : (n : ℕ) → n < d .n → keyFor d v n ≡ nuggetKey (secretNamed d (toldOf page n .key)) (d .salt) n
-  -- at last the outside counter, which is the head's; nothing follows
+  -- then the outside counter, which is the head's
   pub counter : counterTold page (d .n) ≡ outside
   pub held : d .counter ≡ outside
-  pub ends : linesFrom (suc (suc (d .n))) page ≡ []
+  -- at last whether the old secret may go: it is needed exactly while changing; nothing follows
+  pub old : oldTold page (d .n) ≡ pick (isChanging (d .state)) t-needed t-free
+  pub ends : linesFrom (suc (suc (suc (d .n)))) page ≡ []

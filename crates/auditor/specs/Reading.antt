@@ -73,6 +73,10 @@ toldOf page n = lineRead (lineAt (suc n) page)
 abbrev pub counterTold : List ℕ → ℕ → ℕ
 counterTold page n = value (fieldAt 0 (lineAt (suc n) page))
 
+-- the word of the last line, behind the counter's
+abbrev pub oldTold : List ℕ → ℕ → List ℕ
+oldTold page n = fieldAt 0 (lineAt (suc (suc n)) page)
+
 -- how often a flake is listed
 unfoldable pub times : ℕ → List ℕ → ℕ
 times f [] = 0

@@ -7,7 +7,7 @@ use Rattle.drive.specs.declared.Drive.{Drive}
 use Rattle.drive.specs.declared.State.{State}
 use Rattle.drive.specs.declared.State.the-variants.{Steady, Changing}
 use Rattle.line.specs.Decimal.{digits, widthIn, decimal, longDecimal}
-use Rattle.pages.specs.Page.{keyText, presentFlakes, others, flakesText, nuggetText, counterText}
+use Rattle.pages.specs.Page.{keyText, presentFlakes, others, flakesText, nuggetText, counterText, oldState, oldText}
 
 -- a drive with two flakes to a nugget
 abbrev pub drive : State → ℕ → Drive
@@ -33,3 +33,13 @@ steady = refl
 pub top : counterText 18446744073709551615 ≡ 99 ∷ 111 ∷ 117 ∷ 110 ∷ 116 ∷ 101 ∷ 114 ∷ 61 ∷ 49 ∷ 56 ∷ 52 ∷ 52 ∷ 54 ∷ 55 ∷ 52 ∷ 52 ∷ 48 ∷ 55 ∷ 51 ∷ 55 ∷ 48 ∷ 57 ∷ 53 ∷ 53 ∷ 49 ∷ 54 ∷ 49 ∷ 53 ∷ []
 unfolding longDecimal digits widthIn
 top = refl
+
+-- `old=needed`, with every nugget moved too: only the state decides
+pub needed : oldText (drive (Changing 1) 2) ≡ 111 ∷ 108 ∷ 100 ∷ 61 ∷ 110 ∷ 101 ∷ 101 ∷ 100 ∷ 101 ∷ 100 ∷ []
+unfolding oldState
+needed = refl
+
+-- `old=free`
+pub unneeded : oldText (drive Steady 2) ≡ 111 ∷ 108 ∷ 100 ∷ 61 ∷ 102 ∷ 114 ∷ 101 ∷ 101 ∷ []
+unfolding oldState
+unneeded = refl

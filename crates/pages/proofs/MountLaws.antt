@@ -22,17 +22,14 @@ use Rattle.layout.proofs.Limits.{Limits, limits}
 use Rattle.layout.specs.Lent.{Lent}
 use Rattle.drive.specs.declared.Done.{Done}
 use Rattle.drive.specs.Drive.{shapeOf}
-use Rattle.line.specs.Lines.{Put, newline, refusalLine}
-use Rattle.line.specs.Decimal.{longDecimal}
-use Rattle.line.proofs.PutLaws.{long-le}
+use Rattle.line.specs.Lines.{Put, refusalLine}
 use Rattle.opening.specs.Mount.{shapeIn, headFits, lengthFits, openedDrive, mountAnswer, mountDone}
 use Rattle.opening.proofs.HeadBack.{Opened, opened}
 use Rattle.answers.proofs.StageLaws.{accepted-is}
 use Rattle.sheets.specs.Sheet.{presentIn, oldIn, outsideIn, volumeIn, sized, mountedText, mountedBy, sheetLine}
 use Rattle.sheets.proofs.SheetLaws.{mounted-short, sheet-short}
-use Rattle.pages.specs.Words.{t-counter}
-use Rattle.pages.specs.Page.{mounts, nuggetLines, counterText, counterLine, driveText, auditPage}
-use Rattle.pages.proofs.PageLaws.{lines-le}
+use Rattle.pages.specs.Page.{mounts, nuggetLines, counterLine, oldLine, driveText, auditPage}
+use Rattle.pages.proofs.PageLaws.{lines-le, counter-le, old-le}
 
 -- the drive of an accepted mount is the opened one
 pub mounted-drive : (i : List ℕ) → accepts (mountedBy i .answer) ≡ true → mountedBy i .drive ≡ openedDrive (volumeIn i) (presentIn i) (oldIn i)
@@ -96,20 +93,20 @@ page-whole i h em ev eo a =
 pub mounted-reach : (m : Done) (v : List ℕ) {s x : List ℕ} {r : ℕ} → Put s 0 (mountedText m v) r x → r ≤ 90
 mounted-reach m v f = omega (arith, f .behind, mounted-short m v)
 
-lines-short : (i : List ℕ) → mounts i ≡ true → length (driveText (mountedBy i .drive) (volumeIn i) (outsideIn i)) ≤ 113429
+lines-short : (i : List ℕ) → mounts i ≡ true → length (driveText (mountedBy i .drive) (volumeIn i) (outsideIn i)) ≤ 113440
 unfolding mounts driveText
 lines-short i h =
     let d = mountedBy i .drive in
     let room = mounted-room i (both-left (sized i) _ h) refl refl (both-right (sized i) _ h) in
     let narrow = limits (shapeOf d) (room .0 .limited) .narrow in
-    omega (arith, room .1, lines-le d (volumeIn i) (d .n) narrow, length-append (nuggetLines d (volumeIn i) (d .n)) (counterLine (outsideIn i)), length-append (counterText (outsideIn i)) newline, length-append t-counter (longDecimal (outsideIn i)), long-le (outsideIn i))
+    omega (arith, room .1, lines-le d (volumeIn i) (d .n) narrow, length-append (nuggetLines d (volumeIn i) (d .n)) (counterLine (outsideIn i) ++ oldLine d), length-append (counterLine (outsideIn i)) (oldLine d), counter-le (outsideIn i), old-le d)
 
 -- no page is longer
-pub page-short : (i : List ℕ) → length (auditPage i) ≤ 113519
+pub page-short : (i : List ℕ) → length (auditPage i) ≤ 113530
 unfolding auditPage
 page-short i = go (told (mounts i))
   where
-    go : (mounts i ≡ true) ⊎ (mounts i ≡ false) → length (sheetLine i ++ pick (mounts i) (driveText (mountedBy i .drive) (volumeIn i) (outsideIn i)) []) ≤ 113519
+    go : (mounts i ≡ true) ⊎ (mounts i ≡ false) → length (sheetLine i ++ pick (mounts i) (driveText (mountedBy i .drive) (volumeIn i) (outsideIn i)) []) ≤ 113530
     go (inl e) = rw e (omega (arith, length-append (sheetLine i) (driveText (mountedBy i .drive) (volumeIn i) (outsideIn i)), sheet-short i, lines-short i e))
     go (inr e) = rw e (omega (arith, length-append (sheetLine i) [], sheet-short i))
 

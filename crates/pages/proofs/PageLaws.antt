@@ -21,8 +21,8 @@ use Rattle.line.specs.Texts.{t-flakes}
 use Rattle.line.specs.Lines.{Put, newline}
 use Rattle.line.proofs.DecimalLaws.{length-digits, width-le, width-same}
 use Rattle.line.proofs.PutLaws.{put-then, put-as, put-none, decimal-le, long-le}
-use Rattle.pages.specs.Words.{t-nugget, t-key, t-new, t-old, t-present, t-epoch, t-keycount, t-counter, t-none}
-use Rattle.pages.specs.Page.{keyText, presentFlakes, others, flakesText, markFor, marked, nuggetText, nuggetLine, nuggetLines, driveText}
+use Rattle.pages.specs.Words.{t-nugget, t-key, t-new, t-old, t-present, t-epoch, t-keycount, t-counter, t-secret, t-needed, t-free, t-none}
+use Rattle.pages.specs.Page.{keyText, presentFlakes, others, flakesText, markFor, marked, nuggetText, nuggetLine, nuggetLines, counterText, counterLine, oldState, oldText, oldLine, driveText}
 
 -- the list is empty
 abbrev pub none : List ℕ → Bool
@@ -164,6 +164,9 @@ lines-le d v zero h = omega arith
 lines-le d v (suc k) h =
     omega (arith, length-append (nuggetLines d v k) (nuggetLine d (recordOf v k) k), lines-le d v k h, line-le d (recordOf v k) k h)
 
+pub lines-reach : (d : Drive) (v : List ℕ) (k : ℕ) {s x : List ℕ} {at r : ℕ} → Put s at (nuggetLines d v k) r x → d .p ≤ 64 → r ≤ at + 300 * k
+lines-reach d v k f h = omega (arith, f .behind, lines-le d v k h)
+
 -- the loop over the nuggets
 pub lines-start : (d : Drive) (v s : List ℕ) (at : ℕ) → Put s at (nuggetLines d v 0) at s
 unfolding nuggetLines
@@ -176,7 +179,27 @@ lines-turn d v n {x = x} {y = y} {next = next} {k = k} f ea er g =
     let h : Put x next (nuggetLine d (recordOf v n) n) k y = rw (er, ea) at g in
     rw (add-one n) (put-then _ _ f h)
 
-pub drive-text : (d : Drive) (v : List ℕ) (outside : ℕ)
-    → ((nuggetLines d v (d .n) ++ t-counter) ++ longDecimal outside) ++ newline ≡ driveText d v outside
+-- the last two lines
+pub counter-le : (outside : ℕ) → length (counterLine outside) ≤ 29
+counter-le outside =
+    omega (arith, length-append (counterText outside) newline, length-append t-counter (longDecimal outside), long-le outside)
+
+pub old-needed : (d : Drive) → isChanging (d .state) ≡ true → (t-secret ++ t-needed) ++ newline ≡ oldLine d
+unfolding oldState
+old-needed d c = rw c
+
+pub old-free : (d : Drive) → isChanging (d .state) ≡ false → (t-secret ++ t-free) ++ newline ≡ oldLine d
+unfolding oldState
+old-free d c = rw c
+
+pub old-le : (d : Drive) → length (oldLine d) ≤ 11
+unfolding oldState
+old-le d = go (isChanging (d .state))
+  where
+    go : (b : Bool) → length ((t-secret ++ pick b t-needed t-free) ++ newline) ≤ 11
+    go true = lit≤ tt
+    go false = lit≤ tt
+
+pub drive-text : (d : Drive) (v : List ℕ) (outside : ℕ) → (nuggetLines d v (d .n) ++ counterLine outside) ++ oldLine d ≡ driveText d v outside
 unfolding driveText
-drive-text d v outside = simp append-assoc
+drive-text d v outside = append-assoc (nuggetLines d v (d .n)) (counterLine outside) (oldLine d)

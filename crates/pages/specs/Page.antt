@@ -1,5 +1,6 @@
 -- The auditor's page. Her first question was: "Which flakes were under which key when the sheet was printed?"
--- The sheet's line; then, if the volume mounts, one line for each nugget, ascending; then the outside counter.
+-- The sheet's line; then, if the volume mounts, one line for each nugget, ascending; then the outside counter;
+-- at last whether the old secret may go.
 use Prim.Native.Nat.{ℕ, zero, suc}
 use mathlib.Core.Bool.{Bool, true, false}
 use mathlib.Core.List.{List, [], _∷_, _++_}
@@ -15,7 +16,7 @@ use Rattle.line.specs.Decimal.{decimal, longDecimal}
 use Rattle.line.specs.Texts.{t-flakes}
 use Rattle.line.specs.Lines.{newline}
 use Rattle.sheets.specs.Sheet.{sized, mountedBy, volumeIn, outsideIn, sheetLine}
-use Rattle.pages.specs.Words.{t-nugget, t-key, t-new, t-old, t-present, t-epoch, t-keycount, t-counter, t-none}
+use Rattle.pages.specs.Words.{t-nugget, t-key, t-new, t-old, t-present, t-epoch, t-keycount, t-counter, t-secret, t-needed, t-free, t-none}
 
 -- "its epoch is the head's, or, while changing, the head's or one less. [..] One less means: under the old secret."
 unfoldable pub keyText : Drive → ℕ → List ℕ
@@ -72,9 +73,20 @@ counterText outside = t-counter ++ longDecimal outside
 abbrev pub counterLine : ℕ → List ℕ
 counterLine outside = counterText outside ++ newline
 
+-- "Mount takes both secrets (the old one unused when steady)": whether a mount still asks for the old one
+unfoldable pub oldState : Drive → List ℕ
+oldState d = pick (isChanging (d .state)) t-needed t-free
+
+-- `old=needed`
+abbrev pub oldText : Drive → List ℕ
+oldText d = t-secret ++ oldState d
+
+abbrev pub oldLine : Drive → List ℕ
+oldLine d = oldText d ++ newline
+
 -- what a mounted drive adds to the sheet's line
 unfoldable pub driveText : Drive → List ℕ → ℕ → List ℕ
-driveText d v outside = nuggetLines d v (d .n) ++ counterLine outside
+driveText d v outside = nuggetLines d v (d .n) ++ (counterLine outside ++ oldLine d)
 
 -- the input's volume mounts
 unfoldable pub mounts : List ℕ → Bool

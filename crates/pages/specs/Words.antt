@@ -34,6 +34,18 @@ t-keycount = 32 ∷ 107 ∷ 101 ∷ 121 ∷ 99 ∷ 111 ∷ 117 ∷ 110 ∷ 116 �
 abbrev pub t-counter : List ℕ
 t-counter = 99 ∷ 111 ∷ 117 ∷ 110 ∷ 116 ∷ 101 ∷ 114 ∷ 61 ∷ []
 
+-- `old=`
+abbrev pub t-secret : List ℕ
+t-secret = 111 ∷ 108 ∷ 100 ∷ 61 ∷ []
+
+-- `needed`
+abbrev pub t-needed : List ℕ
+t-needed = 110 ∷ 101 ∷ 101 ∷ 100 ∷ 101 ∷ 100 ∷ []
+
+-- `free`
+abbrev pub t-free : List ℕ
+t-free = 102 ∷ 114 ∷ 101 ∷ 101 ∷ []
+
 -- `-`
 abbrev pub t-none : List ℕ
 t-none = 45 ∷ []

@@ -14,7 +14,7 @@ ghost use Rattle.line.specs.Texts.{t-flakes};
 ghost use Rattle.layout.specs.Lent.{Lent};
 ghost use Rattle.drive.specs.Drive.{shapeOf};
 ghost use Rattle.pages.specs.Words.{t-key};
-ghost use Rattle.pages.specs.Page.{keyText, presentFlakes, flakesText, markFor, marked, nuggetLine, nuggetLines, driveText, auditPage};
+ghost use Rattle.pages.specs.Page.{keyText, presentFlakes, flakesText, markFor, marked, nuggetLine, nuggetLines, counterLine, oldLine, driveText, auditPage};
 
 // "One less means: under the old secret."
 fn put_key(out: &mut [u8], at: usize, d: Drive, epoch: u16) -> usize
@@ -100,15 +100,35 @@ fn put_nuggets(out: &mut [u8], at: usize, d: Drive, vol: &[u8]) -> usize
     next
 }
 
+fn put_counter(out: &mut [u8], at: usize, outside: u64) -> usize
+    requires { ⌜ at + 29 ≤ length (now out) ⌝ }
+    ensures { λ k. ⌜ Put (now (out .entry)) at (counterLine outside) k (now (out .exit)) ⌝ }
+{
+    let a = line::put(&mut *out, at, b"counter=");
+    let b = line::put_long(&mut *out, a, outside);
+    line::put(&mut *out, b, b"\n")
+}
+
+// Only a finish frees the old secret, not a share of 100.00.
+fn put_old(out: &mut [u8], at: usize, d: Drive) -> usize
+    requires { ⌜ at + 11 ≤ length (now out) ⌝ }
+    ensures { λ k. ⌜ Put (now (out .entry)) at (oldLine d) k (now (out .exit)) ⌝ }
+{
+    let state = d.state;
+    if drive::is_changing(state) {
+        return line::put(out, at, b"old=needed\n");
+    }
+    line::put(out, at, b"old=free\n")
+}
+
 // What a mounted drive adds to the sheet's line.
 fn put_drive(out: &mut [u8], at: usize, d: Drive, vol: &[u8], outside: u64) -> usize
-    requires { ⌜ Lent (shapeOf d) (now vol) × (at + 300 * d .n + 29 ≤ length (now out)) ⌝ }
+    requires { ⌜ Lent (shapeOf d) (now vol) × (at + 300 * d .n + 40 ≤ length (now out)) ⌝ }
     ensures { λ k. ⌜ Put (now (out .entry)) at (driveText d (now (vol .entry)) outside) k (now (out .exit)) ⌝ }
 {
     let a = put_nuggets(&mut *out, at, d, vol);
-    let b = line::put(&mut *out, a, b"counter=");
-    let c = line::put_long(&mut *out, b, outside);
-    line::put(&mut *out, c, b"\n")
+    let b = put_counter(&mut *out, a, outside);
+    put_old(&mut *out, b, d)
 }
 
 // The page in the first bytes of `out`; how many they are. A volume of 61,440 bytes has at most 378 nuggets.

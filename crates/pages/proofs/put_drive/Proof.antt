@@ -1,5 +1,5 @@
-use Rattle.pages.proofs.PageLaws.{lines-le, drive-text}
-use Rattle.line.proofs.PutLaws.{put-then, put-as, long-le}
+use Rattle.pages.proofs.PageLaws.{lines-reach, counter-le, drive-text}
+use Rattle.line.proofs.PutLaws.{put-then, put-as}
 use Rattle.layout.proofs.Limits.{limits}
 use Rattle.drive.specs.Drive.{shapeOf}
 use native.Mathlib.Omega.{arith}
@@ -10,36 +10,24 @@ use Rattle.pages.proofs.put_drive.Tie as tie
 put-nuggets-requires : tie.Need-put-nuggets-requires
 put-nuggets-requires c κs = search needs
 
-slice-aggregate-put : tie.Need-slice-aggregate-put
-slice-aggregate-put c = search needs
+put-counter-requires : tie.Need-put-counter-requires
+put-counter-requires c κs = omega (arith, lines-reach (c .before .before .before .before .before .before .before .args .d) (c .before .before .before .before .before .before .before .args .vol .now) (c .before .before .before .before .before .before .before .args .d .n) (c .before .before .before .put-nuggets .ensures) (limits (shapeOf (c .before .before .before .before .before .before .before .args .d)) (c .before .before .before .before .before .before .before .pre .0 .limited) .narrow), c .before .before .before .put-nuggets .kept .0, c .before .before .before .before .before .before .before .pre .1)
 
-put-requires : tie.Need-put-requires
-put-requires c κs = omega (arith, c .before .before .before .before .put-nuggets .ensures .behind, c .before .before .before .before .put-nuggets .kept .0, lines-le (c .before .before .before .before .before .before .before .before .args .d) (c .before .before .before .before .before .before .before .before .args .vol .now) (c .before .before .before .before .before .before .before .before .args .d .n) (limits (shapeOf (c .before .before .before .before .before .before .before .before .args .d)) (c .before .before .before .before .before .before .before .before .pre .0 .limited) .narrow), c .before .before .before .before .before .before .before .before .pre .1)
-
-put-long-requires : tie.Need-put-long-requires
-put-long-requires c κs = omega (arith, c .before .before .before .before .before .before .before .before .put-nuggets .ensures .behind, c .before .before .before .before .before .before .before .before .put-nuggets .kept .0, lines-le (c .before .before .before .before .before .before .before .before .before .before .before .before .args .d) (c .before .before .before .before .before .before .before .before .before .before .before .before .args .vol .now) (c .before .before .before .before .before .before .before .before .before .before .before .before .args .d .n) (limits (shapeOf (c .before .before .before .before .before .before .before .before .before .before .before .before .args .d)) (c .before .before .before .before .before .before .before .before .before .before .before .before .pre .0 .limited) .narrow), c .before .before .before .put .ensures .behind, c .before .before .before .put .kept .0, long-le (c .before .before .before .before .before .before .before .before .before .before .before .before .args .outside), c .before .before .before .before .before .before .before .before .before .before .before .before .pre .1)
-
-slice-aggregate-put-2 : tie.Need-slice-aggregate-put-2
-slice-aggregate-put-2 c = search needs
-
-put-requires-2 : tie.Need-put-requires-2
-put-requires-2 c κs = omega (arith, c .before .before .before .before .before .before .before .before .before .before .before .before .before .put-nuggets .ensures .behind, c .before .before .before .before .before .before .before .before .before .before .before .before .before .put-nuggets .kept .0, lines-le (c .before .before .before .before .before .before .before .before .before .before .before .before .before .before .before .before .before .args .d) (c .before .before .before .before .before .before .before .before .before .before .before .before .before .before .before .before .before .args .vol .now) (c .before .before .before .before .before .before .before .before .before .before .before .before .before .before .before .before .before .args .d .n) (limits (shapeOf (c .before .before .before .before .before .before .before .before .before .before .before .before .before .before .before .before .before .args .d)) (c .before .before .before .before .before .before .before .before .before .before .before .before .before .before .before .before .before .pre .0 .limited) .narrow), c .before .before .before .before .before .before .before .before .put .ensures .behind, c .before .before .before .before .before .before .before .before .put .kept .0, c .before .before .before .before .put-long .ensures .behind, c .before .before .before .before .put-long .kept .0, long-le (c .before .before .before .before .before .before .before .before .before .before .before .before .before .before .before .before .before .args .outside), c .before .before .before .before .before .before .before .before .before .before .before .before .before .before .before .before .before .pre .1)
+put-old-requires : tie.Need-put-old-requires
+put-old-requires c κs = omega (arith, lines-reach (c .before .before .before .before .before .before .before .before .before .before .before .args .d) (c .before .before .before .before .before .before .before .before .before .before .before .args .vol .now) (c .before .before .before .before .before .before .before .before .before .before .before .args .d .n) (c .before .before .before .before .before .before .before .put-nuggets .ensures) (limits (shapeOf (c .before .before .before .before .before .before .before .before .before .before .before .args .d)) (c .before .before .before .before .before .before .before .before .before .before .before .pre .0 .limited) .narrow), c .before .before .before .before .before .before .before .put-nuggets .kept .0, c .before .before .before .put-counter .ensures .behind, c .before .before .before .put-counter .kept .0, counter-le (c .before .before .before .before .before .before .before .before .before .before .before .args .outside), c .before .before .before .before .before .before .before .before .before .before .before .pre .1)
 
 same-length : tie.Need-same-length
 same-length c = search needs
 
 returns : tie.Need-returns
-returns c = let a = c .before .before .before .before .before .before .before .before .before .before .before .before .before .before .before .before .before .before .before .before .args in put-as _ _ (drive-text (a .d) (a .vol .now) (a .outside)) (put-then _ _ (put-then _ _ (put-then _ _ (c .before .before .before .before .before .before .before .before .before .before .before .before .before .before .before .before .put-nuggets .ensures) (c .before .before .before .before .before .before .before .before .before .before .before .put .ensures)) (c .before .before .before .before .before .before .before .put-long .ensures)) (c .before .before .put2 .ensures))
+returns c = let a = c .before .before .before .before .before .before .before .before .before .before .before .before .before .before .args in put-as _ _ (drive-text (a .d) (a .vol .now) (a .outside)) (put-then _ _ (put-then _ _ (c .before .before .before .before .before .before .before .before .before .before .put-nuggets .ensures) (c .before .before .before .before .before .before .put-counter .ensures)) (c .before .before .put-old .ensures))
 
 pub put-drive-spec : {M : Type 1} → statement M
 put-drive-spec =
     tie.close
     (tie.spec
     put-nuggets-requires
-    slice-aggregate-put
-    put-requires
-    put-long-requires
-    slice-aggregate-put-2
-    put-requires-2
+    put-counter-requires
+    put-old-requires
     same-length
     returns)
