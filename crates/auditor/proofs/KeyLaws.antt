@@ -8,7 +8,7 @@ use lib.Dec.{eqb}
 use borrow.Author.Tests.{ne-eqb, eqb-true}
 use Rattle.base.specs.Pick.{pick, both}
 use Rattle.base.specs.Lists.{same}
-use Rattle.base.proofs.PickLaws.{told, both-right}
+use Rattle.base.proofs.PickLaws.{told, clash, both-left, both-right}
 use Rattle.records.specs.Record.{epochFits}
 use Rattle.drive.specs.declared.Drive.{Drive}
 use Rattle.drive.specs.Drive.{isChanging}
@@ -34,6 +34,21 @@ key-word d e fits = go (told (eqb e (d .epoch)))
         → pick (eqb e (d .epoch)) (pick (isChanging (d .state)) t-new t-present) t-old ≡ pick (eqb (e + 1) (d .epoch)) t-old (pick (isChanging (d .state)) t-new t-present)
     go (inl h) = rw (h, not-less d e h)
     go (inr h) = rw (h, one-less d e fits h)
+
+-- only while changing is a word `old`
+pub old-word : (d : Drive) (e : ℕ) → epochFits (d .epoch) (isChanging (d .state)) e ≡ true → same (keyWord d e) t-old ≡ true → isChanging (d .state) ≡ true
+unfolding keyWord same
+old-word d e fits is = go (told (eqb e (d .epoch)))
+  where
+    other : (b : Bool) → same (pick b t-new t-present) t-old ≡ false
+    other true = refl
+    other false = refl
+
+    go : (eqb e (d .epoch) ≡ true) ⊎ (eqb e (d .epoch) ≡ false) → isChanging (d .state) ≡ true
+    go (inl h) = absurd (clash (rw (not-less d e h) at is) (other (isChanging (d .state))))
+    go (inr h) =
+        let less : both (isChanging (d .state)) (eqb (e + 1) (d .epoch)) ≡ true = rw h at fits in
+        both-left (isChanging (d .state)) (eqb (e + 1) (d .epoch)) less
 
 pub secret-named : (d : Drive) (e : ℕ) → epochFits (d .epoch) (isChanging (d .state)) e ≡ true → secretFor d e ≡ secretNamed d (keyWord d e)
 unfolding secretFor secretNamed keyWord same

@@ -18,7 +18,7 @@ use Rattle.answers.specs.Numbers.{accepts}
 use Rattle.layout.specs.Parts.{recordAt}
 use Rattle.layout.proofs.Limits.{Limits, limits}
 use Rattle.layout.proofs.Places.{record-inside, parts-inside}
-use Rattle.records.specs.Record.{Widths, epochFits, noneFrom, wellFormed}
+use Rattle.records.specs.Record.{epochFits, noneFrom, wellFormed}
 use Rattle.records.proofs.RecordLaws.{read-widths}
 use Rattle.layout.specs.Lent.{Lent}
 use Rattle.tree.proofs.WholeLaws.{whole-formed}
@@ -43,8 +43,18 @@ use Rattle.auditor.proofs.PageLines.{Line, report-is-line, line-ends, l
 use Rattle.auditor.proofs.KeyLaws.{key-word, secret-named}
 use Rattle.tree.specs.Path.{recordOf}
 
+-- keycount and epoch of each record within their widths
+abbrev pub Narrow : Drive → List ℕ → Type 0
+Narrow d v = (n : ℕ) → n < d .n → (recordOf v n .keycount < 2 ^ 64) × (recordOf v n .epoch < 2 ^ 16)
+
+-- those of bytes are
+narrow-bytes : (d : Drive) (v : List ℕ) → Lent (shapeOf d) v → Bytes v → Narrow d v
+narrow-bytes d v lent bytes n h =
+    let w = read-widths v (recordAt n) bytes (omega (arith, lent .size, record-inside (shapeOf d) n h, parts-inside (shapeOf d))) in
+    (w .keycountWidth, w .epochWidth)
+
 -- a drive whose volume is what it has to be
-module _ (d : Drive) (v : List ℕ) (lent : Lent (shapeOf d) v) (bytes : Bytes v) (whole : wholeIn d v ≡ A.Accepted) where
+module _ (d : Drive) (v : List ℕ) (lent : Lent (shapeOf d) v) (narrow : Narrow d v) (whole : wholeIn d v ≡ A.Accepted) where
   limited : Limits (shapeOf d)
   limited = limits (shapeOf d) (lent .limited)
 
@@ -52,13 +62,10 @@ module _ (d : Drive) (v : List ℕ) (lent : Lent (shapeOf d) v) (bytes : Bytes v
   unfolding wellFormed
   fits n h = both-right (noneFrom (d .p) (recordOf v n .journal)) _ (whole-formed (shapeOf d) (d .epoch) (isChanging (d .state)) v whole n h)
 
-  widths : (n : ℕ) → n < d .n → Widths (recordOf v n)
-  widths n h = read-widths v (recordAt n) bytes (omega (arith, lent .size, record-inside (shapeOf d) n h, parts-inside (shapeOf d)))
-
   line : (n : ℕ) → n < d .n → LineTold d (recordOf v n) n
   line n h =
-      let w = widths n h in
-      line-told d (recordOf v n) n (omega (arith, limited .few)) (lt-of-lt-of-le (w .epochWidth) (lit≤ tt)) (lt-of-lt-of-le (w .keycountWidth) (lit≤ tt)) (omega (arith, limited .narrow))
+      let w = narrow n h in
+      line-told d (recordOf v n) n (omega (arith, limited .few)) (lt-of-lt-of-le (w .1) (lit≤ tt)) (lt-of-lt-of-le (w .0) (lit≤ tt)) (omega (arith, limited .narrow))
 
   module _ (outside : ℕ) (first : List ℕ) (is-line : Line first) where
     abbrev page : List ℕ
@@ -125,7 +132,7 @@ report-line-is : (d : Drive) (v : List ℕ) → reportAnswer d v ≡ A.Accepted
 unfolding reportText reportOf
 report-line-is d v e = let accepted : accepts (reportOf d v .answer) ≡ true = rw e refl in yes _ accepted refl
 
-module _ (i : List ℕ) (bytes : Bytes i) (mounted : mounts i ≡ true) where
+module _ (i : List ℕ) (mounted : mounts i ≡ true) where
   size : sized i ≡ true
   unfolding mounts
   size = both-left (sized i) _ mounted
@@ -133,16 +140,6 @@ module _ (i : List ℕ) (bytes : Bytes i) (mounted : mounts i ≡ true) where
   accepted : accepts (mountedBy i .answer) ≡ true
   unfolding mounts
   accepted = both-right (sized i) _ mounted
-
-  volume-bytes : Bytes (volumeIn i)
-  volume-bytes = rw (volume-taken i) at (bytes-part 72 (length i - 72) i bytes)
-
-  outside-small : outsideIn i < 10 ^ 20
-  unfolding sized
-  outside-small =
-      let long : length (part 64 8 i) ≡ 8 = length-part 64 8 i (leb-true 72 (length i) (both-left (leb 72 (length i)) _ size)) in
-      let small : outsideIn i < 256 ^ 8 = rw long at (num-lt (part 64 8 i) (bytes-part 64 8 i bytes)) in
-      lt-of-lt-of-le small (lit≤ tt)
 
   abbrev drive : Drive
   drive = openedDrive (volumeIn i) (presentIn i) (oldIn i)
@@ -158,13 +155,31 @@ module _ (i : List ℕ) (bytes : Bytes i) (mounted : mounts i ≡ true) where
   unfolding auditPage
   page-is = rw (mounted, mounted-drive i accepted)
 
-  -- "Which flakes were under which key when the sheet was printed?"
-  pub first-question : Answers (auditPage i) (mountedBy i .drive) (volumeIn i) (outsideIn i)
-  first-question =
+  lent : Lent (shapeOf drive) (volumeIn i)
+  lent = opened-lent (volumeIn i) (presentIn i) (oldIn i) (outsideIn i) told
+
+  answers : Narrow drive (volumeIn i) → outsideIn i < 256 ^ 8 → reportAnswer drive (volumeIn i) ≡ A.Accepted
+      → Answers (auditPage i) (mountedBy i .drive) (volumeIn i) (outsideIn i)
+  answers narrow small reports =
       let v = volumeIn i in
       let r = reportOf drive v in
-      let is : sheetLine i ≡ reportLine (r .n) (r .moved) (r .left) (r .flakes) (r .share) =
-      sheet-is ∙ report-line-is drive v (report-follows v (presentIn i) (oldIn i) (outsideIn i) volume-bytes (mounted-answer i accepted)) in
+      let is : sheetLine i ≡ reportLine (r .n) (r .moved) (r .left) (r .flakes) (r .share) = sheet-is ∙ report-line-is drive v reports in
       let is-line : Line (sheetLine i) = rw is (report-is-line (r .n) (r .moved) (r .left) (r .flakes) (r .share)) in
       rw (page-is, mounted-drive i accepted)
-      (answered drive v (opened-lent v (presentIn i) (oldIn i) (outsideIn i) told) volume-bytes (told .whole) (outsideIn i) (sheetLine i) is-line outside-small (told .counter) is)
+      (answered drive v lent narrow (told .whole) (outsideIn i) (sheetLine i) is-line (lt-of-lt-of-le small (lit≤ tt)) (told .counter) is)
+
+  -- whatever the list holds, if its records and its counter are within their widths and the report is accepted
+  pub page-answers : Narrow (mountedBy i .drive) (volumeIn i) → outsideIn i < 256 ^ 8 → reportAnswer (mountedBy i .drive) (volumeIn i) ≡ A.Accepted
+      → Answers (auditPage i) (mountedBy i .drive) (volumeIn i) (outsideIn i)
+  page-answers narrow small reports =
+      let e = mounted-drive i accepted in
+      answers (rw e at narrow) small (rw e at reports)
+
+  -- "Which flakes were under which key when the sheet was printed?"
+  pub first-question : Bytes i → Answers (auditPage i) (mountedBy i .drive) (volumeIn i) (outsideIn i)
+  unfolding sized
+  first-question bytes =
+      let v : Bytes (volumeIn i) = rw (volume-taken i) at (bytes-part 72 (length i - 72) i bytes) in
+      let long : length (part 64 8 i) ≡ 8 = length-part 64 8 i (leb-true 72 (length i) (both-left (leb 72 (length i)) _ size)) in
+      let small : outsideIn i < 256 ^ 8 = rw long at (num-lt (part 64 8 i) (bytes-part 64 8 i bytes)) in
+      answers (narrow-bytes drive (volumeIn i) lent v) small (report-follows (volumeIn i) (presentIn i) (oldIn i) (outsideIn i) v (mounted-answer i accepted))

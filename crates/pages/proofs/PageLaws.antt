@@ -22,7 +22,7 @@ use Rattle.line.specs.Lines.{Put, newline}
 use Rattle.line.proofs.DecimalLaws.{length-digits, width-le, width-same}
 use Rattle.line.proofs.PutLaws.{put-then, put-as, put-none, decimal-le, long-le}
 use Rattle.pages.specs.Words.{t-nugget, t-key, t-new, t-old, t-present, t-epoch, t-keycount, t-counter, t-secret, t-needed, t-free, t-none}
-use Rattle.pages.specs.Page.{keyText, presentFlakes, others, flakesText, markFor, marked, nuggetText, nuggetLine, nuggetLines, counterText, counterLine, oldState, oldText, oldLine, driveText}
+use Rattle.pages.specs.Page.{keyText, presentFlakes, others, flakesText, markFor, marked, nuggetText, nuggetLine, nuggetLines, counterText, counterLine, oldState, oldLine, driveText}
 
 -- the list is empty
 abbrev pub none : List ℕ → Bool

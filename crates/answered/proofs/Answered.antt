@@ -1,0 +1,126 @@
+-- What the page tells of a flake is the pad last listed for it; and `old=free` is what it says.
+use mathlib.Core.Path.{_≡_, refl, sym, ap, _∙_}
+use mathlib.Core.Bool.{Bool, true, false}
+use mathlib.Core.List.{List}
+use mathlib.Core.Logic.{_⊎_, inl, inr}
+use mathlib.Core.Option.{Option·some-injective}
+use Prim.Native.Nat.{ℕ, _<_}
+use native.Mathlib.Omega.{arith}
+use lib.Dec.{eqb, leb}
+use borrow.Author.Tests.{leb-true, leb-false}
+use Rattle.base.specs.Pick.{pick, either}
+use Rattle.base.specs.Lists.{same}
+use Rattle.base.proofs.PickLaws.{yes, no, told, clash, both-right}
+use Rattle.records.specs.Listing.{Entry}
+use Rattle.records.specs.Journal.{bit}
+use Rattle.records.specs.Record.{epochFits, noneFrom, wellFormed}
+use Rattle.drive.specs.declared.State.{State}
+use Rattle.drive.specs.declared.State.the-variants.{Steady, Changing}
+use Rattle.drive.specs.Drive.{isChanging, keptOld}
+use Rattle.tree.specs.Path.{recordOf}
+use Rattle.nuggets.specs.Nugget.{secretFor}
+use Rattle.pages.specs.Words.{t-old, t-needed, t-free}
+use Rattle.auditor.specs.Reading.{toldOf, times}
+use Rattle.auditor.specs.Question.{keyWord, secretNamed}
+use Rattle.auditor.proofs.KeyLaws.{old-word, secret-named}
+use Rattle.ledger.specs.Ledger.{entryAt}
+use Rattle.history.specs.World.{World}
+use Rattle.history.specs.History.{history}
+use Rattle.history.specs.Demands.{LastPad}
+use Rattle.history.proofs.View.{ledgerOf}
+use Rattle.history.proofs.Sound.{Sound}
+use Rattle.history.proofs.Steps.{sound}
+use Rattle.history.proofs.Demands.{under-last-pad, mounts-back}
+use Rattle.answered.specs.Answered.{Fits, pageFor, secretBy, TellsPad, PageTellsPads, PageTellsNoOthers, PageTellsOld, FreeIsFree}
+use Rattle.answered.proofs.Input.{page-holds}
+
+kept-changing : (s : State) (a : List ℕ) → isChanging s ≡ true → keptOld s a ≡ a
+kept-changing Steady a e = absurd (clash e refl)
+kept-changing (Changing epoch) a e = refl
+
+either-none : (a : Bool) → either a false ≡ true → a ≡ true
+either-none true e = refl
+either-none false e = e
+
+module _ (w : World) (x : Sound w) where
+  epoch-fits : (n : ℕ) → n < w .drive .n → epochFits (w .drive .epoch) (isChanging (w .drive .state)) (recordOf (w .vol) n .epoch) ≡ true
+  unfolding wellFormed
+  epoch-fits n h = both-right (noneFrom (w .drive .p) (recordOf (w .vol) n .journal)) _ (x .inv .formed n h)
+
+  -- the secrets that the user holds are the drive's; when steady no word names the old one
+  by-word : (e : ℕ) → epochFits (w .drive .epoch) (isChanging (w .drive .state)) e ≡ true → secretBy w (keyWord (w .drive) e) ≡ secretNamed (w .drive) (keyWord (w .drive) e)
+  unfolding secretNamed
+  by-word e fits = go (told (same (keyWord (w .drive) e) t-old))
+    where
+      go : (same (keyWord (w .drive) e) t-old ≡ true) ⊎ (same (keyWord (w .drive) e) t-old ≡ false)
+          → pick (same (keyWord (w .drive) e) t-old) (w .old) (w .secret) ≡ pick (same (keyWord (w .drive) e) t-old) (w .drive .old) (w .drive .present)
+      go (inl is) = rw is (sym (kept-changing (w .drive .state) (w .old) (old-word (w .drive) e fits is)) ∙ x .handed .kept)
+      go (inr not) = rw not (sym (x .present))
+
+  -- the pad's keycount is the record's
+  pad-count : (n f : ℕ) → n < w .drive .n → bit (recordOf (w .vol) n .journal) f ≡ true → (l : LastPad w n f) → l .pad .keycount ≡ recordOf (w .vol) n .keycount
+  pad-count n f h on l =
+      ap (λ (e : Entry). e .keycount) (Option·some-injective (l .pad) (entryAt (ledgerOf w) n f) (sym (l .last) ∙ x .inv .named n f h on))
+
+  tells : (any : List ℕ) (n f : ℕ) → Fits w any → n < w .drive .n → f < w .drive .p → bit (recordOf (w .vol) n .journal) f ≡ true → LastPad w n f
+      → TellsPad (pageFor w any) w n f
+  tells any n f fits h g on l =
+      let a = page-holds w x any fits in
+      let e = recordOf (w .vol) n .epoch in
+      record {
+        last = l;
+        listed = a .flakes n f h g ∙ yes _ on refl;
+        keycount = a .keycount n h ∙ sym (pad-count n f h on l);
+        key = ap (secretBy w) (a .word n h) ∙ by-word e (epoch-fits n h) ∙ sym (secret-named (w .drive) e (epoch-fits n h)) ∙ sym (l .secret);
+        epoch = ap (secretFor (w .drive)) (a .epoch n h) ∙ sym (l .secret);
+      }
+
+  module _ (any : List ℕ) (n f : ℕ) (fits : Fits w any) (h : n < w .drive .n) (shown : 0 < times f (toldOf (pageFor w any) n .flakes)) where
+    inside : f < w .drive .p
+    inside = go (told (leb (w .drive .p) f))
+      where
+        go : (leb (w .drive .p) f ≡ true) ⊎ (leb (w .drive .p) f ≡ false) → f < w .drive .p
+        go (inl e) = absurd (omega (arith, shown, page-holds w x any fits .noOthers n f h (leb-true (w .drive .p) f e)))
+        go (inr e) = leb-false (w .drive .p) f e
+
+    present : bit (recordOf (w .vol) n .journal) f ≡ true
+    present = go (told (bit (recordOf (w .vol) n .journal) f))
+      where
+        go : (bit (recordOf (w .vol) n .journal) f ≡ true) ⊎ (bit (recordOf (w .vol) n .journal) f ≡ false) → bit (recordOf (w .vol) n .journal) f ≡ true
+        go (inl e) = e
+        go (inr e) = absurd (omega (arith, shown, page-holds w x any fits .flakes n f h inside ∙ no _ e refl))
+
+  -- a steady drive's nuggets are under the secret that the user holds
+  steady-secret : (n : ℕ) → n < w .drive .n → isChanging (w .drive .state) ≡ false → secretFor (w .drive) (recordOf (w .vol) n .epoch) ≡ w .secret
+  unfolding secretFor
+  steady-secret n h steady =
+      let e = recordOf (w .vol) n .epoch in
+      let now : either (eqb e (w .drive .epoch)) false ≡ true = rw steady at (epoch-fits n h) in
+      yes _ (either-none (eqb e (w .drive .epoch)) now) (x .present)
+
+pub page-tells-pads : PageTellsPads
+page-tells-pads start calls any n f fits h g on = tells (history start calls) (sound start calls) any n f fits h g on (under-last-pad start calls n f h g on)
+
+pub page-tells-no-others : PageTellsNoOthers
+page-tells-no-others start calls any n f fits h shown =
+    let w = history start calls in
+    let x = sound start calls in
+    (inside w x any n f fits h shown, present w x any n f fits h shown)
+
+-- `free` is the word of a steady drive alone
+free-steady : (changing : Bool) → pick changing t-needed t-free ≡ t-free → changing ≡ false
+unfolding same
+free-steady true e = absurd (clash refl (ap (λ (l : List ℕ). same t-free l) (sym e)))
+free-steady false e = refl
+
+pub page-tells-old : PageTellsOld
+page-tells-old start calls any fits = page-holds (history start calls) (sound start calls) any fits .old
+
+pub free-is-free : FreeIsFree
+free-is-free start calls any fits free =
+    let w = history start calls in
+    let steady = free-steady (isChanging (w .drive .state)) (sym (page-tells-old start calls any fits) ∙ free) in
+    record {
+      pads = λ n f h l. l .secret ∙ steady-secret w (sound start calls) n h steady;
+      mounts = λ other. rw steady at (mounts-back start calls other);
+    }
