@@ -31,9 +31,13 @@ uint32_t ngt_write(uint8_t drive[144], uint8_t *vol, size_t vol_len, uint64_t of
                    uint8_t answer[16]);
 uint32_t ngt_begin(uint8_t drive[144], uint8_t *vol, size_t vol_len, const uint8_t secret[32], uint8_t answer[16]);
 uint32_t ngt_sweep(uint8_t drive[144], uint8_t *vol, size_t vol_len, uint32_t nugget, uint8_t answer[16]);
+
+/* Only an accepted finish is leave to destroy the old secret. Until then every mount asks for it, even with no nugget left; a
+ * share of 100.00 is not leave. */
 uint32_t ngt_finish(uint8_t drive[144], uint8_t *vol, size_t vol_len, uint8_t answer[16]);
 
-/* report: N, moved, left, flakes, share in hundredths of a percent, 4 bytes each; all zero if refused. */
+/* report: N, moved, left, flakes, share in hundredths of a percent, 4 bytes each; all zero if refused. A share of 10000, which
+ * is 100.00, is not leave to destroy the old secret: only an accepted ngt_finish is. */
 uint32_t ngt_report(const uint8_t drive[144], const uint8_t *vol, size_t vol_len, uint8_t report[20], uint8_t answer[16]);
 
 /* span: where the part begins in the volume and its length, 8 bytes each; both zero if refused. */

@@ -109,7 +109,7 @@ fn put_counter(out: &mut [u8], at: usize, outside: u64) -> usize
     line::put(&mut *out, b, b"\n")
 }
 
-// Only a finish frees the old secret, not a share of 100.00.
+// Only a finish frees the old secret; a share of 100.00 doesn't.
 fn put_old(out: &mut [u8], at: usize, d: Drive) -> usize
     requires { ⌜ at + 11 ≤ length (now out) ⌝ }
     ensures { λ k. ⌜ Put (now (out .entry)) at (oldLine d) k (now (out .exit)) ⌝ }
