@@ -3,7 +3,7 @@ use mathlib.Core.Path.{_≡_, refl, sym, ap, _∙_}
 use mathlib.Core.Bool.{true}
 use mathlib.Core.List.{List, [], _++_, append-assoc}
 use mathlib.Core.Logic.{_⊎_, inl, inr}
-use Prim.Native.Nat.{ℕ, _+_, _^_, _<_}
+use Prim.Native.Nat.{ℕ, _+_, _^_, _<_, _≤_}
 use native.Mathlib.Omega.{arith}
 use lib.ListN.{length, length-append}
 use lib.Seq.{drop-at}
@@ -14,6 +14,7 @@ use Rattle.words.specs.Le.{le}
 use Rattle.words.proofs.LeLaws.{length-le, num-le}
 use Rattle.answers.specs.Numbers.{accepts}
 use Rattle.answers.specs.declared.Answer.the-variants as A
+use Rattle.layout.specs.Parts.{lengthOf}
 use Rattle.records.proofs.RuleLaws.{formed-epoch}
 use Rattle.drive.specs.declared.Done.{Done}
 use Rattle.drive.specs.Drive.{isChanging}
@@ -22,11 +23,13 @@ use Rattle.sheets.specs.Sheet.{presentIn, oldIn, outsideIn, volumeIn, sized, mo
 use Rattle.pages.specs.Page.{mounts}
 use Rattle.auditor.specs.Question.{Answers}
 use Rattle.auditor.proofs.Theorem.{Narrow, page-answers}
-use Rattle.history.specs.World.{World}
+use Rattle.history.specs.World.{World, Call}
 use Rattle.history.specs.Step.{oldFor}
-use Rattle.history.proofs.Quiet.{report-accepts}
+use Rattle.history.specs.History.{Start, history}
+use Rattle.history.proofs.Quiet.{untouched-lent, report-accepts}
 use Rattle.history.proofs.Sound.{Sound}
-use Rattle.history.proofs.Steps.{mount-back}
+use Rattle.history.proofs.Steps.{sound, mount-back}
+use Rattle.history.proofs.Demands.{shape-kept}
 use Rattle.answered.specs.Answered.{inputFor, Fits, pageFor}
 
 -- four lists in a row, cut before the third and before the last
@@ -35,6 +38,15 @@ cut-third a b c d = sym (append-assoc a b (c ++ d))
 
 cut-last : (a b c d : List ℕ) → a ++ (b ++ (c ++ d)) ≡ ((a ++ b) ++ c) ++ d
 cut-last a b c d = cut-third a b c d ∙ sym (append-assoc (a ++ b) c d)
+
+-- a volume of a history is as long as its format's shape asks: the shape alone decides whether the page takes it
+pub fits-by-shape : (start : Start) (calls : List Call) (any : List ℕ)
+    → let w = history start calls in
+    length (w .secret) ≡ 32 → length (oldFor w any) ≡ 32 → lengthOf (start .shape) ≤ 61440 → Fits w any
+fits-by-shape start calls any secret old small =
+    let w = history start calls in
+    let size = untouched-lent (w .drive) (w .vol) (sound start calls .untouched) .size in
+    record { secret = secret; old = old; small = rw (size, shape-kept start calls .0) small }
 
 module _ (w : World) (x : Sound w) (any : List ℕ) (fits : Fits w any) where
   abbrev i : List ℕ
