@@ -3,44 +3,32 @@ use mathlib.Core.Path.{_≡_, refl, sym, ap, _∙_}
 use mathlib.Core.Bool.{Bool, true, false}
 use mathlib.Core.List.{List}
 use mathlib.Core.Logic.{_⊎_, inl, inr}
-use mathlib.Core.Option.{Option·some-injective}
 use Prim.Native.Nat.{ℕ, _<_}
 use native.Mathlib.Omega.{arith}
-use lib.Dec.{eqb, leb}
+use lib.Dec.{leb}
 use borrow.Author.Tests.{leb-true, leb-false}
-use Rattle.base.specs.Pick.{pick, either}
+use Rattle.base.specs.Pick.{pick}
 use Rattle.base.specs.Lists.{same}
 use Rattle.base.proofs.PickLaws.{yes, no, told, clash, both-right}
-use Rattle.records.specs.Listing.{Entry}
 use Rattle.records.specs.Journal.{bit}
 use Rattle.records.specs.Record.{epochFits, noneFrom, wellFormed}
-use Rattle.drive.specs.declared.State.{State}
-use Rattle.drive.specs.declared.State.the-variants.{Steady, Changing}
-use Rattle.drive.specs.Drive.{isChanging, keptOld}
+use Rattle.drive.specs.Drive.{isChanging}
 use Rattle.tree.specs.Path.{recordOf}
 use Rattle.nuggets.specs.Nugget.{secretFor}
 use Rattle.pages.specs.Words.{t-old, t-needed, t-free}
 use Rattle.auditor.specs.Reading.{toldOf, times}
 use Rattle.auditor.specs.Question.{keyWord, secretNamed}
 use Rattle.auditor.proofs.KeyLaws.{old-word, secret-named}
-use Rattle.ledger.specs.Ledger.{entryAt}
 use Rattle.history.specs.World.{World}
 use Rattle.history.specs.History.{history}
 use Rattle.history.specs.Demands.{LastPad}
-use Rattle.history.proofs.View.{ledgerOf}
 use Rattle.history.proofs.Sound.{Sound}
 use Rattle.history.proofs.Steps.{sound}
-use Rattle.history.proofs.Demands.{under-last-pad, mounts-back}
+use Rattle.history.proofs.Changed.{kept-changing}
+use Rattle.history.proofs.Demands.{under-last-pad}
+use Rattle.history.proofs.Old.{old-secret-free}
 use Rattle.answered.specs.Answered.{Fits, pageFor, secretBy, TellsPad, PageTellsPads, PageTellsNoOthers, PageTellsOld, FreeIsFree}
 use Rattle.answered.proofs.Input.{page-holds}
-
-kept-changing : (s : State) (a : List ℕ) → isChanging s ≡ true → keptOld s a ≡ a
-kept-changing Steady a e = absurd (clash e refl)
-kept-changing (Changing epoch) a e = refl
-
-either-none : (a : Bool) → either a false ≡ true → a ≡ true
-either-none true e = refl
-either-none false e = e
 
 module _ (w : World) (x : Sound w) where
   epoch-fits : (n : ℕ) → n < w .drive .n → epochFits (w .drive .epoch) (isChanging (w .drive .state)) (recordOf (w .vol) n .epoch) ≡ true
@@ -57,11 +45,6 @@ module _ (w : World) (x : Sound w) where
       go (inl is) = rw is (sym (kept-changing (w .drive .state) (w .old) (old-word (w .drive) e fits is)) ∙ x .handed .kept)
       go (inr not) = rw not (sym (x .present))
 
-  -- the pad's keycount is the record's
-  pad-count : (n f : ℕ) → n < w .drive .n → bit (recordOf (w .vol) n .journal) f ≡ true → (l : LastPad w n f) → l .pad .keycount ≡ recordOf (w .vol) n .keycount
-  pad-count n f h on l =
-      ap (λ (e : Entry). e .keycount) (Option·some-injective (l .pad) (entryAt (ledgerOf w) n f) (sym (l .last) ∙ x .inv .named n f h on))
-
   tells : (any : List ℕ) (n f : ℕ) → Fits w any → n < w .drive .n → f < w .drive .p → bit (recordOf (w .vol) n .journal) f ≡ true → LastPad w n f
       → TellsPad (pageFor w any) w n f
   tells any n f fits h g on l =
@@ -70,7 +53,7 @@ module _ (w : World) (x : Sound w) where
       record {
         last = l;
         listed = a .flakes n f h g ∙ yes _ on refl;
-        keycount = a .keycount n h ∙ sym (pad-count n f h on l);
+        keycount = a .keycount n h ∙ sym (l .keycount);
         key = ap (secretBy w) (a .word n h) ∙ by-word e (epoch-fits n h) ∙ sym (secret-named (w .drive) e (epoch-fits n h)) ∙ sym (l .secret);
         epoch = ap (secretFor (w .drive)) (a .epoch n h) ∙ sym (l .secret);
       }
@@ -89,14 +72,6 @@ module _ (w : World) (x : Sound w) where
         go : (bit (recordOf (w .vol) n .journal) f ≡ true) ⊎ (bit (recordOf (w .vol) n .journal) f ≡ false) → bit (recordOf (w .vol) n .journal) f ≡ true
         go (inl e) = e
         go (inr e) = absurd (omega (arith, shown, page-holds w x any fits .flakes n f h inside ∙ no _ e refl))
-
-  -- a steady drive's nuggets are under the secret that the user holds
-  steady-secret : (n : ℕ) → n < w .drive .n → isChanging (w .drive .state) ≡ false → secretFor (w .drive) (recordOf (w .vol) n .epoch) ≡ w .secret
-  unfolding secretFor
-  steady-secret n h steady =
-      let e = recordOf (w .vol) n .epoch in
-      let now : either (eqb e (w .drive .epoch)) false ≡ true = rw steady at (epoch-fits n h) in
-      yes _ (either-none (eqb e (w .drive .epoch)) now) (x .present)
 
 pub page-tells-pads : PageTellsPads
 page-tells-pads start calls any n f fits h g on = tells (history start calls) (sound start calls) any n f fits h g on (under-last-pad start calls n f h g on)
@@ -120,7 +95,5 @@ pub free-is-free : FreeIsFree
 free-is-free start calls any fits free =
     let w = history start calls in
     let steady = free-steady (isChanging (w .drive .state)) (sym (page-tells-old start calls any fits) ∙ free) in
-    record {
-      pads = λ n f h l. l .secret ∙ steady-secret w (sound start calls) n h steady;
-      mounts = λ other. rw steady at (mounts-back start calls other);
-    }
+    let old = old-secret-free start calls steady in
+    record { pads = λ n f h on l. old .0 n f (l .pad) h on (l .last); mounts = old .1 }

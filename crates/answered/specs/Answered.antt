@@ -69,9 +69,9 @@ PageTellsOld =
     → let w = history start calls in
     Fits w any → oldTold (pageFor w any) (w .drive .n) ≡ pick (isChanging (w .drive .state)) t-needed t-free
 
--- Nothing needs the old secret: each flake is under the present one, and a mount with anything as the old one gives the very drive.
+-- Nothing needs the old secret: each present flake is under the present one, and a mount with anything as the old one gives the very drive.
 pub record Free (w : World) : Type 0 where
-  pub pads : (n f : ℕ) → n < w .drive .n → (l : LastPad w n f) → l .pad .secret ≡ w .secret
+  pub pads : (n f : ℕ) → n < w .drive .n → bit (recordOf (w .vol) n .journal) f ≡ true → (l : LastPad w n f) → l .pad .secret ≡ w .secret
   pub mounts : (other : List ℕ) → mountDone (w .vol) (w .secret) other (w .outside) ≡ record { answer = A.Accepted; drive = w .drive }
 
 -- `old=free` is leave to destroy the old secret.

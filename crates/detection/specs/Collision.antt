@@ -2,9 +2,9 @@
 use Prim.Native.Nat.{ℕ, zero, suc, _+_, _*_, _<_, _≤_}
 use mathlib.Core.Path.{_≡_}
 use mathlib.Core.Logic.{_⊎_}
-use mathlib.Core.List.{List, [], _∷_, _++_}
+use mathlib.Core.List.{List, []}
 use lib.ListN.{length, getD}
-use Rattle.words.specs.Le.{le}
+use Rattle.messages.specs.Messages.{leafMessage, innerMessage}
 use Rattle.blake2s.specs.Hash.{blake2s}
 use Rattle.layout.specs.declared.Shape.{Shape}
 use Rattle.layout.specs.Shape.{heightOf}
@@ -20,8 +20,8 @@ use Rattle.detection.specs.Right.{Present, stepsUp, tagFor}
 
 -- what is hashed for the node k steps above the leaf of nugget n
 unfoldable pub messageAt : Shape → List ℕ → ℕ → ℕ → List ℕ
-messageAt s v n zero = (0x4C ∷ le 4 n) ++ (recordPart v n ++ tagsPart s v n)
-messageAt s v n (suc k) = let i = stepsUp s n (suc k) in 0x54 ∷ (nodeIn s v (2 * i) ++ nodeIn s v (2 * i + 1))
+messageAt s v n zero = leafMessage n (recordPart v n) (tagsPart s v n)
+messageAt s v n (suc k) = let i = stepsUp s n (suc k) in innerMessage (nodeIn s v (2 * i)) (nodeIn s v (2 * i + 1))
 
 -- at one node of the path of nugget n the two volumes have two different messages with the same BLAKE2s value
 pub record Collision (s : Shape) (v w : List ℕ) (n : ℕ) : Type 0 where

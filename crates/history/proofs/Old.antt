@@ -2,7 +2,7 @@
 use mathlib.Core.Path.{_≡_, refl, sym, ap, ap₂, _∙_}
 use mathlib.Core.Bool.{true, false}
 use mathlib.Core.Logic.{_⊎_, inl, inr}
-use mathlib.Core.List.{List, [], _∷_, _++_}
+use mathlib.Core.List.{List, []}
 use mathlib.Core.Option.{some}
 use Prim.Native.Nat.{ℕ, _<_}
 use lib.ListN.{length}
@@ -10,7 +10,7 @@ use borrow.Author.Tests.{eq-eqb, le-leb}
 use Rattle.base.specs.Lists.{same}
 use Rattle.base.proofs.PickLaws.{yes, no, told, clash}
 use Rattle.base.proofs.FoldLaws.{same-true}
-use Rattle.words.specs.Le.{le}
+use Rattle.messages.specs.Messages.{checkMessage}
 use Rattle.blake2s.specs.Hash.{blake2s}
 use Rattle.answers.specs.declared.Answer.the-variants as A
 use Rattle.records.specs.Journal.{bit}
@@ -59,7 +59,7 @@ check-made (Changing left) other salt epoch e = refl
 
 module _ (w : World) (x : Sound w) (begun : changing w ≡ true) where
   abbrev message : List ℕ
-  message = 79 ∷ (w .drive .salt ++ le 2 (w .drive .epoch))
+  message = checkMessage (w .drive .salt) (w .drive .epoch)
 
   accepted : mountAnswer (w .vol) (w .secret) (w .old) (w .outside) ≡ A.Accepted
   unfolding mountDone

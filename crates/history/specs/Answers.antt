@@ -10,7 +10,7 @@ use lib.Dec.{eqb, leb, ltb}
 use lib.ListN.{length}
 use Rattle.base.specs.Pick.{pick, both}
 use Rattle.base.specs.Lists.{same}
-use Rattle.words.specs.Le.{le}
+use Rattle.messages.specs.Messages.{checkMessage}
 use Rattle.blake2s.specs.Hash.{blake2s}
 use Rattle.answers.specs.declared.Answer.{Answer}
 use Rattle.answers.specs.declared.Answer.the-variants as A
@@ -179,7 +179,7 @@ OldSecretNeeded =
     (start : Start) (calls : List Call) (other : List ℕ)
     → let w = history start calls in
     changing w ≡ true → (w .old ≡ other → ⊥)
-    → (mountAnswer (w .vol) (w .secret) other (w .outside) ≡ A.OldSecret) ⊎ Collision (w .old) other (79 ∷ (w .drive .salt ++ le 2 (w .drive .epoch)))
+    → (mountAnswer (w .vol) (w .secret) other (w .outside) ≡ A.OldSecret) ⊎ Collision (w .old) other (checkMessage (w .drive .salt) (w .drive .epoch))
 
 -- "Report gives N, nuggets moved (epoch equal to the head's), left, flakes present, and share = moved × 10,000 / N rounded down"
 pub record Tells (w : World) (r : Report) : Type 0 where
