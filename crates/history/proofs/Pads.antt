@@ -1,5 +1,5 @@
 -- Pads and keys, read off what stays true through every history.
-use mathlib.Core.Path.{_≡_, refl, sym, ap, _∙_, subst}
+use mathlib.Core.Path.{_≡_, refl, sym, ap, ap₂, _∙_, subst}
 use mathlib.Core.Bool.{true}
 use mathlib.Core.List.{List, [], _∷_, _++_}
 use mathlib.Core.Option.{some}
@@ -8,6 +8,8 @@ use native.Mathlib.Omega.{arith}
 use lib.ListN.{getElem?}
 use Rattle.base.proofs.PickLaws.{clash}
 use Rattle.base.proofs.FoldLaws.{same-true}
+use Rattle.answers.specs.Numbers.{accepts}
+use Rattle.messages.specs.Messages.{nuggetMessage}
 use Rattle.messages.proofs.ReadBack.{nugget-told, tag-told}
 use Rattle.layout.specs.declared.Shape.{Shape}
 use Rattle.layout.specs.Shape.{leaves}
@@ -24,8 +26,10 @@ use Rattle.drive.specs.declared.State.the-variants.{Steady, Changing}
 use Rattle.drive.specs.Drive.{shapeOf, isChanging}
 use Rattle.drive.specs.Head.{checkFor}
 use Rattle.opening.specs.Mount.{sealed, checked}
+use Rattle.opening.proofs.FormatLaws.{format-lent}
 use Rattle.opening.proofs.HeadBack.{Opened, opened}
 use Rattle.opening.proofs.Reopens.{drive-back, reopens}
+use Rattle.tree.specs.Path.{recordOf}
 use Rattle.nuggets.specs.Nugget.{storedIn}
 use Rattle.ledger.specs.Listing.{Alike, NoneTwice}
 use Rattle.ledger.specs.Ledger.{Kit}
@@ -34,8 +38,8 @@ use Rattle.ledger.proofs.Theorems.{entry-lies, entry-below}
 use Rattle.ledger.proofs.OnwardLaws.{onward-same, onward-trans}
 use Rattle.history.specs.World.{World, Call}
 use Rattle.history.specs.Step.{step}
-use Rattle.history.specs.History.{begun, run, history}
-use Rattle.history.specs.Pads.{keyOf, stretchOf, stretchSource, StretchSource, StretchMade, NoStretchTwice, tagSource, TagSource, TagKeyMade, NoTagKeyTwice, OnePadOneContents, Hashed, HashesStand}
+use Rattle.history.specs.History.{Start, begun, run, history}
+use Rattle.history.specs.Pads.{keyOf, stretchOf, stretchSource, StretchSource, StretchMade, NoStretchTwice, tagSource, TagSource, TagKeyMade, NoTagKeyTwice, Present, OnePadOneContents, liesUnder, OneStretchOneContents, OneTagKeyOneMessage, Hashed, HashesStand}
 use Rattle.history.proofs.Quiet.{untouched-lent, whole-quiet}
 use Rattle.history.proofs.Heads.{untouched-node}
 use Rattle.history.proofs.View.{kitOf, ledgerOf}
@@ -46,72 +50,90 @@ use Rattle.history.proofs.Runs.{run-append}
 use Rattle.history.proofs.Counters.{baseOf, step-base}
 use Rattle.history.proofs.Demands.{shape-kept, no-entry-twice}
 
--- a listed entry is of a flake that there is, at a keycount of eight bytes
-record Listed (e : Entry) : Type 0 where
+-- a flake and a keycount that there can be
+record Within (e : Entry) : Type 0 where
   pub nugget : e .nugget < 2 ^ 32
   pub flake : e .flake < 64
   pub count : e .keycount < 2 ^ 64
 
-module _ (w : World) (x : Sound w) where
-  listed : (i : ℕ) (e : Entry) → getElem? (w .listing) i ≡ some e → Listed e
-  listed i e at =
-      let ok = limits (shapeOf (w .drive)) (untouched-lent (w .drive) (w .vol) (x .untouched) .limited) in
-      let lies = entry-lies (kitOf (w .drive)) (ledgerOf w) (x .inv) i e at in
-      let low = entry-below (kitOf (w .drive)) (ledgerOf w) (x .inv) i e at in
-      record {
-        nugget = omega (arith, lies .0, ok .few);
-        flake = omega (arith, lies .1, ok .narrow);
-        count = omega (arith, low, x .handed .counter-lt);
-      }
+-- what is listed, and what a flake lies under, is within
+listed : (w : World) → Sound w → (i : ℕ) (e : Entry) → getElem? (w .listing) i ≡ some e → Within e
+listed w x i e at =
+    let ok = limits (shapeOf (w .drive)) (untouched-lent (w .drive) (w .vol) (x .untouched) .limited) in
+    let lies = entry-lies (kitOf (w .drive)) (ledgerOf w) (x .inv) i e at in
+    let low = entry-below (kitOf (w .drive)) (ledgerOf w) (x .inv) i e at in
+    record {
+      nugget = omega (arith, lies .0, ok .few);
+      flake = omega (arith, lies .1, ok .narrow);
+      count = omega (arith, low, x .handed .counter-lt);
+    }
 
-  size : Size (w .drive .f)
+lain : (x : Start) (calls : List Call) (n f : ℕ) → Present (x .shape) (history x calls .vol) n f → Within (liesUnder (history x calls) n f)
+lain x calls n f y =
+    let w = history x calls in
+    let kept = shape-kept x calls .0 in
+    let ok = limits (shapeOf (w .drive)) (untouched-lent (w .drive) (w .vol) (sound x calls .untouched) .limited) in
+    let nugget : n < w .drive .n = omega (arith, y .nugget, ap (λ (s : Shape). s .n) kept) in
+    record {
+      nugget = omega (arith, nugget, ok .few);
+      flake = omega (arith, y .flake, ap (λ (s : Shape). s .p) kept, ok .narrow);
+      count = omega (arith, sound x calls .inv .below n nugget, sound x calls .handed .counter-lt);
+    }
+
+module _ (x : Start) where
+  size : Size (x .shape .f)
   size =
-      let ok = limits (shapeOf (w .drive)) (untouched-lent (w .drive) (w .vol) (x .untouched) .limited) in
+      let (lent, top) = format-lent (x .shape) (x .outside) (x .given) (ap accepts (x .accepted)) in
+      let ok = limits (x .shape) (lent .limited) in
       record { least = ok .wide; most = ok .short; whole = ok .whole }
 
-  lies : (i j : ℕ) (e : Entry) → getElem? (w .listing) i ≡ some e → j < w .drive .f / 64 → Lies (w .drive .f) (stretchOf e j)
-  lies i j e at h = let l = listed i e at in record { count = l .count; few = l .flake; inside = h }
+  lies : (e : Entry) (j : ℕ) → Within e → j < x .shape .f / 64 → Lies (x .shape .f) (stretchOf e j)
+  lies e j l h = record { count = l .count; few = l .flake; inside = h }
 
-  nuggets : (i j : ℕ) (e g : Entry) → getElem? (w .listing) i ≡ some e → getElem? (w .listing) j ≡ some g
-      → stretchSource w e 0 .message ≡ stretchSource w g 0 .message → e .nugget ≡ g .nugget
-  nuggets i j e g ei ej same = nugget-told (w .drive .salt) (e .nugget) (g .nugget) (x .handed .salt-long) (listed i e ei .nugget) (listed j g ej .nugget) same
+  nuggets : (e g : Entry) → Within e → Within g → nuggetMessage (x .salt) (e .nugget) ≡ nuggetMessage (x .salt) (g .nugget) → e .nugget ≡ g .nugget
+  nuggets e g l m same = nugget-told (x .salt) (e .nugget) (g .nugget) (x .salted) (l .nugget) (m .nugget) same
+
+  -- a stretch's source tells its entry and place, and a tag key's its entry
+  same-stretch : (e g : Entry) (a b : ℕ) → Within e → Within g → a < x .shape .f / 64 → b < x .shape .f / 64
+      → stretchSource x e a ≡ stretchSource x g b → Alike e g × (a ≡ b)
+  same-stretch e g a b l m ha hb same =
+      let inputs : inputOf (x .shape .f) (stretchOf e a) ≡ inputOf (x .shape .f) (stretchOf g b) = λ k. record { nonce = same k .nonce; block = same k .block } in
+      let one : stretchOf e a ≡ stretchOf g b = stretches-apart (x .shape .f) size (stretchOf e a) (stretchOf g b) (lies e a l ha) (lies g b m hb) inputs in (
+        record {
+          nuggets = nuggets e g l m (ap (λ (s : StretchSource). s .message) same);
+          keycounts = ap (λ (s : Stretch). s .keycount) one;
+          flakes = ap (λ (s : Stretch). s .flake) one;
+        },
+        ap (λ (s : Stretch). s .place) one,
+      )
+
+  same-tag-key : (e g : Entry) → Within e → Within g → tagSource x e ≡ tagSource x g → Alike e g
+  same-tag-key e g l m same =
+      let told = tag-told (e .flake) (g .flake) (e .keycount) (g .keycount) (omega (arith, l .flake)) (omega (arith, m .flake)) (l .count) (m .count)
+      (ap (λ (s : TagSource). s .message) same) in
+      record { nuggets = nuggets e g l m (ap (λ (s : TagSource). s .nugget) same); keycounts = told .1; flakes = told .0 }
 
 pub stretch-made : StretchMade
 unfolding nuggetKey
 stretch-made x calls i j e at h =
-    let w = history x calls in
-    stretch-is (w .drive .f) (size w (sound x calls)) (keyOf w e) (stretchOf e j) (lies w (sound x calls) i j e at h)
+    stretch-is (x .shape .f) (size x) (keyOf x e) (stretchOf e j) (lies x e j (listed (history x calls) (sound x calls) i e at) h)
 
 pub no-stretch-twice : NoStretchTwice
 unfolding NoneTwice
 no-stretch-twice x calls i j a b e g ei ej ha hb same =
     let w = history x calls in
-    let y = sound x calls in
-    let inputs : inputOf (w .drive .f) (stretchOf e a) ≡ inputOf (w .drive .f) (stretchOf g b) = λ k. record { nonce = same k .nonce; block = same k .block } in
-    let one : stretchOf e a ≡ stretchOf g b =
-    stretches-apart (w .drive .f) (size w y) (stretchOf e a) (stretchOf g b) (lies w y i a e ei ha) (lies w y j b g ej hb) inputs in
-    let alike : Alike e g = record {
-      nuggets = nuggets w y i j e g ei ej (ap (λ (s : StretchSource). s .message) same);
-      keycounts = ap (λ (s : Stretch). s .keycount) one;
-      flakes = ap (λ (s : Stretch). s .flake) one;
-    } in
-    (no-entry-twice x calls i j e g ei ej alike, ap (λ (s : Stretch). s .place) one)
+    let one = same-stretch x e g a b (listed w (sound x calls) i e ei) (listed w (sound x calls) j g ej) ha hb same in
+    (no-entry-twice x calls i j e g ei ej (one .0), one .1)
 
 pub tag-key-made : TagKeyMade
 unfolding tagKey nuggetKey
-tag-key-made w e = refl
+tag-key-made x e = refl
 
 pub no-tag-key-twice : NoTagKeyTwice
 unfolding NoneTwice
 no-tag-key-twice x calls i j e g ei ej same =
     let w = history x calls in
-    let y = sound x calls in
-    let a = listed w y i e ei in
-    let b = listed w y j g ej in
-    let told = tag-told (e .flake) (g .flake) (e .keycount) (g .keycount) (omega (arith, a .flake)) (omega (arith, b .flake)) (a .count) (b .count)
-    (ap (λ (s : TagSource). s .message) same) in
-    no-entry-twice x calls i j e g ei ej
-    (record { nuggets = nuggets w y i j e g ei ej (ap (λ (s : TagSource). s .nugget) same); keycounts = told .1; flakes = told .0 })
+    no-entry-twice x calls i j e g ei ej (same-tag-key x e g (listed w (sound x calls) i e ei) (listed w (sound x calls) j g ej) same)
 
 -- calls one after another go onward; shape and salt stay, and so what never changes
 fixed : Shape × List ℕ → Kit
@@ -126,13 +148,35 @@ run-onward w (c ∷ calls) x =
     (subst (λ (κ : Kit). Onward κ (ledgerOf (step w c)) (ledgerOf (run (step w c) calls))) kit (run-onward (step w c) calls (step-sound w c x)))
 
 pub one-pad-one-contents : OnePadOneContents
-one-pad-one-contents x calls later n f h few on same =
+one-pad-one-contents x calls later n f y same =
     let w = history x calls in
     let u = history x (calls ++ later) in
     let onward : Onward (kitOf (w .drive)) (ledgerOf w) (ledgerOf u) = rw (run-append (begun x) calls later) (run-onward w later (sound x calls)) in
     let at = shape-kept x calls .0 in
-    let stays = onward .stays n f (omega (arith, h, ap (λ (s : Shape). s .n) at)) (omega (arith, few, ap (λ (s : Shape). s .p) at)) on same in
-    (stays .0, sym (ap (λ (s : Shape). storedIn s (u .vol) n f) (shape-kept x (calls ++ later) .0)) ∙ stays .1 ∙ ap (λ (s : Shape). storedIn s (w .vol) n f) at)
+    let stays =
+    onward .stays n f (omega (arith, y .nugget, ap (λ (s : Shape). s .n) at)) (omega (arith, y .flake, ap (λ (s : Shape). s .p) at)) (y .on) same in (
+      record { nugget = y .nugget; flake = y .flake; on = stays .0 },
+      sym (ap (λ (s : Shape). storedIn s (u .vol) n f) (shape-kept x (calls ++ later) .0)) ∙ stays .1 ∙ ap (λ (s : Shape). storedIn s (w .vol) n f) at,
+    )
+
+-- present flakes under entries alike are one flake, as it was
+one-flake : (x : Start) (calls later : List Call) (n f m g : ℕ) → Present (x .shape) (history x calls .vol) n f
+    → Alike (liesUnder (history x calls) n f) (liesUnder (history x (calls ++ later)) m g)
+    → storedIn (x .shape) (history x (calls ++ later) .vol) m g ≡ storedIn (x .shape) (history x calls .vol) n f
+one-flake x calls later n f m g y alike =
+    let u = history x (calls ++ later) .vol in
+    ap₂ (λ (i j : ℕ). storedIn (x .shape) u i j) (sym (alike .nuggets)) (sym (alike .flakes))
+    ∙ one-pad-one-contents x calls later n f y (ap (λ (i : ℕ). recordOf u i .keycount) (alike .nuggets) ∙ sym (alike .keycounts)) .1
+
+pub one-stretch-one-contents : OneStretchOneContents
+one-stretch-one-contents x calls later n f m g a b y z ha hb same =
+    let one = same-stretch x _ _ a b (lain x calls n f y) (lain x (calls ++ later) m g z) ha hb same in
+    (one .0 .nuggets, one .0 .flakes, one .1, one-flake x calls later n f m g y (one .0))
+
+pub one-tag-key-one-message : OneTagKeyOneMessage
+one-tag-key-one-message x calls later n f m g y z same =
+    let one = same-tag-key x _ _ (lain x calls n f y) (lain x (calls ++ later) m g z) same in
+    (one .nuggets, one .flakes, one-flake x calls later n f m g y one)
 
 check-for : (s : State) (old salt : List ℕ) (epoch : ℕ) → isChanging s ≡ true → checkFor s old salt epoch ≡ checkOf old salt epoch
 check-for Steady old salt epoch e = absurd (clash e refl)

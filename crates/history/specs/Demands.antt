@@ -59,7 +59,7 @@ WrittenLast =
 abbrev pub NeverWritten : Type 0
 NeverWritten = (start : Start) (calls : List Call) (a : ℕ) → among (writesAt a) (begun start) calls ≡ false → history start calls .contents a ≡ 0
 
--- 2. "List every enciphering by nugget, keycount and flake. No entry comes twice."
+-- 2. "List every enciphering by nugget, keycount and flake. No entry comes twice." What that means for the keystream: Pads.antt.
 abbrev pub NoEntryTwice : Type 0
 NoEntryTwice = (start : Start) (calls : List Call) → NoneTwice (history start calls .listing)
 

@@ -13,7 +13,7 @@ use Rattle.messages.specs.Messages.{nuggetMessage, tagMessage, checkMessage, se
 use Rattle.layout.specs.declared.Shape.{Shape}
 use Rattle.layout.specs.Shape.{leaves}
 use Rattle.records.specs.Journal.{bit}
-use Rattle.records.specs.Listing.{Entry}
+use Rattle.records.specs.Listing.{Entry, entry}
 use Rattle.chacha20.specs.ChaCha20.{blockOf}
 use Rattle.blake2s.specs.Hash.{blake2s}
 use Rattle.keys.specs.Keys.{nuggetKey, tagKey}
@@ -21,16 +21,16 @@ use Rattle.keys.specs.Pads.{Stretch, inputOf, padOf}
 use Rattle.nodes.specs.Nodes.{nodeIn, recordPart, tagsPart}
 use Rattle.drive.specs.Drive.{isChanging}
 use Rattle.tree.specs.Path.{recordOf}
-use Rattle.nuggets.specs.Nugget.{storedIn}
+use Rattle.nuggets.specs.Nugget.{secretFor, storedIn}
 use Rattle.history.specs.World.{World, Call}
 use Rattle.history.specs.History.{Start, history}
 
--- an entry's nugget key, and its pad: that of its flake at its keycount
-abbrev pub keyOf : World → Entry → List ℕ
-keyOf w e = nuggetKey (e .secret) (w .drive .salt) (e .nugget)
+-- an entry's nugget key, under the format's salt (which stays, `ShapeKept`), and its pad: its flake's at its keycount
+abbrev pub keyOf : Start → Entry → List ℕ
+keyOf start e = nuggetKey (e .secret) (start .salt) (e .nugget)
 
-abbrev pub padIn : World → Entry → List ℕ
-padIn w e = padOf (keyOf w e) (e .keycount) (e .flake) (w .drive .f)
+abbrev pub padIn : Start → Entry → List ℕ
+padIn start e = padOf (keyOf start e) (e .keycount) (e .flake) (start .shape .f)
 
 -- what 64 bytes of keystream are made of: the secret and the message that the nugget key is hashed from, and the nonce and
 -- the block that ChaCha20 is given beside that key
@@ -44,28 +44,27 @@ pub record StretchSource : Type 0 where
 abbrev pub stretchOf : Entry → ℕ → Stretch
 stretchOf e j = record { keycount = e .keycount; flake = e .flake; place = j }
 
-abbrev pub stretchSource : World → Entry → ℕ → StretchSource
-stretchSource w e j =
-    let x = inputOf (w .drive .f) (stretchOf e j) in
-    record { secret = e .secret; message = nuggetMessage (w .drive .salt) (e .nugget); nonce = x .nonce; block = x .block }
+abbrev pub stretchSource : Start → Entry → ℕ → StretchSource
+stretchSource start e j =
+    let x = inputOf (start .shape .f) (stretchOf e j) in
+    record { secret = e .secret; message = nuggetMessage (start .salt) (e .nugget); nonce = x .nonce; block = x .block }
 
 -- The pad of a listed entry is made of nothing else.
 abbrev pub StretchMade : Type 0
 StretchMade =
     (start : Start) (calls : List Call) (i j : ℕ) (e : Entry)
-    → let w = history start calls in
-    let s = stretchSource w e j in
-    getElem? (w .listing) i ≡ some e → j < w .drive .f / 64
-    → part (64 * j) 64 (padIn w e) ≡ blockOf (blake2s (s .secret) (s .message)) (s .nonce) (s .block)
+    → let s = stretchSource start e j in
+    getElem? (history start calls .listing) i ≡ some e → j < start .shape .f / 64
+    → part (64 * j) 64 (padIn start e) ≡ blockOf (blake2s (s .secret) (s .message)) (s .nonce) (s .block)
 
 -- No stretch of keystream is laid twice: two stretches made of the same secret, message, nonce and block, of whatever nuggets
 -- and secrets, are one place of one entry.
 abbrev pub NoStretchTwice : Type 0
 NoStretchTwice =
     (start : Start) (calls : List Call) (i j a b : ℕ) (e g : Entry)
-    → let w = history start calls in
-    getElem? (w .listing) i ≡ some e → getElem? (w .listing) j ≡ some g → a < w .drive .f / 64 → b < w .drive .f / 64
-    → stretchSource w e a ≡ stretchSource w g b → (i ≡ j) × (a ≡ b)
+    → let listing = history start calls .listing in
+    getElem? listing i ≡ some e → getElem? listing j ≡ some g → a < start .shape .f / 64 → b < start .shape .f / 64
+    → stretchSource start e a ≡ stretchSource start g b → (i ≡ j) × (a ≡ b)
 
 -- what a tag key is made of: the secret and the message that the nugget key is hashed from, and its own message
 pub record TagSource : Type 0 where
@@ -73,32 +72,65 @@ pub record TagSource : Type 0 where
   pub nugget : List ℕ
   pub message : List ℕ
 
-abbrev pub tagSource : World → Entry → TagSource
-tagSource w e = record { secret = e .secret; nugget = nuggetMessage (w .drive .salt) (e .nugget); message = tagMessage (e .flake) (e .keycount) }
+abbrev pub tagSource : Start → Entry → TagSource
+tagSource start e = record { secret = e .secret; nugget = nuggetMessage (start .salt) (e .nugget); message = tagMessage (e .flake) (e .keycount) }
 
 -- An entry's tag key is made of nothing else.
 abbrev pub TagKeyMade : Type 0
 TagKeyMade =
-    (w : World) (e : Entry)
-    → let s = tagSource w e in
-    tagKey (keyOf w e) (e .flake) (e .keycount) ≡ blake2s (blake2s (s .secret) (s .nugget)) (s .message)
+    (start : Start) (e : Entry)
+    → let s = tagSource start e in
+    tagKey (keyOf start e) (e .flake) (e .keycount) ≡ blake2s (blake2s (s .secret) (s .nugget)) (s .message)
 
 -- A tag key serves one enciphering alone: two entries whose tag keys are made of the same are one entry.
 abbrev pub NoTagKeyTwice : Type 0
 NoTagKeyTwice =
     (start : Start) (calls : List Call) (i j : ℕ) (e g : Entry)
-    → let w = history start calls in
-    getElem? (w .listing) i ≡ some e → getElem? (w .listing) j ≡ some g → tagSource w e ≡ tagSource w g → i ≡ j
+    → let listing = history start calls .listing in
+    getElem? listing i ≡ some e → getElem? listing j ≡ some g → tagSource start e ≡ tagSource start g → i ≡ j
+
+-- flake f of nugget n is there and present
+pub record Present (s : Shape) (v : List ℕ) (n f : ℕ) : Type 0 where
+  pub nugget : n < s .n
+  pub flake : f < s .p
+  pub on : bit (recordOf v n .journal) f ≡ true
 
 -- One pad, one contents: as long as a nugget keeps its keycount, a flake present stays present, and stays to the byte. So
 -- nothing is laid anew under a pad that was laid before, listed or not.
 abbrev pub OnePadOneContents : Type 0
 OnePadOneContents =
     (start : Start) (calls later : List Call) (n f : ℕ)
-    → let v = history start calls .vol in
+    → let s = start .shape in
+    let v = history start calls .vol in
     let u = history start (calls ++ later) .vol in
-    n < start .shape .n → f < start .shape .p → bit (recordOf v n .journal) f ≡ true → recordOf u n .keycount ≡ recordOf v n .keycount
-    → (bit (recordOf u n .journal) f ≡ true) × (storedIn (start .shape) u n f ≡ storedIn (start .shape) v n f)
+    Present s v n f → recordOf u n .keycount ≡ recordOf v n .keycount → Present s u n f × (storedIn s u n f ≡ storedIn s v n f)
+
+-- what a present flake lies under, by its nugget's record; by `LastPad` this is the pad last listed for it
+abbrev pub liesUnder : World → ℕ → ℕ → Entry
+liesUnder w n f = entry n (recordOf (w .vol) n .keycount) f (secretFor (w .drive) (recordOf (w .vol) n .epoch))
+
+-- The auditor's question, of what stands in the volume at any two points of a history: two present flakes under stretches of
+-- keystream made of the same are one flake with the same stored bytes, at one place of it.
+abbrev pub OneStretchOneContents : Type 0
+OneStretchOneContents =
+    (start : Start) (calls later : List Call) (n f m g a b : ℕ)
+    → let s = start .shape in
+    let w = history start calls in
+    let u = history start (calls ++ later) in
+    Present s (w .vol) n f → Present s (u .vol) m g → a < s .f / 64 → b < s .f / 64
+    → stretchSource start (liesUnder w n f) a ≡ stretchSource start (liesUnder u m g) b
+    → (n ≡ m) × (f ≡ g) × (a ≡ b) × (storedIn s (u .vol) m g ≡ storedIn s (w .vol) n f)
+
+-- Poly1305's key is for one message: two present flakes whose tag keys are made of the same are one flake with the same stored
+-- bytes.
+abbrev pub OneTagKeyOneMessage : Type 0
+OneTagKeyOneMessage =
+    (start : Start) (calls later : List Call) (n f m g : ℕ)
+    → let s = start .shape in
+    let w = history start calls in
+    let u = history start (calls ++ later) in
+    Present s (w .vol) n f → Present s (u .vol) m g → tagSource start (liesUnder w n f) ≡ tagSource start (liesUnder u m g)
+    → (n ≡ m) × (f ≡ g) × (storedIn s (u .vol) m g ≡ storedIn s (w .vol) n f)
 
 -- what stands in head and tree, each with the message that it is hashed from: its letter, and all that goes into it
 pub record Hashed (s : Shape) (w : World) : Type 0 where
