@@ -3,23 +3,28 @@ use mathlib.Core.Path.{_≡_, refl, sym, ap, ap₂, _∙_, subst}
 use mathlib.Core.Bool.{true}
 use mathlib.Core.List.{List, [], _∷_, _++_}
 use mathlib.Core.Option.{some}
-use Prim.Native.Nat.{ℕ, _+_, _/_, _^_, _<_}
+use Prim.Native.Nat.{ℕ, _+_, _*_, _/_, _^_, _<_, _≤_}
 use native.Mathlib.Omega.{arith}
-use lib.ListN.{getElem?}
+use lib.ListN.{length, getElem?}
 use Rattle.base.proofs.PickLaws.{clash}
 use Rattle.base.proofs.FoldLaws.{same-true}
+use Rattle.base.proofs.PartLaws.{length-part}
 use Rattle.answers.specs.Numbers.{accepts}
 use Rattle.messages.specs.Messages.{nuggetMessage}
+use Rattle.messages.specs.OneMessage.{bytesOf, Wide}
 use Rattle.messages.proofs.ReadBack.{nugget-told, tag-told}
 use Rattle.layout.specs.declared.Shape.{Shape}
 use Rattle.layout.specs.Shape.{leaves}
+use Rattle.layout.specs.Parts.{recordAt}
+use Rattle.layout.specs.Lent.{Lent}
 use Rattle.layout.proofs.Limits.{limits, lent-small}
 use Rattle.records.specs.Listing.{Entry}
 use Rattle.keys.specs.Keys.{nuggetKey, tagKey, checkOf, sealOf}
 use Rattle.keys.specs.Pads.{Size, Stretch, Lies, Input, padOf, inputOf}
 use Rattle.keys.proofs.Stretches.{stretch-is, no-stretch-twice as stretches-apart}
-use Rattle.nodes.specs.Nodes.{leafOf, innerOf}
-use Rattle.nodes.proofs.MadeLaws.{made-leaf, made-inner}
+use Rattle.nodes.specs.Nodes.{nodeIn, leafOf, innerOf}
+use Rattle.nodes.specs.Made.{madeOf}
+use Rattle.nodes.proofs.MadeLaws.{made-leaf, made-inner, length-made}
 use Rattle.drive.specs.declared.Drive.{Drive}
 use Rattle.drive.specs.declared.State.{State}
 use Rattle.drive.specs.declared.State.the-variants.{Steady, Changing}
@@ -192,20 +197,40 @@ module _ (w : World) (x : Sound w) where
       subst (λ (e : Drive). Opened (w .vol) e (d .counter)) (drive-back d (w .vol) (w .old) (x .handed) (x .untouched .opens))
       (opened (w .vol) (d .present) (w .old) (d .counter) (reopens d (w .vol) (w .old) (x .handed) (x .untouched .opens) ∙ whole-quiet d (w .vol) (x .untouched)))
 
-  hashed : Hashed (shapeOf (w .drive)) w
-  unfolding sealed checked sealOf checkOf leafOf innerOf
+  lent : Lent (shapeOf d) (w .vol)
+  lent = untouched-lent d (w .vol) (x .untouched)
+
+  good : (i : ℕ) → 1 ≤ i → i < 2 * leaves (d .n) → nodeIn (shapeOf d) (w .vol) i ≡ madeOf (shapeOf d) (w .vol) i
+  good i low high = x .untouched .good i low high
+
+  hashed : Hashed (shapeOf (w .drive)) w (w .vol)
+  unfolding bytesOf Wide sealed checked sealOf checkOf leafOf innerOf
   hashed =
-      let big = lent-small (untouched-lent d (w .vol) (x .untouched)) in
+      let big = lent-small lent in
+      let ok = limits (shapeOf d) (lent .limited) in
       record {
-        seal = rw (← x .present, untouched-node {d = d} {v = w .vol} (x .untouched)) (same-true _ _ (found .seal));
-        check = λ changing.
-            same-true _ _ (found .check)
-            ∙ check-for (d .state) (d .old) (d .salt) (d .epoch) changing
-            ∙ ap (λ (old : List ℕ). checkOf old (d .salt) (d .epoch)) (sym (x .handed .kept) ∙ kept-changing (d .state) (w .old) changing);
-        leaf = λ n h.
-            x .untouched .good (leaves (d .n) + n) (omega (arith, big .some-leaves)) (omega (arith, big .enough-leaves, h)) ∙ made-leaf (shapeOf d) (w .vol) n h;
-        inner = λ i low high. x .untouched .good i low (omega (arith, high)) ∙ made-inner (shapeOf d) (w .vol) i high;
+        seal = record {
+          hash = rw (← x .present, untouched-node {d = d} {v = w .vol} (x .untouched)) (same-true _ _ (found .seal));
+          wide = length-part 0 72 (w .vol) (omega (arith, lent .size));
+        };
+        check = λ changing. record {
+          hash =
+              same-true _ _ (found .check)
+              ∙ check-for (d .state) (d .old) (d .salt) (d .epoch) changing
+              ∙ ap (λ (old : List ℕ). checkOf old (d .salt) (d .epoch)) (sym (x .handed .kept) ∙ kept-changing (d .state) (w .old) changing);
+          wide = (x .handed .salt-long, x .handed .epoch-lt);
+        };
+        leaf = λ n h. record {
+          hash = good (leaves (d .n) + n) (omega (arith, big .some-leaves)) (omega (arith, big .enough-leaves, h)) ∙ made-leaf (shapeOf d) (w .vol) n h;
+          wide = (omega (arith, h, ok .few), length-part (recordAt n) 18 (w .vol) (omega (arith, lent .size, h)));
+        };
+        inner = λ i low high. record {
+          hash = good i low (omega (arith, high)) ∙ made-inner (shapeOf d) (w .vol) i high;
+          wide = ap length (good (2 * i) (omega (arith, low)) (omega (arith, high))) ∙ length-made (shapeOf d) (w .vol) (2 * i);
+        };
       }
 
 pub hashes-stand : HashesStand
-hashes-stand x calls = subst (λ (s : Shape). Hashed s (history x calls)) (shape-kept x calls .0) (hashed (history x calls) (sound x calls))
+hashes-stand x calls =
+    let w = history x calls in
+    subst (λ (s : Shape). Hashed s w (w .vol)) (shape-kept x calls .0) (hashed w (sound x calls))

@@ -9,7 +9,8 @@ use mathlib.Core.List.{List, [], _++_}
 use mathlib.Core.Option.{some}
 use lib.ListN.{getElem?}
 use Rattle.base.specs.Lists.{part}
-use Rattle.messages.specs.Messages.{nuggetMessage, tagMessage, checkMessage, sealMessage, leafMessage, innerMessage}
+use Rattle.messages.specs.Messages.{nuggetMessage, tagMessage}
+use Rattle.messages.specs.OneMessage.{Message, forCheck, forSeal, forLeaf, forInner, bytesOf, Wide}
 use Rattle.layout.specs.declared.Shape.{Shape}
 use Rattle.layout.specs.Shape.{leaves}
 use Rattle.records.specs.Journal.{bit}
@@ -132,15 +133,19 @@ OneTagKeyOneMessage =
     Present s (w .vol) n f → Present s (u .vol) m g → tagSource start (liesUnder w n f) ≡ tagSource start (liesUnder u m g)
     → (n ≡ m) × (f ≡ g) × (storedIn s (u .vol) m g ≡ storedIn s (w .vol) n f)
 
--- what stands in head and tree, each with the message that it is hashed from: its letter, and all that goes into it
-pub record Hashed (s : Shape) (w : World) : Type 0 where
-  pub seal : part 72 32 (w .vol) ≡ blake2s (w .secret) (sealMessage (part 0 72 (w .vol)) (nodeIn s (w .vol) 1))
-  pub check : isChanging (w .drive .state) ≡ true → part 40 32 (w .vol) ≡ blake2s (w .old) (checkMessage (w .drive .salt) (w .drive .epoch))
-  pub leaf : (n : ℕ) → n < s .n → nodeIn s (w .vol) (leaves (s .n) + n) ≡ blake2s [] (leafMessage n (recordPart (w .vol) n) (tagsPart s (w .vol) n))
-  pub inner : (i : ℕ) → 1 ≤ i → i < leaves (s .n)
-      → nodeIn s (w .vol) i ≡ blake2s [] (innerMessage (nodeIn s (w .vol) (2 * i)) (nodeIn s (w .vol) (2 * i + 1)))
+-- a value is the hash of a message under a key, and each part of the message has its width; so by `OneMessage` of crate
+-- `messages` the message's bytes tell all that goes into it
+pub record HashOf (value key : List ℕ) (m : Message) : Type 0 where
+  pub hash : value ≡ blake2s key (bytesOf m)
+  pub wide : Wide m
 
--- Seal, old-secret check, leaves and inner nodes of every history are hashed from messages that tell all that goes into them
--- (`OneMessage` of crate `messages`).
+-- seal, old-secret check, leaves and inner nodes as they stand in a volume, each with what goes into it
+pub record Hashed (s : Shape) (w : World) (v : List ℕ) : Type 0 where
+  pub seal : HashOf (part 72 32 v) (w .secret) (forSeal (part 0 72 v) (nodeIn s v 1))
+  pub check : isChanging (w .drive .state) ≡ true → HashOf (part 40 32 v) (w .old) (forCheck (w .drive .salt) (w .drive .epoch))
+  pub leaf : (n : ℕ) → n < s .n → HashOf (nodeIn s v (leaves (s .n) + n)) [] (forLeaf n (recordPart v n) (tagsPart s v n))
+  pub inner : (i : ℕ) → 1 ≤ i → i < leaves (s .n) → HashOf (nodeIn s v i) [] (forInner (nodeIn s v (2 * i)) (nodeIn s v (2 * i + 1)))
+
+-- So they stand at every point of a history.
 abbrev pub HashesStand : Type 0
-HashesStand = (start : Start) (calls : List Call) → Hashed (start .shape) (history start calls)
+HashesStand = (start : Start) (calls : List Call) → let w = history start calls in Hashed (start .shape) w (w .vol)
