@@ -1,7 +1,8 @@
 -- Pads and keys: the auditor's second question, "Was any stretch of keystream ever laid over two different contents?", over
 -- every history, for all its nuggets and all its secrets. Each statement is proved, under the same name in small letters, in
 -- proofs/Pads.antt.
--- What is left to trust is only that BLAKE2s gives different messages different keys.
+-- What is left to trust is only that BLAKE2s gives different messages different keys, a message taken with the secret or key
+-- that it is hashed under.
 use Prim.Native.Nat.{ℕ, _+_, _*_, _/_, _<_, _≤_}
 use mathlib.Core.Path.{_≡_}
 use mathlib.Core.Bool.{true}
