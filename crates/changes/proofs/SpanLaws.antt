@@ -30,7 +30,6 @@ use Rattle.records.proofs.RuleLaws.{way-idle}
 use Rattle.records.proofs.ListingLaws.{pads-idle}
 use Rattle.drive.specs.declared.Drive.{Drive}
 use Rattle.drive.specs.Drive.{shapeOf}
-use Rattle.nuggets.specs.Tests.{pathFor}
 use Rattle.nuggets.specs.Touched.{meets, touchedOf}
 use Rattle.nuggets.proofs.TouchLaws.{touched-none}
 use Rattle.changes.specs.Change.{idles, nuggetChange, testedTo, marked, markedTo, tended, tendedTo}
