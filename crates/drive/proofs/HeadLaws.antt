@@ -1,6 +1,6 @@
 -- The head's bytes, piece by piece.
-use mathlib.Core.Path.{_≡_, sym, _∙_}
-use mathlib.Core.List.{List, _++_}
+use mathlib.Core.Path.{_≡_, refl, sym, _∙_}
+use mathlib.Core.List.{List, [], _∷_, _++_, append-assoc}
 use Prim.Native.Nat.{ℕ, _+_, _-_, _≤_}
 use mathlib.Core.Bool.{true, false}
 use mathlib.Core.Logic.{_⊎_, inl, inr}
@@ -10,6 +10,8 @@ use Rattle.base.proofs.PickLaws.{told, both-left}
 use Rattle.layout.specs.Shape.{inLimits}
 use Rattle.drive.specs.declared.Drive.{Drive}
 use Rattle.drive.specs.Drive.{shapeOf}
+use Rattle.drive.specs.Head.{stateByte, numbersOf, checkIn, frontRow, frontIn, frontFrom}
+use Rattle.codec.specs.Row.{starts}
 use Rattle.drive.specs.Opening.{inForm, epochFits}
 use native.Mathlib.Omega.{arith}
 use lib.ListN.{length, length-append, take, drop}
@@ -18,18 +20,18 @@ use Rattle.base.specs.Lists.{same, part}
 use lib.Seq.{sets}
 use Rattle.base.proofs.PartLaws.{sets-append, sets-full}
 
--- four pieces stored one behind the other over all of z
-pub four-pieces : (z a b c d : List ℕ) → length a ≡ 16 → length b ≡ 16 → length c ≡ 8 → length d ≡ 32 → length z ≡ 72
-    → sets (sets (sets (sets z 0 a) 16 b) 32 c) 40 d ≡ a ++ (b ++ (c ++ d))
-four-pieces z a b c d ha hb hc hd hz =
-    sym (sets-append z 0 a (b ++ (c ++ d)) 16 (omega arith)
-    ∙ sets-append (sets z 0 a) 16 b (c ++ d) 32 (omega arith)
-    ∙ sets-append (sets (sets z 0 a) 16 b) 32 c d 40 (omega arith))
-    ∙ sets-full z (a ++ (b ++ (c ++ d))) (simp length-append (omega arith))
+-- "0-2 `NGT`; 3-4 version 1; 5 state; 6-7 epoch; 8-11 N; 12-13 P; 14-15 F; 16-31 salt; 32-39 counter; 40-71 old-secret check"
+pub places : starts 0 frontRow ≡ 0 ∷ 3 ∷ 5 ∷ 6 ∷ 8 ∷ 12 ∷ 14 ∷ 16 ∷ 32 ∷ 40 ∷ []
+places = refl
 
--- and two
+-- front and seal stored one behind the other over all of z
 pub two-pieces : (z a b : List ℕ) → length a ≡ 72 → length b ≡ 32 → length z ≡ 104 → sets (sets z 0 a) 72 b ≡ a ++ b
 two-pieces z a b ha hb hz = sym (sets-append z 0 a b 72 (omega arith)) ∙ sets-full z (a ++ b) (simp length-append (omega arith))
+
+-- the code's pieces of the front are its row
+pub front-pieces : (d : Drive) → frontFrom (numbersOf (d .n) (d .p) (d .f) (stateByte (d .state)) (d .epoch)) (d .salt) (d .counter) (checkIn d) ≡ frontIn d
+unfolding numbersOf frontIn
+front-pieces d = simp append-assoc
 
 -- the epoch being left, as the code compares it
 pub left-test : (left epoch : ℕ) → 2 ≤ epoch → eqb (left + 1) epoch ≡ eqb left (epoch - 1)

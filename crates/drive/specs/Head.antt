@@ -1,8 +1,9 @@
 -- Document 01, the row of the head: "0-2 `NGT`; 3-4 version 1; 5 state (0 steady, 1 changing); 6-7 epoch; 8-11 N; 12-13 P;
 -- 14-15 F; 16-31 salt; 32-39 counter; 40-71 old-secret check (zeros when steady); 72-103 seal".
+use Prim.{tt}
 use Prim.Native.Nat.{ℕ}
 use mathlib.Core.List.{List, [], _∷_, _++_}
-use Rattle.words.specs.Le.{le}
+use Rattle.codec.specs.Row.{Field, number, string, Values, _&_, row}
 use Rattle.keys.specs.Keys.{checkOf, sealOf}
 use Rattle.drive.specs.declared.Drive.{Drive}
 use Rattle.drive.specs.declared.State.{State}
@@ -20,9 +21,17 @@ abbrev pub stateByte : State → ℕ
 stateByte Steady = 0
 stateByte (Changing left) = 1
 
+-- mark, version, state, epoch, N, P, F
+abbrev pub numbersRow : List Field
+numbersRow = string 3 ∷ number 2 ∷ number 1 ∷ number 2 ∷ number 4 ∷ number 2 ∷ number 2 ∷ []
+
+-- and salt, counter, old-secret check; the seal follows
+abbrev pub frontRow : List Field
+frontRow = numbersRow ++ (string 16 ∷ number 8 ∷ string 32 ∷ [])
+
 -- bytes 0 to 15
 unfoldable pub numbersOf : ℕ → ℕ → ℕ → ℕ → ℕ → List ℕ
-numbersOf n p f state epoch = mark ++ (le 2 version ++ (le 1 state ++ (le 2 epoch ++ (le 4 n ++ (le 2 p ++ le 2 f)))))
+numbersOf n p f state epoch = row numbersRow (mark & version & state & epoch & n & p & f & tt)
 
 -- "old-secret check (zeros when steady)": the check that a state holds
 abbrev pub checkFor : State → List ℕ → List ℕ → ℕ → List ℕ
@@ -33,8 +42,18 @@ abbrev pub checkIn : Drive → List ℕ
 checkIn d = checkFor (d .state) (d .old) (d .salt) (d .epoch)
 
 -- bytes 0 to 71
+abbrev pub frontValues : Drive → Values frontRow
+frontValues d = mark & version & stateByte (d .state) & d .epoch & d .n & d .p & d .f & d .salt & d .counter & checkIn d & tt
+
 unfoldable pub frontIn : Drive → List ℕ
-frontIn d = numbersOf (d .n) (d .p) (d .f) (stateByte (d .state)) (d .epoch) ++ (d .salt ++ (le 8 (d .counter) ++ checkIn d))
+frontIn d = row frontRow (frontValues d)
+
+-- the same from pieces made before
+abbrev pub headPieces : List Field
+headPieces = string 16 ∷ string 16 ∷ number 8 ∷ string 32 ∷ []
+
+abbrev pub frontFrom : List ℕ → List ℕ → ℕ → List ℕ → List ℕ
+frontFrom numbers salt counter check = row headPieces (numbers & salt & counter & check & tt)
 
 -- the 104 bytes that the drive makes
 unfoldable pub headOf : Drive → List ℕ

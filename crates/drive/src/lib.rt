@@ -5,13 +5,11 @@ use answers::Place;
 use layout::Shape;
 ghost use mathlib.Core.Path.{_≡_};
 ghost use mathlib.Core.Bool.{true};
-ghost use mathlib.Core.List.{_++_};
 ghost use lib.ListN.{length};
-ghost use Rattle.words.specs.Le.{le};
 ghost use Rattle.layout.specs.Shape.{inLimits};
 ghost use Rattle.layout.specs.Parts.{lengthOf};
 ghost use Rattle.drive.specs.Drive.{shapeOf, isChanging, keptOld, blankDrive};
-ghost use Rattle.drive.specs.Head.{stateByte, numbersOf, checkIn, frontIn, headOf};
+ghost use Rattle.drive.specs.Head.{stateByte, numbersOf, checkIn, frontIn, frontFrom, headOf};
 ghost use Rattle.drive.specs.Opening.{epochFits, inForm, headStands, openingOf};
 
 // "State is either steady or changing, and changing carries the epoch being left."
@@ -114,7 +112,7 @@ fn numbers_of(n: u32, p: u32, f: u32, state: u8, epoch: u16) -> [u8; 16]
 
 // Head bytes 0 to 71 from what they hold.
 fn front_of(numbers: [u8; 16], salt: [u8; 16], counter: u64, check: [u8; 32]) -> [u8; 72]
-    ensures { λ r. ⌜ r ≡ numbers ++ (salt ++ (le 8 counter ++ check)) ⌝ }
+    ensures { λ r. ⌜ r ≡ frontFrom numbers salt counter check ⌝ }
 {
     let mut out = [0u8; 72];
     words::copy(&mut out, 0, &numbers);

@@ -1,9 +1,10 @@
 -- The answer's image, 16 bytes: "0-3 number (0 accepted); 4-7 kind of place (0 none, 1 head, 2 record, 3 node, 4 flake); 8-11
 -- first value (record, node, nugget of a flake; for 11 how many are left); 12-15 second value (the flake). What isn't carried
 -- is zero."
+use Prim.{tt}
 use Prim.Native.Nat.{ℕ}
-use mathlib.Core.List.{List, _++_}
-use Rattle.words.specs.Le.{le}
+use mathlib.Core.List.{List, [], _∷_}
+use Rattle.codec.specs.Row.{Field, number, Values, _&_, row}
 use Rattle.answers.specs.declared.Answer.{Answer}
 use Rattle.answers.specs.declared.Carried.{Carried}
 use Rattle.answers.specs.declared.Carried.the-variants as K
@@ -44,6 +45,12 @@ secondOf K.Nothing = 0
 secondOf (K.At p) = secondAt p
 secondOf (K.Many k) = 0
 
+-- number, kind of place, first value, second value
+abbrev pub answerRow : List Field
+answerRow = number 4 ∷ number 4 ∷ number 4 ∷ number 4 ∷ []
+
+abbrev pub answerValues : Answer → Values answerRow
+answerValues a = numberOf a & kindOf (carriedOf a) & firstOf (carriedOf a) & secondOf (carriedOf a) & tt
+
 unfoldable pub answerImage : Answer → List ℕ
-answerImage a =
-    le 4 (numberOf a) ++ (le 4 (kindOf (carriedOf a)) ++ (le 4 (firstOf (carriedOf a)) ++ le 4 (secondOf (carriedOf a))))
+answerImage a = row answerRow (answerValues a)

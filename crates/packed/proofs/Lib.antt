@@ -1,2 +1,2 @@
-pub mod PieceLaws
+pub mod ImageLaws
 pub mod Outcomes

@@ -3,11 +3,11 @@
 use drive::Drive;
 use drive::State;
 ghost use mathlib.Core.Path.{_≡_};
-ghost use mathlib.Core.List.{_++_};
 ghost use Prim.Native.Nat.{_≤_};
 ghost use lib.ListN.{length};
-ghost use Rattle.words.specs.Le.{le};
-ghost use Rattle.packed.specs.Image.{leftOf, numbersImage, driveImage, imageState, driveIn};
+ghost use Rattle.base.specs.Lists.{part};
+ghost use Rattle.words.specs.Le.{num};
+ghost use Rattle.packed.specs.Image.{leftOf, numbersImage, frontImage, wholeImage, driveImage, imageState, driveIn};
 
 // 16-17: the epoch being left.
 fn left_of(state: State) -> u16
@@ -27,7 +27,7 @@ fn numbers_image(n: u32, p: u32, f: u32, state: u8, epoch: u16, left: u16) -> [u
     words::store(&mut out, 0, 4, n as u64);
     words::store(&mut out, 4, 4, p as u64);
     words::store(&mut out, 8, 4, f as u64);
-    words::store(&mut out, 12, 2, state as u64);
+    words::store(&mut out, 12, 1, state as u64);
     words::store(&mut out, 14, 2, epoch as u64);
     words::store(&mut out, 16, 2, left as u64);
     out
@@ -35,7 +35,7 @@ fn numbers_image(n: u32, p: u32, f: u32, state: u8, epoch: u16, left: u16) -> [u
 
 // Bytes 0 to 47.
 fn front_image(numbers: [u8; 24], salt: [u8; 16], counter: u64) -> [u8; 48]
-    ensures { λ r. ⌜ r ≡ numbers ++ (salt ++ le 8 counter) ⌝ }
+    ensures { λ r. ⌜ r ≡ frontImage numbers salt counter ⌝ }
 {
     let mut out = [0u8; 48];
     words::copy(&mut out, 0, &numbers);
@@ -45,7 +45,7 @@ fn front_image(numbers: [u8; 24], salt: [u8; 16], counter: u64) -> [u8; 48]
 }
 
 fn whole_image(front: [u8; 48], node: [u8; 32], present: [u8; 32], old: [u8; 32]) -> [u8; 144]
-    ensures { λ r. ⌜ r ≡ front ++ (node ++ (present ++ old)) ⌝ }
+    ensures { λ r. ⌜ r ≡ wholeImage front node present old ⌝ }
 {
     let mut out = [0u8; 144];
     words::copy(&mut out, 0, &front);
@@ -78,7 +78,7 @@ pub fn pack(d: Drive) -> [u8; 144]
 
 fn state_in(image: &[u8]) -> State
     requires { ⌜ 144 ≤ length (now image) ⌝ }
-    ensures { λ r. ⌜ r ≡ imageState (now (image .entry)) ⌝ }
+    ensures { λ r. ⌜ r ≡ imageState (num (part 12 1 (now (image .entry)))) (num (part 16 2 (now (image .entry)))) ⌝ }
 {
     if words::load(image, 12, 1) == 0 {
         State::Steady

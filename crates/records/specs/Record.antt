@@ -1,20 +1,30 @@
 -- Document 01, Records: "keycount 8, journal 8, epoch 2".
+use Prim.{tt}
 use Prim.Native.Nat.{ℕ, _+_, _^_, _<_}
 use mathlib.Core.Bool.{Bool}
-use mathlib.Core.List.{List, _++_}
+use mathlib.Core.List.{List, [], _∷_}
 use lib.Dec.{eqb, ltb}
 use Rattle.base.specs.Pick.{both, either}
-use Rattle.base.specs.Lists.{part}
-use Rattle.words.specs.Le.{num, le}
+use Rattle.codec.specs.Row.{Field, number, Values, _&_, row, rowIn}
 use Rattle.records.specs.declared.Record.{Record}
+
+-- keycount, journal, epoch
+abbrev pub recordRow : List Field
+recordRow = number 8 ∷ number 8 ∷ number 2 ∷ []
+
+abbrev pub recordValues : Record → Values recordRow
+recordValues r = r .keycount & r .journal & r .epoch & tt
+
+abbrev pub recordFrom : Values recordRow → Record
+recordFrom (k, (j, (e, _))) = record { keycount = k; journal = j; epoch = e }
 
 -- the 18 bytes of a record
 unfoldable pub recordBytes : Record → List ℕ
-recordBytes r = le 8 (r .keycount) ++ (le 8 (r .journal) ++ le 2 (r .epoch))
+recordBytes r = row recordRow (recordValues r)
 
 -- the record whose 18 bytes stand at a place of a list
 unfoldable pub recordIn : ℕ → List ℕ → Record
-recordIn at v = record { keycount = num (part at 8 v); journal = num (part (at + 8) 8 v); epoch = num (part (at + 16) 2 v) }
+recordIn at v = recordFrom (rowIn recordRow at 0 v)
 
 -- "no bit at or above P is set"
 abbrev pub noneFrom : ℕ → ℕ → Bool

@@ -1,4 +1,4 @@
-use Rattle.drive.specs.Head.{frontIn}
+use Rattle.drive.proofs.HeadLaws.{front-pieces}
 use mathlib.Core.Path.{_∙_}
 use borrow.Author.Needs.{needs}
 use Rattle.drive.proofs.front.Statement.{statement}
@@ -17,8 +17,7 @@ front-of-requires : tie.Need-front-of-requires
 front-of-requires c κs = search needs
 
 returns : tie.Need-returns
-unfolding frontIn
-returns c = c .front-of .ensures ∙ rw (c .before .numbers-of .ensures, c .before .before .state-byte .ensures, c .before .before .before .before .check-in .ensures)
+returns c = c .front-of .ensures ∙ rw (c .before .numbers-of .ensures, c .before .before .state-byte .ensures, c .before .before .before .before .check-in .ensures) (front-pieces _)
 
 pub front-spec : {M : Type 1} → statement M
 front-spec =

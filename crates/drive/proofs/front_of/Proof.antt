@@ -1,6 +1,7 @@
-use Rattle.drive.proofs.HeadLaws.{four-pieces}
-use Rattle.words.proofs.LeLaws.{length-le}
-use Rattle.words.specs.Le.{le}
+use Prim.{tt}
+use Rattle.codec.specs.Row.{_&_}
+use Rattle.codec.proofs.RowLaws.{row-made}
+use Rattle.drive.specs.Head.{headPieces}
 use lib.ListN.{length}
 use mathlib.Core.Path.{_≡_, refl, _∙_}
 use borrow.Author.Needs.{needs}
@@ -46,7 +47,7 @@ returns c =
     let la : length (a .t1) ≡ 16 = search needs in
     let lb : length (a .t2) ≡ 16 = search needs in
     let ld : length (a .t4) ≡ 32 = search needs in
-    c .before .copy3 .ensures ∙ rw (c .before .before .before .before .before .store .ensures, c .before .before .before .before .before .before .before .before .copy2 .ensures, c .before .before .before .before .before .before .before .before .before .before .before .before .copy .ensures) (four-pieces _ (a .t1) (a .t2) (le 8 (a .counter)) (a .t4) la lb (length-le 8 (a .counter)) ld refl)
+    c .before .copy3 .ensures ∙ rw (c .before .before .before .before .before .store .ensures, c .before .before .before .before .before .before .before .before .copy2 .ensures, c .before .before .before .before .before .before .before .before .before .before .before .before .copy .ensures) (row-made headPieces _ (a .t1 & a .t2 & a .counter & a .t4 & tt) (la & lb & tt & ld & tt) refl)
 
 pub front-of-spec : {M : Type 1} → statement M
 front-of-spec =

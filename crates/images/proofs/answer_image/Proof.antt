@@ -1,5 +1,6 @@
 use Rattle.images.specs.Answers.{answerImage}
 use mathlib.Core.Path.{_∙_}
+use mathlib.Core.List.{append-nil}
 use borrow.Author.Needs.{needs}
 use Rattle.images.proofs.answer_image.Statement.{statement}
 use Rattle.images.proofs.answer_image.Tie as tie
@@ -24,7 +25,7 @@ four-requires c κs = search needs
 
 returns : tie.Need-returns
 unfolding answerImage
-returns c = c .four .ensures ∙ rw (c .before .second .ensures, c .before .before .first .ensures, c .before .before .before .kind .ensures, c .before .before .before .before .number .ensures, c .before .before .before .before .before .carried-by .ensures)
+returns c = c .four .ensures ∙ rw (c .before .second .ensures, c .before .before .first .ensures, c .before .before .before .kind .ensures, c .before .before .before .before .number .ensures, c .before .before .before .before .before .carried-by .ensures) (simp append-nil)
 
 pub answer-image-spec : {M : Type 1} → statement M
 answer-image-spec =

@@ -1,7 +1,8 @@
-use Rattle.words.proofs.LeLaws.{length-le}
-use Rattle.packed.proofs.PieceLaws.{three-pieces}
+use Prim.{tt}
+use Rattle.codec.specs.Row.{_&_}
+use Rattle.codec.proofs.RowLaws.{row-made}
+use Rattle.packed.specs.Image.{frontPieces}
 use lib.ListN.{length}
-use Rattle.words.specs.Le.{le}
 use mathlib.Core.Path.{_≡_, refl, _∙_}
 use borrow.Author.Needs.{needs}
 use Rattle.packed.proofs.front_image.Statement.{statement}
@@ -36,7 +37,7 @@ returns c =
     let a = c .before .before .before .before .before .before .before .before .before .before .before .args in
     let la : length (a .t1) ≡ 24 = search needs in
     let lb : length (a .t2) ≡ 16 = search needs in
-    c .before .store .ensures ∙ rw (c .before .before .before .before .copy2 .ensures, c .before .before .before .before .before .before .before .before .copy .ensures) (three-pieces _ (a .t1) (a .t2) (le 8 (a .counter)) la lb (length-le 8 (a .counter)) refl)
+    c .before .store .ensures ∙ rw (c .before .before .before .before .copy2 .ensures, c .before .before .before .before .before .before .before .before .copy .ensures) (row-made frontPieces _ (a .t1 & a .t2 & a .counter & tt) (la & lb & tt & tt) refl)
 
 pub front-image-spec : {M : Type 1} → statement M
 front-image-spec =

@@ -1,4 +1,4 @@
-use Rattle.packed.specs.Image.{driveImage}
+use Rattle.packed.proofs.ImageLaws.{image-of}
 use mathlib.Core.Path.{_∙_}
 use borrow.Author.Needs.{needs}
 use Rattle.packed.proofs.pack.Statement.{statement}
@@ -20,8 +20,7 @@ whole-image-requires : tie.Need-whole-image-requires
 whole-image-requires c κs = search needs
 
 returns : tie.Need-returns
-unfolding driveImage
-returns c = c .whole-image .ensures ∙ rw (c .before .before .before .before .front-image .ensures, c .before .before .before .before .before .before .numbers-image .ensures, c .before .before .before .before .before .before .before .left-of .ensures, c .before .before .before .before .before .before .before .before .state-byte .ensures)
+returns c = c .whole-image .ensures ∙ rw (c .before .before .before .before .front-image .ensures, c .before .before .before .before .before .before .numbers-image .ensures, c .before .before .before .before .before .before .before .left-of .ensures, c .before .before .before .before .before .before .before .before .state-byte .ensures) (image-of _)
 
 pub pack-spec : {M : Type 1} → statement M
 pack-spec =

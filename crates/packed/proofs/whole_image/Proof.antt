@@ -1,4 +1,7 @@
-use Rattle.packed.proofs.PieceLaws.{four-pieces}
+use Prim.{tt}
+use Rattle.codec.specs.Row.{_&_}
+use Rattle.codec.proofs.RowLaws.{row-made}
+use Rattle.packed.specs.Image.{wholePieces}
 use lib.ListN.{length}
 use mathlib.Core.Path.{_≡_, refl, _∙_}
 use borrow.Author.Needs.{needs}
@@ -48,7 +51,7 @@ returns c =
     let lb : length (a .t2) ≡ 32 = search needs in
     let lc : length (a .t3) ≡ 32 = search needs in
     let ld : length (a .t4) ≡ 32 = search needs in
-    c .before .copy4 .ensures ∙ rw (c .before .before .before .before .before .copy3 .ensures, c .before .before .before .before .before .before .before .before .before .copy2 .ensures, c .before .before .before .before .before .before .before .before .before .before .before .before .before .copy .ensures) (four-pieces _ (a .t1) (a .t2) (a .t3) (a .t4) la lb lc ld refl)
+    c .before .copy4 .ensures ∙ rw (c .before .before .before .before .before .copy3 .ensures, c .before .before .before .before .before .before .before .before .before .copy2 .ensures, c .before .before .before .before .before .before .before .before .before .before .before .before .before .copy .ensures) (row-made wholePieces _ (a .t1 & a .t2 & a .t3 & a .t4 & tt) (la & lb & lc & ld & tt) refl)
 
 pub whole-image-spec : {M : Type 1} → statement M
 whole-image-spec =
