@@ -8,7 +8,7 @@ use lib.ListN.{length, set, drop, drop-of-length-le}
 use lib.Seq.{sets}
 use Rattle.base.specs.Lists.{tab}
 use Rattle.base.proofs.TabLaws.{length-tab}
-use Rattle.base.proofs.PartLaws.{grows}
+use Rattle.base.proofs.PartLaws.{grows, sets-append}
 use Rattle.words.specs.Le.{le, Bytes, wordsOf, serialised}
 use Rattle.words.proofs.LeLaws.{length-le, length-serialised, serialised-bytes}
 use Rattle.chacha20.specs.ChaCha20.{added, start, blockFrom, blockOf, twentyRounds}
@@ -46,3 +46,11 @@ serialised-more f d i {r} {x} e q h =
 
 pub serialised-all : (f : ℕ → ℕ) (d : List ℕ) (n m : ℕ) {r : List ℕ} → r ≡ serialised (tab n f) ++ drop (4 * n) d → n ≡ m → length d ≤ 4 * m → r ≡ serialised (tab m f)
 serialised-all f d n m e q h = e ∙ rw (q, drop-of-length-le d h) (append-nil (serialised (tab m f)))
+
+-- a loop that stores one word a turn from a place on
+pub serialised-sets : (f : ℕ → ℕ) (d : List ℕ) (at i : ℕ) {r : List ℕ} {x : ℕ} → r ≡ sets d at (serialised (tab i f)) → x ≡ f i
+    → sets r (at + 4 * i) (le 4 x) ≡ sets d at (serialised (tab (i + 1) f))
+unfolding tab
+serialised-sets f d at i {r} {x} e q =
+    let long : at + length (serialised (tab i f)) ≡ at + 4 * i = rw (length-serialised (tab i f), length-tab i f) in
+    rw (e, q, add-one i, serialised-snoc (tab i f) (f i)) (sym (sets-append d at (serialised (tab i f)) (le 4 (f i)) (at + 4 * i) long))

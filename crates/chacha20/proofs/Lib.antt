@@ -1,4 +1,5 @@
 pub mod RoundLaws
+pub mod LaneLaws
 pub mod BlockLaws
 pub mod KeystreamLaws
 pub mod LayLaws

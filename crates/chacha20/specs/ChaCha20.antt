@@ -28,6 +28,12 @@ quarterAt i j k l s =
     let q = quarter (getD s i 0) (getD s j 0) (getD s k 0) (getD s l 0) in
     set (set (set (set s i (q .a)) j (q .b)) k (q .c)) l (q .d)
 
+-- the state whose four diagonals, QUARTERROUND(0, 5, 10, 15) to (3, 4, 9, 14), are given
+abbrev pub fromDiagonals : Quad → Quad → Quad → Quad → List ℕ
+fromDiagonals p0 p1 p2 p3 =
+    p0 .a ∷ p1 .a ∷ p2 .a ∷ p3 .a ∷ p3 .b ∷ p0 .b ∷ p1 .b ∷ p2 .b
+    ∷ p2 .c ∷ p3 .c ∷ p0 .c ∷ p1 .c ∷ p1 .d ∷ p2 .d ∷ p3 .d ∷ p0 .d ∷ []
+
 -- 2.3.1: "inner_block (state)": four column rounds, then four diagonal rounds
 unfoldable pub doubleRound : List ℕ → List ℕ
 doubleRound s =

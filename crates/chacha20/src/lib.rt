@@ -1,10 +1,12 @@
 // The stream cipher ChaCha20: RFC 8439, sections 2.1 to 2.4.
 // It touches `words`, and of `base` the definitions alone.
+mod lanes;
+
 ghost use mathlib.Core.Path.{_≡_};
 ghost use Prim.Native.Nat.{_+_, _-_, _*_, _<_, _≤_, min};
 ghost use lib.ListN.{length};
 ghost use lib.Seq.{sets};
-ghost use Rattle.chacha20.specs.ChaCha20.{quarter, doubleRound, twentyRounds, added, start, blockFrom, blockOf, encrypted};
+ghost use Rattle.chacha20.specs.ChaCha20.{quarter, fromDiagonals, doubleRound, twentyRounds, added, start, blockFrom, blockOf, encrypted};
 ghost use Rattle.words.specs.Le.{wordsOf, serialised};
 
 // Four words of a state.
@@ -35,18 +37,10 @@ pub fn quarter_round(a: u32, b: u32, c: u32, d: u32) -> Quad
     }
 }
 
-// 2.3: the four columns, then the four diagonals; word by word, so that no state is copied on the way.
-fn double_round(s: [u32; 16]) -> [u32; 16]
-    ensures { λ r. ⌜ r ≡ doubleRound s ⌝ }
+// The state whose diagonals are the four.
+fn from_diagonals(p0: Quad, p1: Quad, p2: Quad, p3: Quad) -> [u32; 16]
+    ensures { λ r. ⌜ r ≡ fromDiagonals p0 p1 p2 p3 ⌝ }
 {
-    let q0 = quarter_round(s[0], s[4], s[8], s[12]);
-    let q1 = quarter_round(s[1], s[5], s[9], s[13]);
-    let q2 = quarter_round(s[2], s[6], s[10], s[14]);
-    let q3 = quarter_round(s[3], s[7], s[11], s[15]);
-    let p0 = quarter_round(q0.a, q1.b, q2.c, q3.d);
-    let p1 = quarter_round(q1.a, q2.b, q3.c, q0.d);
-    let p2 = quarter_round(q2.a, q3.b, q0.c, q1.d);
-    let p3 = quarter_round(q3.a, q0.b, q1.c, q2.d);
     [
         p0.a,
         p1.a,
@@ -65,6 +59,21 @@ fn double_round(s: [u32; 16]) -> [u32; 16]
         p3.d,
         p0.d,
     ]
+}
+
+// 2.3: the four columns, then the four diagonals; word by word, so that no state is copied on the way.
+fn double_round(s: [u32; 16]) -> [u32; 16]
+    ensures { λ r. ⌜ r ≡ doubleRound s ⌝ }
+{
+    let q0 = quarter_round(s[0], s[4], s[8], s[12]);
+    let q1 = quarter_round(s[1], s[5], s[9], s[13]);
+    let q2 = quarter_round(s[2], s[6], s[10], s[14]);
+    let q3 = quarter_round(s[3], s[7], s[11], s[15]);
+    let p0 = quarter_round(q0.a, q1.b, q2.c, q3.d);
+    let p1 = quarter_round(q1.a, q2.b, q3.c, q0.d);
+    let p2 = quarter_round(q2.a, q3.b, q0.c, q1.d);
+    let p3 = quarter_round(q3.a, q0.b, q1.c, q2.d);
+    from_diagonals(p0, p1, p2, p3)
 }
 
 fn twenty_rounds(s: [u32; 16]) -> [u32; 16]
@@ -158,8 +167,8 @@ fn room(at: usize, len: usize) -> usize
     if left < 64 { left } else { 64 }
 }
 
-// 2.4: the keystream from block `counter` on laid over `d`.
-pub fn lay(d: &mut [u8], key: [u8; 32], nonce: [u8; 12], counter: u32)
+// 2.4, one block at a time.
+fn lay_rest(d: &mut [u8], key: [u8; 32], nonce: [u8; 12], counter: u32)
     ensures { λ _. ⌜ now (d .exit) ≡ encrypted key nonce counter (now (d .entry)) ⌝ }
 {
     let mut s = start_state(key, nonce, counter);
@@ -173,4 +182,22 @@ pub fn lay(d: &mut [u8], key: [u8; 32], nonce: [u8; 12], counter: u32)
         s[12] = c;
         at += 64;
     }
+}
+
+// 2.4: the keystream from block `counter` on laid over `d`; eight blocks at a time while they last.
+pub fn lay(d: &mut [u8], key: [u8; 32], nonce: [u8; 12], counter: u32)
+    ensures { λ _. ⌜ now (d .exit) ≡ encrypted key nonce counter (now (d .entry)) ⌝ }
+{
+    let mut s = start_state(key, nonce, counter);
+    let mut c = counter;
+    let mut at = 0;
+    while 512 <= d.len() - at {
+        let k = lanes::eight_blocks(s);
+        let e = at + 512;
+        words::xor(&mut d[at..e], &k);
+        c = std::num::wrapping_add_u32(c, 8);
+        s[12] = c;
+        at = e;
+    }
+    lay_rest(&mut d[at..], key, nonce, c);
 }

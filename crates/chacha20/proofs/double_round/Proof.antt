@@ -77,20 +77,24 @@ quarter-round-requires-7 c κs = search needs
 quarter-round-requires-8 : tie.Need-quarter-round-requires-8
 quarter-round-requires-8 c κs = search needs
 
+from-diagonals-requires : tie.Need-from-diagonals-requires
+from-diagonals-requires c κs = search needs
+
 sixteen : (c : tie.Start) → length (c .args .t1) ≡ 16
 sixteen c = search needs
 
 returns : tie.Need-returns
 returns c =
-    crossed _ _ _ _ _ _ _ _ _ (sixteen (c .before .before .before .before .before .before .before .before))
-    (c .before .before .before .before .before .before .before .quarter-round .ensures)
-    (c .before .before .before .before .before .before .quarter-round2 .ensures)
-    (c .before .before .before .before .before .quarter-round3 .ensures)
-    (c .before .before .before .before .quarter-round4 .ensures)
-    (c .before .before .before .quarter-round5 .ensures)
-    (c .before .before .quarter-round6 .ensures)
-    (c .before .quarter-round7 .ensures)
-    (c .quarter-round8 .ensures)
+    crossed _ _ _ _ _ _ _ _ _ (sixteen (c .before .before .before .before .before .before .before .before .before))
+    (c .before .before .before .before .before .before .before .before .quarter-round .ensures)
+    (c .before .before .before .before .before .before .before .quarter-round2 .ensures)
+    (c .before .before .before .before .before .before .quarter-round3 .ensures)
+    (c .before .before .before .before .before .quarter-round4 .ensures)
+    (c .before .before .before .before .quarter-round5 .ensures)
+    (c .before .before .before .quarter-round6 .ensures)
+    (c .before .before .quarter-round7 .ensures)
+    (c .before .quarter-round8 .ensures)
+    (c .from-diagonals .ensures)
 
 pub double-round-spec : {M : Type 1} → statement M
 double-round-spec =
@@ -120,4 +124,5 @@ double-round-spec =
     quarter-round-requires-6
     quarter-round-requires-7
     quarter-round-requires-8
+    from-diagonals-requires
     returns)
