@@ -152,7 +152,7 @@ fn less(a: usize, b: usize) -> usize
 }
 
 // Keystream from byte `skip` of a block on laid over d: the first block by 64 bytes of scratch, whole blocks where they stand.
-fn lay_stream(d: &mut [u8], key: [u8; 32], nonce: [u8; 12], block: u32, skip: usize)
+fn lay_skewed(d: &mut [u8], key: [u8; 32], nonce: [u8; 12], block: u32, skip: usize)
     requires { ⌜ (skip < 64) × (block < 2 ^ 20) ⌝ }
     ensures { λ _. ⌜ now (d .exit) ≡ xorl (now (d .entry)) (drop skip (keystream key nonce block (blocks (skip + length (now (d .entry)))))) ⌝ }
 {
@@ -160,6 +160,18 @@ fn lay_stream(d: &mut [u8], key: [u8; 32], nonce: [u8; 12], block: u32, skip: us
     let first = chacha20::block(key, nonce, block);
     words::xor(&mut d[0..n], &first[skip..64]);
     chacha20::lay(&mut d[n..], key, nonce, block + 1);
+}
+
+// The same; from a block's first byte on all of it is laid where it stands.
+fn lay_stream(d: &mut [u8], key: [u8; 32], nonce: [u8; 12], block: u32, skip: usize)
+    requires { ⌜ (skip < 64) × (block < 2 ^ 20) ⌝ }
+    ensures { λ _. ⌜ now (d .exit) ≡ xorl (now (d .entry)) (drop skip (keystream key nonce block (blocks (skip + length (now (d .entry)))))) ⌝ }
+{
+    if skip == 0 {
+        chacha20::lay(&mut *d, key, nonce, block);
+    } else {
+        lay_skewed(&mut *d, key, nonce, block, skip);
+    }
 }
 
 // The pad of flake f from its byte b on laid over d, a piece of the flake.
