@@ -35,8 +35,8 @@ use Rattle.changes.specs.Laid.{over, written, laidFlake, laidEntry, laid}
 use Rattle.changes.specs.Write.{newContents}
 use Rattle.changes.proofs.LaidLaws.{laid-append, length-laid, length-under, Long}
 use Rattle.changes.proofs.PadsLaws.{laid-stored, before-far}
-use Rattle.laying.specs.Flake.{openedFlake, overlaid, anew}
-use Rattle.laying.proofs.OverLaws.{length-overlaid}
+use Rattle.laying.specs.Flake.{openedFlake, overlaid, anew, readied}
+use Rattle.laying.proofs.OverLaws.{length-overlaid, readied-same}
 use Rattle.tree.specs.Path.{recordOf}
 
 -- a present flake, and an absent one
@@ -54,12 +54,13 @@ unfolding openedFlake
 length-opened g f l =
     ⊎-elim (λ here. rw here (length-under (g .key) (g .keycount) f (length l) l refl)) (λ gone. rw gone (length-replicate (length l) 0)) (told (bit (g .journal) f))
 
--- opened, laid over and enciphered
-pub anew-is : (g : Nugget) (key : List ℕ) (k f start o : ℕ) (bytes l : List ℕ) {a b c t : List ℕ} → a ≡ openedFlake g f l → b ≡ overlaid start o bytes a
+-- readied, laid over and enciphered
+pub anew-is : (g : Nugget) (key : List ℕ) (k f start o : ℕ) (bytes l : List ℕ) {a b c t : List ℕ}
+    → a ≡ readied g f start o (length bytes) l → b ≡ overlaid start o bytes a
     → t ≡ tagUnder key k f b → c ≡ under key k f (length b) b
     → (t ≡ tagUnder key k f (anew g f start o bytes l)) × (c ≡ under key k f (length l) (anew g f start o bytes l))
 anew-is g key k f start o bytes l {a} {b} ea eb et ec =
-    let e : b ≡ anew g f start o bytes l = eb ∙ ap (λ (x : List ℕ). overlaid start o bytes x) ea in
+    let e : b ≡ anew g f start o bytes l = eb ∙ ap (λ (x : List ℕ). overlaid start o bytes x) ea ∙ readied-same g f start o bytes l (length-opened g f l) in
     let long : length b ≡ length l = rw e (length-overlaid start o bytes (openedFlake g f l) ∙ length-opened g f l) in
     (et ∙ ap (λ (x : List ℕ). tagUnder key k f x) e, ec ∙ rw long (ap (λ (x : List ℕ). under key k f (length l) x) e))
 

@@ -1,19 +1,21 @@
 -- The written bytes laid over contents: one copy of those that meet them, or none.
 use mathlib.Core.Path.{_≡_, refl, ap, sym, _∙_}
+use mathlib.Core.Bool.{true}
 use mathlib.Core.Logic.{_⊎_, ⊎-elim}
 use mathlib.Core.List.{List}
 use Prim.Native.Nat.{ℕ, _+_, _-_, _<_, _≤_, max, min}
 use native.Mathlib.Omega.{arith}
-use lib.Dec.{ltb}
+use lib.Dec.{ltb, leb}
 use lib.ListN.{length, getD}
 use lib.Seq.{sets, length-sets, ext-getD}
-use borrow.Author.Tests.{lt-ltb, le-ltb, le-leb, lt-leb, ltb-true, ltb-false}
+use borrow.Author.Tests.{lt-ltb, le-ltb, le-leb, lt-leb, ltb-true, ltb-false, leb-true}
 use Rattle.base.specs.Lists.{part}
-use Rattle.base.proofs.PickLaws.{told, yes, no, both-on, both-off}
+use Rattle.base.proofs.PickLaws.{told, yes, no, both-on, both-off, both-left, both-right}
 use Rattle.base.proofs.PartLaws.{length-part, getD-part, sets-below, sets-above, sets-inside}
-use Rattle.base.proofs.TabLaws.{length-tab, getD-tab}
+use Rattle.base.proofs.TabLaws.{length-tab, getD-tab, tab-ext}
 use Rattle.changes.specs.Laid.{over}
-use Rattle.laying.specs.Flake.{overlaid}
+use Rattle.laying.specs.Flake.{openedFlake, coveredBy, readied, overlaid}
+use Rattle.nuggets.specs.declared.Nugget.{Nugget}
 
 -- the byte at an offset before the written bytes, behind them, and among them
 module _ (o : ℕ) (bytes : List ℕ) (a was : ℕ) where
@@ -109,3 +111,27 @@ module _ (start o : ℕ) (bytes l : List ℕ) where
         let lo = larger-told start o first ef in
         let hi = smaller-told (start + length l) (o + length bytes) last el in
         over-between first last h (lo .0) (lo .1) (lo .2) (hi .0) (hi .1) (hi .2)
+
+-- where all of a flake is written, what it held is no matter
+covered-told : (start size o len : ℕ) → coveredBy start size o len ≡ true → (o ≤ start) × (start + size ≤ o + len)
+unfolding coveredBy
+covered-told start size o len e =
+    let a = leb o start in
+    let b = leb (start + size) (o + len) in
+    (leb-true o start (both-left a b e), leb-true (start + size) (o + len) (both-right a b e))
+
+covered-same : (start o : ℕ) (bytes l k : List ℕ) → length k ≡ length l → coveredBy start (length l) o (length bytes) ≡ true
+    → overlaid start o bytes l ≡ overlaid start o bytes k
+unfolding overlaid
+covered-same start o bytes l k e h =
+    let t = covered-told start (length l) o (length bytes) h in
+    rw e
+    (tab-ext (length l) _ _
+    (λ b q. sym (over-among o bytes (start + b) (getD l b 0) (omega arith) (omega arith)) ∙ over-among o bytes (start + b) (getD k b 0) (omega arith) (omega arith)))
+
+pub readied-same : (g : Nugget) (f start o : ℕ) (bytes l : List ℕ) → length (openedFlake g f l) ≡ length l
+    → overlaid start o bytes (readied g f start o (length bytes) l) ≡ overlaid start o bytes (openedFlake g f l)
+unfolding readied
+readied-same g f start o bytes l e =
+    let opened = openedFlake g f l in
+    ⊎-elim (λ q. rw (yes opened q refl) (covered-same start o bytes l opened e q)) (λ q. rw (no l q refl)) (told (coveredBy start (length l) o (length bytes)))

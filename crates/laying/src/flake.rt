@@ -14,7 +14,7 @@ ghost use Rattle.records.specs.Journal.{bit};
 ghost use Rattle.records.specs.Listing.{padsOf};
 ghost use Rattle.changes.specs.Laid.{written, laidFlake, laid};
 ghost use Rattle.changes.specs.Write.{newContents};
-ghost use Rattle.laying.specs.Flake.{openedFlake, overlaid, anew};
+ghost use Rattle.laying.specs.Flake.{openedFlake, coveredBy, readied, overlaid, anew};
 
 // The stored bytes become the contents where they lie: "Absent flakes give zeros."
 fn open_flake(flake: &mut [u8], g: Nugget, f: u32)
@@ -49,6 +49,28 @@ fn overlay(flake: &mut [u8], start: usize, o: usize, bytes: &[u8])
     }
 }
 
+// Whether the written bytes cover all of the flake.
+fn covers(start: usize, size: usize, o: usize, len: usize) -> bool
+    requires { ⌜ (start + size < 2 ^ 64) × (o + len < 2 ^ 64) ⌝ }
+    ensures { λ r. ⌜ r ≡ coveredBy start size o len ⌝ }
+{
+    if o <= start {
+        return start + size <= o + len;
+    }
+    false
+}
+
+// What the written bytes are laid over: the contents; but what is covered whole isn't opened for nothing.
+fn ready(flake: &mut [u8], g: Nugget, f: u32, start: usize, o: usize, len: usize)
+    requires { ⌜ (length (now flake) ≤ 4096) × (f < 64) × (start + length (now flake) < 2 ^ 64) × (o + len < 2 ^ 64) ⌝ }
+    ensures { λ _. ⌜ now (flake .exit) ≡ readied g f start o len (now (flake .entry)) ⌝ }
+{
+    if covers(start, flake.len(), o, len) {
+        return;
+    }
+    open_flake(&mut *flake, g, f);
+}
+
 // A stored flake becomes its new contents under the new pad, where it lies; the tag is over what is then stored.
 fn lay_anew(
     flake: &mut [u8],
@@ -64,7 +86,7 @@ fn lay_anew(
     ensures { λ r. ⌜ (r ≡ tagUnder key k f (anew g f start o (now (bytes .entry)) (now (flake .entry))))
         × (now (flake .exit) ≡ under key k f (length (now (flake .entry))) (anew g f start o (now (bytes .entry)) (now (flake .entry)))) ⌝ }
 {
-    open_flake(&mut *flake, g, f);
+    ready(&mut *flake, g, f, start, o, bytes.len());
     overlay(&mut *flake, start, o, bytes);
     keys::encipher(&mut *flake, key, k, f)
 }

@@ -3,8 +3,8 @@ use borrow.Author.Needs.{needs}
 use Rattle.laying.proofs.flake.lay_anew.Statement.{statement}
 use Rattle.laying.proofs.flake.lay_anew.Tie as tie
 
-open-flake-requires : tie.Need-open-flake-requires
-open-flake-requires c κs = search needs
+ready-requires : tie.Need-ready-requires
+ready-requires c κs = search needs
 
 overlay-requires : tie.Need-overlay-requires
 overlay-requires c κs = search needs
@@ -18,8 +18,8 @@ same-length c = search needs
 returns : tie.Need-returns
 returns c =
     let a = c .before .before .before .before .before .before .before .before .before .before .before .before .before .before .args in
-    anew-is (a .g) (a .key) (a .k) (a .f) (a .start) (a .o) (a .bytes .now) (a .flake .now) (c .before .before .before .before .before .before .before .before .before .before .open-flake .ensures) (c .before .before .before .before .before .before .overlay .ensures) (c .before .before .encipher .ensures .0) (c .before .before .encipher .ensures .1)
+    anew-is (a .g) (a .key) (a .k) (a .f) (a .start) (a .o) (a .bytes .now) (a .flake .now) (c .before .before .before .before .before .before .before .before .before .before .ready .ensures) (c .before .before .before .before .before .before .overlay .ensures) (c .before .before .encipher .ensures .0) (c .before .before .encipher .ensures .1)
 
 pub lay-anew-spec : {M : Type 1} → statement M
 lay-anew-spec =
-    tie.close (tie.spec open-flake-requires overlay-requires encipher-requires same-length returns)
+    tie.close (tie.spec ready-requires overlay-requires encipher-requires same-length returns)
