@@ -1,11 +1,13 @@
-/* Write and read of document 01 in plain C: what the proved calls are timed against. The design is the same, test by test and
- * store by store. A rekey deciphers every present flake, also one that the new bytes cover wholly. */
+/* Mount, read and write of document 01 in plain C, scalar: what the proved calls are timed against. The design is the same, test
+ * by test and store by store. There are two writes: one doesn't open a flake that the new bytes cover whole, as the proved one
+ * doesn't, and one opens every flake. */
 #include "peer_layer.h"
 #include <string.h>
 
 void peer_chacha20(uint8_t *d, size_t n, const uint8_t key[32], const uint8_t nonce[12], uint32_t counter);
 void peer_poly1305(uint8_t tag[16], const uint8_t *m, size_t n, const uint8_t key[32]);
 void peer_blake2s(uint8_t out[32], const uint8_t *m, size_t n, const uint8_t *key, size_t key_len);
+uint32_t peer_whole(const uint8_t *vol, uint32_t n, uint32_t p, uint32_t epoch);
 
 enum { HEAD = 104, FRONT = 72, RECORD = 18, TAG = 16, NODE = 32, NO_PLACE = 0, AT_HEAD, AT_RECORD, AT_NODE, AT_FLAKE };
 
@@ -236,7 +238,14 @@ static uint32_t write_tests(const Open *o, const uint8_t *vol, uint32_t n, uint6
     return flakes(o, vol, n, &r, r.journal, answer);
 }
 
-static void change(const Open *o, uint8_t *vol, uint32_t n, uint64_t mask, uint64_t offset, const uint8_t *bytes, size_t len) {
+static void open_flake(const Open *o, uint8_t *flake, const uint8_t key[32], const Record *r, uint32_t f) {
+    if (r->journal >> f & 1)
+        lay(flake, 0, o->f, o->f, key, r->keycount, f);
+    else
+        memset(flake, 0, o->f);
+}
+
+static void change(const Open *o, uint8_t *vol, uint32_t n, uint64_t mask, uint64_t offset, const uint8_t *bytes, size_t len, int open_all) {
     uint8_t *at = vol + HEAD + RECORD * (size_t)n, was[32], key[32];
     size_t start, taken, part;
     Record r = record_of(vol, n);
@@ -247,11 +256,10 @@ static void change(const Open *o, uint8_t *vol, uint32_t n, uint64_t mask, uint6
         uint8_t *flake = vol + flake_at(o, n, f);
         if (!(fresh >> f & 1))
             continue;
-        if (r.journal >> f & 1)
-            lay(flake, 0, o->f, o->f, was, r.keycount, f);
-        else
-            memset(flake, 0, o->f);
-        if ((part = part_of(o, n, f, offset, len, &start, &taken)))
+        part = part_of(o, n, f, offset, len, &start, &taken);
+        if (part < o->f || open_all)
+            open_flake(o, flake, was, &r, f);
+        if (part)
             memcpy(flake + start, bytes + taken, part);
         lay(flake, 0, o->f, o->f, key, keycount, f);
         make_tag(key, keycount, f, flake, o->f, vol + tag_at(o, n, f));
@@ -260,7 +268,7 @@ static void change(const Open *o, uint8_t *vol, uint32_t n, uint64_t mask, uint6
     renew(o, vol, n);
 }
 
-uint32_t peer_write(uint8_t image[144], uint8_t *vol, size_t vol_len, uint64_t offset, const uint8_t *bytes, size_t len, uint8_t answer[16]) {
+static uint32_t write_by(uint8_t image[144], uint8_t *vol, size_t vol_len, uint64_t offset, const uint8_t *bytes, size_t len, uint8_t answer[16], int open_all) {
     Open o;
     if (first_tests(&o, image, vol, vol_len, offset, len, answer))
         return answer[0];
@@ -274,11 +282,47 @@ uint32_t peer_write(uint8_t image[144], uint8_t *vol, size_t vol_len, uint64_t o
         if (write_tests(&o, vol, n, touched(&o, n, offset, len), answer))
             return answer[0];
     for (uint32_t n = first; n < end; n++)
-        change(&o, vol, n, touched(&o, n, offset, len), offset, bytes, len);
+        change(&o, vol, n, touched(&o, n, offset, len), offset, bytes, len, open_all);
     put(image + 40, o.counter + 1, 8), memcpy(image + 48, vol + node_at(&o, 1), NODE);
     if (!o.changing)
         memset(image + 112, 0, 32), memset(image + 16, 0, 2);
     image[13] = 0, memset(image + 18, 0, 6);
     make_head(&o, o.counter + 1, image + 48, vol);
+    return say(answer, 0, NO_PLACE, 0, 0);
+}
+
+uint32_t peer_write(uint8_t image[144], uint8_t *vol, size_t vol_len, uint64_t offset, const uint8_t *bytes, size_t len, uint8_t answer[16]) {
+    return write_by(image, vol, vol_len, offset, bytes, len, answer, 0);
+}
+
+uint32_t peer_write_opening(uint8_t image[144], uint8_t *vol, size_t vol_len, uint64_t offset, const uint8_t *bytes, size_t len, uint8_t answer[16]) {
+    return write_by(image, vol, vol_len, offset, bytes, len, answer, 1);
+}
+
+/* 2 (under 104 bytes), 3, 1, 2, 4, 5, 6, 7 whole; of a steady volume whose N is a power of two. */
+uint32_t peer_mount(const uint8_t *vol, size_t vol_len, const uint8_t present[32], const uint8_t old[32], uint64_t outside, uint8_t image[144], uint8_t answer[16]) {
+    uint8_t head[HEAD], drive[144] = {0};
+    Open o;
+    (void)old, memset(image, 0, 144);
+    if (vol_len < HEAD)
+        return say(answer, 2, NO_PLACE, 0, 0);
+    if (memcmp(vol, "NGT\1\0", 5))
+        return say(answer, 3, NO_PLACE, 0, 0);
+    memcpy(drive, vol + 8, 4), memcpy(drive + 4, vol + 12, 2), memcpy(drive + 8, vol + 14, 2), drive[12] = vol[5];
+    memcpy(drive + 14, vol + 6, 2), memcpy(drive + 24, vol + 16, 16), memcpy(drive + 40, vol + 32, 8), memcpy(drive + 80, present, 32);
+    if (open_image(&o, drive, vol_len, answer))
+        return answer[0];
+    memcpy(drive + 48, vol + node_at(&o, 1), NODE);
+    make_head(&o, o.counter, o.node, head);
+    if (memcmp(head + FRONT, vol + FRONT, HEAD - FRONT))
+        return say(answer, 4, NO_PLACE, 0, 0);
+    if (memcmp(head + 40, vol + 40, 32))
+        return say(answer, 5, NO_PLACE, 0, 0);
+    if (o.counter != outside)
+        return say(answer, 6, NO_PLACE, 0, 0);
+    uint32_t bad = peer_whole(vol, o.n, o.p, o.epoch);
+    if (bad)
+        return say(answer, 7, bad >> 31 ? AT_NODE : AT_RECORD, bad >> 31 ? bad & 0x7fffffff : bad - 1, 0);
+    memcpy(image, drive, 144);
     return say(answer, 0, NO_PLACE, 0, 0);
 }

@@ -1,26 +1,51 @@
 #!/usr/bin/env bash
-# Builds the proved library and its peers, and times both. All that it makes is under target/.
+# Builds the proved library and its peers, and times both. All that it makes is under target/. It ends with 1 where lanes are lost.
 set -euo pipefail
 cd "$(dirname "$0")/.."
 bash tests/needs.sh
 made=target/bench
 mkdir -p "$made"
-for crate in primitives probe ngt; do
-    bash tests/native.sh "$crate" "$made/$crate.o" >"$made/$crate.log" 2>&1 || { tail -n 40 "$made/$crate.log"; exit 1; }
+machine=$(uname -m)
+compiler=$(dirname "$(dirname "$(rt doc)")")/on/$machine/toolchain/bin/clang
+own=-march=native
+[ "$machine" = x86_64 ] || own=-mcpu=native
+
+# The module once as built, and once more for the processor at hand, with `here_` before each name, so that one program has both.
+build() {
+    local crate=$1 names
+    bash tests/native.sh "$crate" "$made/$crate.o" "$made/$crate.bc"
+    "$compiler" --target="$machine-unknown-linux-gnu" "$own" -O3 -fPIC -Wno-override-module -c -x ir "$made/$crate.bc" -o "$made/$crate-own.o"
+    names=$(nm -g --defined-only "$made/$crate-own.o" | awk '{ print $3, "here_" $3 }')
+    objcopy --redefine-syms=<(echo "$names") "$made/$crate-own.o" "$made/$crate-here.o"
+}
+for crate in primitives ngt; do
+    build "$crate" >"$made/$crate.log" 2>&1 || { tail -n 40 "$made/$crate.log"; exit 1; }
 done
+
+# OpenSSL by its Debian package; without it its column is empty.
+as_root=()
+[ "$(id -u)" -eq 0 ] || as_root=(sudo)
+[ -e /usr/include/openssl/evp.h ] || "${as_root[@]}" apt-get install -y -qq libssl-dev >"$made/libssl.log" 2>&1 || true
+openssl=()
+[ ! -e /usr/include/openssl/evp.h ] || openssl=(-DWITH_OPENSSL -lcrypto)
+
 flags=(-O3 -Wall -Wextra -std=c11)
 peers=(bench/peer_*.c)
-gcc "${flags[@]}" -o "$made/bench" bench/bench.c "${peers[@]}" "$made/primitives.o"
-gcc "${flags[@]}" -o "$made/tree" bench/tree.c "${peers[@]}" "$made/probe.o"
-"$made/bench"
-"$made/tree"
-
-gcc "${flags[@]}" -o "$made/changes" bench/changes.c "${peers[@]}" "$made/ngt.o"
-echo "peers by gcc -O3"
+echo "$machine, $(grep -m1 -E 'model name|CPU part' /proc/cpuinfo | sed 's/.*: //'); load $(cut -d' ' -f1-3 /proc/loadavg)"
+echo "as built: $([ "$machine" = x86_64 ] && echo "the toolchain's archive, for plain x86-64 (SSE2)" || echo "the toolchain's module at -O3"); for this processor: the same module by $own; peers: $(gcc --version | head -n 1), -O3"
+gcc "${flags[@]}" -o "$made/bench" bench/bench.c "${peers[@]}" "$made"/primitives.o "$made"/primitives-here.o "${openssl[@]}"
+gcc "${flags[@]}" -o "$made/mount" bench/mount.c "${peers[@]}" "$made"/ngt.o "$made"/ngt-here.o
+gcc "${flags[@]}" -o "$made/changes" bench/changes.c "${peers[@]}" "$made"/ngt.o "$made"/ngt-here.o
+lost=0
+"$made/bench" || lost=1
+if [ "$machine" = x86_64 ] && [ ${#openssl[@]} -gt 0 ]; then
+    echo "once more, OpenSSL held to SSSE3 (OPENSSL_ia32cap); it has no vectors for SSE2 alone"
+    OPENSSL_ia32cap='~0x1000000000000000:0' "$made/bench" | tail -n 6 | grep -v LOST
+fi
+"$made/mount"
 "$made/changes"
 
 # Once more with the peers by the compiler and at the level of the proved module; the toolchain has no C headers of its own.
-compiler=$(dirname "$(dirname "$(rt doc)")")/on/$(uname -m)/toolchain/bin/clang
 headers=(-nostdinc -isystem "$(gcc -print-file-name=include)" -isystem "/usr/include/$(gcc -print-multiarch)" -isystem /usr/include)
 objects=()
 for peer in "${peers[@]}"; do
@@ -28,6 +53,7 @@ for peer in "${peers[@]}"; do
     "$compiler" "${flags[@]}" -fPIE "${headers[@]}" -c -o "$object" "$peer"
     objects+=("$object")
 done
-gcc "${flags[@]}" -o "$made/changes-same" bench/changes.c "${objects[@]}" "$made/ngt.o"
+gcc "${flags[@]}" -o "$made/changes-same" bench/changes.c "${objects[@]}" "$made"/ngt.o "$made"/ngt-here.o
 echo "peers by the toolchain's clang -O3"
 "$made/changes-same"
+exit "$lost"
