@@ -1,20 +1,17 @@
--- No second outcome meets the words of a promise, and number and carried values determine the answer.
-use mathlib.Core.Path.{_≡_}
-use Prim.Native.Nat.{ℕ}
-use Rattle.base.specs.Outcome.{Unique}
-use Rattle.base.proofs.OutcomeLaws.{only}
-use Rattle.answers.specs.Numbers.{numberOf, carriedOf, accepts}
-use Rattle.answers.specs.Classes.{classOf}
-use Rattle.answers.specs.declared.Answer.{Answer}
+-- No second outcome meets the words of a public function: each theorem is over its own `ensures`.
+use mathlib.Core.Path.{refl}
+use Rattle.base.specs.Outcome.{OneOutcome}
+use Rattle.base.proofs.OutcomeLaws.{agree}
+use Rattle.answers.proofs as fn
 
-pub number : (a : Answer) → Unique (λ r. r ≡ numberOf a)
-number a = only (numberOf a)
+pub number : OneOutcome fn.number.ended fn.number.Reads.Post
+number κs a x y u v p q = (agree p q, refl)
 
-pub carried-by : (a : Answer) → Unique (λ r. r ≡ carriedOf a)
-carried-by a = only (carriedOf a)
+pub carried-by : OneOutcome fn.carried_by.ended fn.carried_by.Reads.Post
+carried-by κs a x y u v p q = (agree p q, refl)
 
-pub accepted : (a : Answer) → Unique (λ r. r ≡ accepts a)
-accepted a = only (accepts a)
+pub accepted : OneOutcome fn.accepted.ended fn.accepted.Reads.Post
+accepted κs a x y u v p q = (agree p q, refl)
 
-pub class-of : (n : ℕ) → Unique (λ r. r ≡ classOf n)
-class-of n = only (classOf n)
+pub class-of : OneOutcome fn.class_of.ended fn.class_of.Reads.Post
+class-of κs a x y u v p q = (agree p q, refl)

@@ -1,20 +1,20 @@
--- No second outcome meets the words of a public promise.
-use mathlib.Core.Path.{_≡_}
-use mathlib.Core.List.{List}
-use Prim.Native.Nat.{ℕ}
-use Rattle.base.specs.Outcome.{Unique}
-use Rattle.base.proofs.OutcomeLaws.{only}
-use Rattle.blake2s.specs.Stream.{started, startedKeyed, absorbed, finished}
-use Rattle.blake2s.specs.declared.State.{State}
+-- No second outcome meets the words of a public function: each theorem is over its own `ensures`.
+use mathlib.Core.Path.{refl}
+use Rattle.base.specs.Outcome.{OneOutcome}
+use Rattle.base.proofs.OutcomeLaws.{agree}
+use Rattle.blake2s.proofs as fn
 
-one-start : Unique (λ r. r ≡ started)
-one-start = only started
+pub start : OneOutcome fn.start.ended fn.start.Reads.Post
+start κs a x y u v p q = (agree p q, refl)
 
-one-start-keyed : (key : List ℕ) → Unique (λ r. r ≡ startedKeyed key)
-one-start-keyed key = only (startedKeyed key)
+pub start-keyed : OneOutcome fn.start_keyed.ended fn.start_keyed.Reads.Post
+start-keyed κs a x y u v p q = (agree p q, refl)
 
-one-absorb : (s : State) (m : List ℕ) → Unique (λ r. r ≡ absorbed s m)
-one-absorb s m = only (absorbed s m)
+pub absorb : OneOutcome fn.absorb.ended fn.absorb.Reads.Post
+absorb κs a x y u v p q = (agree p q, refl)
 
-one-finish : (s : State) → Unique (λ r. r ≡ finished s)
-one-finish s = only (finished s)
+pub finish : OneOutcome fn.finish.ended fn.finish.Reads.Post
+finish κs a x y u v p q = (agree p q, refl)
+
+pub rounds-compress : OneOutcome fn.rounds.compress.ended fn.rounds.compress.Reads.Post
+rounds-compress κs a x y u v p q = (agree p q, refl)

@@ -1,17 +1,14 @@
--- No second outcome meets the words of a public function.
-use mathlib.Core.Path.{_≡_}
-use mathlib.Core.List.{List}
-use Prim.Native.Nat.{ℕ}
-use Rattle.base.specs.Outcome.{Unique}
-use Rattle.base.proofs.OutcomeLaws.{only}
-use Rattle.chacha20.specs.ChaCha20.{quarter, blockOf, encrypted}
+-- No second outcome meets the words of a public function: each theorem is over its own `ensures`.
+use mathlib.Core.Path.{refl}
+use Rattle.base.specs.Outcome.{OneOutcome}
+use Rattle.base.proofs.OutcomeLaws.{agree, _∥_}
+use Rattle.chacha20.proofs as fn
 
-pub quarter-round-once : (a b c d : ℕ) → Unique (λ r. r ≡ quarter a b c d)
-quarter-round-once a b c d = only (quarter a b c d)
+pub quarter-round : OneOutcome fn.quarter_round.ended fn.quarter_round.Reads.Post
+quarter-round κs a x y u v p q = (agree p q, refl)
 
-pub block-once : (key nonce : List ℕ) (counter : ℕ) → Unique (λ r. r ≡ blockOf key nonce counter)
-block-once key nonce counter = only (blockOf key nonce counter)
+pub block : OneOutcome fn.block.ended fn.block.Reads.Post
+block κs a x y u v p q = (agree p q, refl)
 
--- of `lay` the outcome is what the slice holds at the end
-pub lay-once : (key nonce : List ℕ) (counter : ℕ) (d : List ℕ) → Unique (λ r. r ≡ encrypted key nonce counter d)
-lay-once key nonce counter d = only (encrypted key nonce counter d)
+pub lay : OneOutcome fn.lay.ended fn.lay.Reads.Post
+lay κs a x y u v p q = (refl, agree p q ∥ refl)

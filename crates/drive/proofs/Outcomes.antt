@@ -1,47 +1,41 @@
--- No second outcome meets the words of a promise.
-use mathlib.Core.Path.{_≡_}
-use mathlib.Core.List.{List}
-use Prim.Native.Nat.{ℕ}
-use Rattle.base.specs.Outcome.{Unique}
-use Rattle.base.proofs.OutcomeLaws.{only}
-use Rattle.drive.specs.declared.Drive.{Drive}
-use Rattle.drive.specs.declared.State.{State}
-use Rattle.drive.specs.Drive.{shapeOf, isChanging, keptOld, blankDrive}
-use Rattle.drive.specs.Head.{stateByte, checkIn, frontIn, headOf}
-use Rattle.drive.specs.Opening.{epochFits, inForm, headStands, openingOf}
+-- No second outcome meets the words of a public function: each theorem is over its own `ensures`.
+use mathlib.Core.Path.{refl}
+use Rattle.base.specs.Outcome.{OneOutcome}
+use Rattle.base.proofs.OutcomeLaws.{agree}
+use Rattle.drive.proofs as fn
 
-pub blank : Unique (λ r. r ≡ blankDrive)
-blank = only blankDrive
+pub blank : OneOutcome fn.blank.ended fn.blank.Reads.Post
+blank κs a x y u v p q = (agree p q, refl)
 
-pub shape-of : (d : Drive) → Unique (λ r. r ≡ shapeOf d)
-shape-of d = only (shapeOf d)
+pub shape-of : OneOutcome fn.shape_of.ended fn.shape_of.Reads.Post
+shape-of κs a x y u v p q = (agree p q, refl)
 
-pub is-changing : (s : State) → Unique (λ r. r ≡ isChanging s)
-is-changing s = only (isChanging s)
+pub is-changing : OneOutcome fn.is_changing.ended fn.is_changing.Reads.Post
+is-changing κs a x y u v p q = (agree p q, refl)
 
-pub kept-old : (s : State) (old : List ℕ) → Unique (λ r. r ≡ keptOld s old)
-kept-old s old = only (keptOld s old)
+pub kept-old : OneOutcome fn.kept_old.ended fn.kept_old.Reads.Post
+kept-old κs a x y u v p q = (agree p q, refl)
 
-pub state-byte : (s : State) → Unique (λ r. r ≡ stateByte s)
-state-byte s = only (stateByte s)
+pub state-byte : OneOutcome fn.state_byte.ended fn.state_byte.Reads.Post
+state-byte κs a x y u v p q = (agree p q, refl)
 
-pub check-in : (d : Drive) → Unique (λ r. r ≡ checkIn d)
-check-in d = only (checkIn d)
+pub check-in : OneOutcome fn.check_in.ended fn.check_in.Reads.Post
+check-in κs a x y u v p q = (agree p q, refl)
 
-pub front : (d : Drive) → Unique (λ r. r ≡ frontIn d)
-front d = only (frontIn d)
+pub front : OneOutcome fn.front.ended fn.front.Reads.Post
+front κs a x y u v p q = (agree p q, refl)
 
-pub head : (d : Drive) → Unique (λ r. r ≡ headOf d)
-head d = only (headOf d)
+pub head : OneOutcome fn.head.ended fn.head.Reads.Post
+head κs a x y u v p q = (agree p q, refl)
 
-pub epoch-fits : (s : State) (e : ℕ) → Unique (λ r. r ≡ epochFits s e)
-epoch-fits s e = only (epochFits s e)
+pub epoch-fits : OneOutcome fn.epoch_fits.ended fn.epoch_fits.Reads.Post
+epoch-fits κs a x y u v p q = (agree p q, refl)
 
-pub in-form : (d : Drive) → Unique (λ r. r ≡ inForm d)
-in-form d = only (inForm d)
+pub in-form : OneOutcome fn.in_form.ended fn.in_form.Reads.Post
+in-form κs a x y u v p q = (agree p q, refl)
 
-pub head-stands : (d : Drive) (v : List ℕ) → Unique (λ r. r ≡ headStands d v)
-head-stands d v = only (headStands d v)
+pub head-stands : OneOutcome fn.head_stands.ended fn.head_stands.Reads.Post
+head-stands κs a x y u v p q = (agree p q, refl)
 
-pub opening : (d : Drive) (v : List ℕ) → Unique (λ r. r ≡ openingOf d v)
-opening d v = only (openingOf d v)
+pub opening : OneOutcome fn.opening.ended fn.opening.Reads.Post
+opening κs a x y u v p q = (agree p q, refl)

@@ -1,9 +1,8 @@
--- No second outcome meets the words of a promise.
-use mathlib.Core.Path.{_≡_}
-use Rattle.base.specs.Outcome.{Unique}
-use Rattle.base.proofs.OutcomeLaws.{only}
-use Rattle.answers.specs.declared.Answer.{Answer}
-use Rattle.images.specs.Answers.{answerImage}
+-- No second outcome meets the words of a public function: each theorem is over its own `ensures`.
+use mathlib.Core.Path.{refl}
+use Rattle.base.specs.Outcome.{OneOutcome}
+use Rattle.base.proofs.OutcomeLaws.{agree}
+use Rattle.images.proofs as fn
 
-pub answer-image : (a : Answer) → Unique (λ r. r ≡ answerImage a)
-answer-image a = only (answerImage a)
+pub answer-image : OneOutcome fn.answer_image.ended fn.answer_image.Reads.Post
+answer-image κs a x y u v p q = (agree p q, refl)

@@ -1,35 +1,26 @@
--- No second outcome meets the words of a public function.
-use mathlib.Core.Path.{_≡_, sym, _∙_, ap₂}
-use mathlib.Core.List.{List}
-use Prim.Native.Nat.{ℕ}
-use Rattle.base.specs.Outcome.{Unique}
-use Rattle.base.proofs.OutcomeLaws.{only}
-use Rattle.layout.specs.declared.Shape.{Shape}
-use Rattle.records.specs.declared.Way.{Way}
-use Rattle.records.specs.Listing.{padsBy}
-use Rattle.drive.specs.declared.Drive.{Drive}
-use Rattle.drive.specs.Drive.{shapeOf}
-use Rattle.changes.specs.Laid.{laid}
-use Rattle.changes.specs.Change.{idles, marked, tended, advanced, settled}
-use Rattle.changes.specs.Write.{newContents}
-use Rattle.tree.specs.Path.{recordOf}
+-- No second outcome meets the words of a public function: each theorem is over its own `ensures`.
+use mathlib.Core.Path.{refl}
+use Rattle.base.specs.Outcome.{OneOutcome}
+use Rattle.base.proofs.OutcomeLaws.{agree, _∥_}
+use Rattle.laying.proofs as fn
 
-pub lay : (d : Drive) (v : List ℕ) (n : ℕ) (way : Way) (o : ℕ) (bytes : List ℕ)
-    → Unique (λ last. last ≡ laid (shapeOf d) (d .salt) (newContents d v o bytes) (padsBy (d .p) way n (recordOf v n) (d .present)) v)
-lay d v n way o bytes = only (laid (shapeOf d) (d .salt) (newContents d v o bytes) (padsBy (d .p) way n (recordOf v n) (d .present)) v)
+pub flake-lay-flakes : OneOutcome fn.flake.lay_flakes.ended fn.flake.lay_flakes.Reads.Post
+flake-lay-flakes κs a x y u v p q = (refl, refl ∥ agree p q ∥ refl)
 
-pub idle : (way : Way) → Unique (λ r. r ≡ idles way)
-idle way = only (idles way)
+pub lay : OneOutcome fn.lay.ended fn.lay.Reads.Post
+lay κs a x y u v p q = (refl, refl ∥ agree p q ∥ refl)
 
-pub mark : (d : Drive) (v : List ℕ) (n : ℕ) (way : Way) → Unique (λ last. last ≡ marked (d .epoch) way (recordOf v n) n v)
-mark d v n way = only (marked (d .epoch) way (recordOf v n) n v)
+pub idle : OneOutcome fn.idle.ended fn.idle.Reads.Post
+idle κs a x y u v p q = (agree p q, refl)
 
-pub tend : (s : Shape) (v : List ℕ) (n : ℕ) (way : Way) → Unique (λ last. last ≡ tended s way n v)
-tend s v n way = only (tended s way n v)
+pub mark : OneOutcome fn.mark.ended fn.mark.Reads.Post
+mark κs a x y u v p q = (refl, refl ∥ agree p q ∥ refl)
 
-pub settle : (d : Drive) (v : List ℕ) → Unique (λ last. last ≡ settled d v)
-settle d v = only (settled d v)
+pub tend : OneOutcome fn.tend.ended fn.tend.Reads.Post
+tend κs a x y u v p q = (refl, agree p q ∥ refl)
 
--- what is handed back, and the volume
-pub advance : (d : Drive) (v : List ℕ) → Unique {A = Drive × List ℕ} (λ o. (o .0 ≡ advanced d v) × (o .1 ≡ settled (advanced d v) v))
-advance d v r t p q = ap₂ (λ (x : Drive) (w : List ℕ). (x, w)) (p .0 ∙ sym (q .0)) (p .1 ∙ sym (q .1))
+pub settle : OneOutcome fn.settle.ended fn.settle.Reads.Post
+settle κs a x y u v p q = (refl, refl ∥ agree p q ∥ refl)
+
+pub advance : OneOutcome fn.advance.ended fn.advance.Reads.Post
+advance κs a x y u v p q = (agree (p .0) (q .0), refl ∥ agree (p .1) (q .1) ∥ refl)

@@ -1,29 +1,47 @@
--- No second outcome meets the words of a promise.
-use mathlib.Core.Path.{_≡_}
-use Prim.Native.Nat.{ℕ}
-use Rattle.base.specs.Pick.{pick}
-use Rattle.base.specs.Outcome.{Unique}
-use Rattle.base.proofs.OutcomeLaws.{only}
-use Rattle.layout.specs.Shape.{inLimits, heightOf, leaves, within}
-use Rattle.layout.specs.Parts.{recordAt}
-use Rattle.layout.specs.Spots.{spotAt, nowhere}
-use Rattle.layout.specs.declared.Shape.{Shape}
+-- No second outcome meets the words of a public function: each theorem is over its own `ensures`.
+use mathlib.Core.Path.{refl}
+use Rattle.base.specs.Outcome.{OneOutcome}
+use Rattle.base.proofs.OutcomeLaws.{agree}
+use Rattle.layout.proofs as fn
 
-pub in-limits : (s : Shape) → Unique (λ r. r ≡ inLimits s)
-in-limits s = only (inLimits s)
+pub in-limits : OneOutcome fn.in_limits.ended fn.in_limits.Reads.Post
+in-limits κs a x y u v p q = (agree p q, refl)
 
-pub height-of : (n : ℕ) → Unique (λ r. r ≡ heightOf n)
-height-of n = only (heightOf n)
+pub height-of : OneOutcome fn.height_of.ended fn.height_of.Reads.Post
+height-of κs a x y u v p q = (agree p q, refl)
 
-pub leaves-of : (n : ℕ) → Unique (λ r. r ≡ leaves n)
-leaves-of n = only (leaves n)
+pub leaves-of : OneOutcome fn.leaves_of.ended fn.leaves_of.Reads.Post
+leaves-of κs a x y u v p q = (agree p q, refl)
 
-pub record-at : (n : ℕ) → Unique (λ r. r ≡ recordAt n)
-record-at n = only (recordAt n)
+pub tags-at : OneOutcome fn.tags_at.ended fn.tags_at.Reads.Post
+tags-at κs a x y u v p q = (agree p q, refl)
 
--- each of `tags_at`, `tree_at`, `flakes_at`, `capacity_of`, `length_of`, `tag_at`, `node_at`, `flake_at`, `offset_of`: x is the number it names
-pub number-of : (s : Shape) (x : ℕ) → Unique (λ r. r ≡ within s x)
-number-of s x = only (within s x)
+pub tree-at : OneOutcome fn.tree_at.ended fn.tree_at.Reads.Post
+tree-at κs a x y u v p q = (agree p q, refl)
 
-pub spot-of : (s : Shape) (o : ℕ) → Unique (λ r. r ≡ pick (inLimits s) (spotAt s o) nowhere)
-spot-of s o = only (pick (inLimits s) (spotAt s o) nowhere)
+pub flakes-at : OneOutcome fn.flakes_at.ended fn.flakes_at.Reads.Post
+flakes-at κs a x y u v p q = (agree p q, refl)
+
+pub capacity-of : OneOutcome fn.capacity_of.ended fn.capacity_of.Reads.Post
+capacity-of κs a x y u v p q = (agree p q, refl)
+
+pub length-of : OneOutcome fn.length_of.ended fn.length_of.Reads.Post
+length-of κs a x y u v p q = (agree p q, refl)
+
+pub record-at : OneOutcome fn.record_at.ended fn.record_at.Reads.Post
+record-at κs a x y u v p q = (agree p q, refl)
+
+pub tag-at : OneOutcome fn.tag_at.ended fn.tag_at.Reads.Post
+tag-at κs a x y u v p q = (agree p q, refl)
+
+pub node-at : OneOutcome fn.node_at.ended fn.node_at.Reads.Post
+node-at κs a x y u v p q = (agree p q, refl)
+
+pub flake-at : OneOutcome fn.flake_at.ended fn.flake_at.Reads.Post
+flake-at κs a x y u v p q = (agree p q, refl)
+
+pub spot-of : OneOutcome fn.spot_of.ended fn.spot_of.Reads.Post
+spot-of κs a x y u v p q = (agree p q, refl)
+
+pub offset-of : OneOutcome fn.offset_of.ended fn.offset_of.Reads.Post
+offset-of κs a x y u v p q = (agree p q, refl)

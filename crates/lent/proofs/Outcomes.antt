@@ -1,62 +1,77 @@
--- No second outcome meets the words of a call on a lent drive: the answer, the drive as it stands at the end, and each lent byte are determined.
-use mathlib.Core.Path.{_≡_}
+-- No second outcome meets the words of a call on a lent drive: each theorem is over its own `ensures`. The checker reads no plain
+-- claim off a function that is walked by hand, so it is read off the function's clauses here.
+use mathlib.Core.Path.{_≡_, refl}
 use mathlib.Core.List.{List}
 use Prim.Native.Nat.{ℕ}
-use lib.ListN.{length}
-use Rattle.base.specs.Outcome.{Unique}
-use Rattle.base.proofs.OutcomeLaws.{only}
-use Rattle.answers.specs.declared.Answer.{Answer}
-use Rattle.layout.specs.Shape.{shape}
-use Rattle.drive.specs.declared.Drive.{Drive}
-use Rattle.opening.specs.Format.{formatDone, formatVolume}
-use Rattle.opening.specs.Mount.{mountDone}
-use Rattle.reading.specs.Read.{readAnswer, readBuffer}
-use Rattle.reports.specs.Report.{reportOf}
-use Rattle.reports.specs.Stored.{storedAnswer, storedFlake}
-use Rattle.changes.specs.Write.{writeDone, writeVolume}
-use Rattle.changes.specs.Rekey.{beginDone, beginVolume, sweepDone, sweepVolume, finishDone, finishVolume}
+use base.Logic.{emp}
+use borrow.Fn.Claims.{AllOf}
+use borrow.Fn.World.{World, Pr, w₀}
+use borrow.Fn.Read.{ReadAt, no-know, r-last}
+use denote.Ref.{ptr, now}
+use Rattle.base.specs.Outcome.{Promise, OneOutcome, OneSeen}
+use Rattle.base.proofs.OutcomeLaws.{agree, _∥_}
+use Rattle.lent.proofs as fn
 
-only-two : {A B : Type 0} (a : A) (b : B) → Unique {A = A × B} (λ o. (o .0 ≡ a) × (o .1 ≡ b))
-only-two a b r s p q = λ i. (only a (r .0) (s .0) (p .0) (q .0) i, only b (r .1) (s .1) (p .1) (q .1) i)
+-- the plain claim that a clause makes, the same at every model
+abbrev claim : (P : (w : World) → Pr w) (read : (w : World) → ReadAt w (λ w. emp (w .𝓤)) no-know (P w)) → ((w : World) → read w .owes ≡ read w₀ .owes) → Type 0
+claim P read same = AllOf (read w₀ .owes)
 
-only-three : {A B C : Type 0} (a : A) (b : B) (c : C) → Unique {A = A × (B × C)} (λ o. (o .0 ≡ a) × ((o .1 .0 ≡ b) × (o .1 .1 ≡ c)))
-only-three a b c r s p q = λ i. (only a (r .0) (s .0) (p .0) (q .0) i, only-two b c (r .1) (s .1) (p .1) (q .1) i)
+abbrev format-at-post : Promise fn.format_at.ended
+format-at-post κs a r e = claim (λ w. fn.format_at.clauses (w .𝓤) (w .H) (w .𝓖 .A) (w .𝓜 .mem) (w .𝓡 .run) κs a .ensures tt r e) (λ w. r-last _) (λ w. refl)
 
-pub format-at : (n p f : ℕ) (salt secret : List ℕ) (outside : ℕ) (v : List ℕ)
-    → Unique {A = Answer × (Drive × List ℕ)} (λ o. (o .0 ≡ formatDone (shape n p f) salt secret outside v .answer)
-    × ((o .1 .0 ≡ formatDone (shape n p f) salt secret outside v .drive) × (o .1 .1 ≡ formatVolume (shape n p f) salt secret outside v)))
-format-at n p f salt secret outside v = only-three _ _ _
+pub format-at : OneOutcome fn.format_at.ended format-at-post
+format-at κs a x y u v p q = (agree (p .0) (q .0), agree (p .1 .0) (q .1 .0) ∥ agree (p .1 .1) (q .1 .1) ∥ refl)
 
-pub mount-at : (v present old : List ℕ) (outside : ℕ)
-    → Unique {A = Answer × Drive} (λ o. (o .0 ≡ mountDone v present old outside .answer) × (o .1 ≡ mountDone v present old outside .drive))
-mount-at v present old outside = only-two _ _
+abbrev mount-at-post : Promise fn.mount_at.ended
+mount-at-post κs a r e = claim (λ w. fn.mount_at.clauses (w .𝓤) (w .H) (w .𝓖 .A) (w .𝓜 .mem) (w .𝓡 .run) κs a .ensures tt r e) (λ w. r-last _) (λ w. refl)
 
-pub read-at : (d : Drive) (v : List ℕ) (offset : ℕ) (buffer : List ℕ)
-    → Unique {A = Answer × List ℕ} (λ o. (o .0 ≡ readAnswer d v offset (length buffer)) × (o .1 ≡ readBuffer d v offset buffer))
-read-at d v offset buffer = only-two _ _
+pub mount-at : OneOutcome fn.mount_at.ended mount-at-post
+mount-at κs a x y u v p q = (agree (p .0) (q .0), agree (p .1) (q .1) ∥ refl)
 
-pub report-at : (d : Drive) (v : List ℕ) → Unique (λ r. r ≡ reportOf d v)
-report-at d v = only (reportOf d v)
+abbrev read-at-post : Promise fn.read_at.ended
+read-at-post κs a r e = claim (λ w. fn.read_at.clauses (w .𝓤) (w .H) (w .𝓖 .A) (w .𝓜 .mem) (w .𝓡 .run) κs a .ensures tt r e) (λ w. r-last _) (λ w. refl)
 
-pub stored-flake-answer-at : (d : Drive) (v : List ℕ) (n f : ℕ) → Unique (λ r. r ≡ storedAnswer d v n f)
-stored-flake-answer-at d v n f = only (storedAnswer d v n f)
+pub read-at : OneOutcome fn.read_at.ended read-at-post
+read-at κs a x y u v p q = (agree (p .0) (q .0), refl ∥ refl ∥ refl ∥ agree (p .1) (q .1) ∥ refl)
 
--- of the bytes shown, as in `reports`
-pub stored-flake-at : (d : Drive) (v : List ℕ) (n f : ℕ) → Unique (λ bytes. bytes ≡ storedFlake d v n f)
-stored-flake-at d v n f = only (storedFlake d v n f)
+abbrev report-at-post : Promise fn.report_at.ended
+report-at-post κs a r e = claim (λ w. fn.report_at.clauses (w .𝓤) (w .H) (w .𝓖 .A) (w .𝓜 .mem) (w .𝓡 .run) κs a .ensures tt r e) (λ w. r-last _) (λ w. refl)
 
-pub write-at : (d : Drive) (v : List ℕ) (offset : ℕ) (bytes : List ℕ)
-    → Unique {A = Answer × (Drive × List ℕ)} (λ o. (o .0 ≡ writeDone d v offset bytes .answer) × ((o .1 .0 ≡ writeDone d v offset bytes .drive) × (o .1 .1 ≡ writeVolume d v offset bytes)))
-write-at d v offset bytes = only-three _ _ _
+pub report-at : OneOutcome fn.report_at.ended report-at-post
+report-at κs a x y u v p q = (agree p q, refl)
 
-pub begin-at : (d : Drive) (v secret : List ℕ)
-    → Unique {A = Answer × (Drive × List ℕ)} (λ o. (o .0 ≡ beginDone d v secret .answer) × ((o .1 .0 ≡ beginDone d v secret .drive) × (o .1 .1 ≡ beginVolume d v secret)))
-begin-at d v secret = only-three _ _ _
+abbrev stored-flake-answer-at-post : Promise fn.stored_flake_answer_at.ended
+stored-flake-answer-at-post κs a r e = claim (λ w. fn.stored_flake_answer_at.clauses (w .𝓤) (w .H) (w .𝓖 .A) (w .𝓜 .mem) (w .𝓡 .run) κs a .ensures tt r e) (λ w. r-last _) (λ w. refl)
 
-pub sweep-at : (d : Drive) (v : List ℕ) (nugget : ℕ)
-    → Unique {A = Answer × (Drive × List ℕ)} (λ o. (o .0 ≡ sweepDone d v nugget .answer) × ((o .1 .0 ≡ sweepDone d v nugget .drive) × (o .1 .1 ≡ sweepVolume d v nugget)))
-sweep-at d v nugget = only-three _ _ _
+pub stored-flake-answer-at : OneOutcome fn.stored_flake_answer_at.ended stored-flake-answer-at-post
+stored-flake-answer-at κs a x y u v p q = (agree p q, refl)
 
-pub finish-at : (d : Drive) (v : List ℕ)
-    → Unique {A = Answer × (Drive × List ℕ)} (λ o. (o .0 ≡ finishDone d v .answer) × ((o .1 .0 ≡ finishDone d v .drive) × (o .1 .1 ≡ finishVolume d v)))
-finish-at d v = only-three _ _ _
+abbrev stored-flake-at-post : Promise fn.stored_flake_at.ended
+stored-flake-at-post κs a r e = claim (λ w. fn.stored_flake_at.clauses (w .𝓤) (w .H) (w .𝓖 .A) (w .𝓜 .mem) (w .𝓡 .run) κs a .ensures tt r e) (λ w. r-last _) (λ w. refl)
+
+pub stored-flake-at : OneSeen fn.stored_flake_at.ended (λ κs. (ℕ × ℕ) × List ℕ) (λ κs r. (ptr r, now r)) stored-flake-at-post
+stored-flake-at κs a x y u v p q = (agree (p .1) (q .1) ∥ agree (p .0) (q .0), refl)
+
+abbrev write-at-post : Promise fn.write_at.ended
+write-at-post κs a r e = claim (λ w. fn.write_at.clauses (w .𝓤) (w .H) (w .𝓖 .A) (w .𝓜 .mem) (w .𝓡 .run) κs a .ensures tt r e) (λ w. r-last _) (λ w. refl)
+
+pub write-at : OneOutcome fn.write_at.ended write-at-post
+write-at κs a x y u v p q = (agree (p .0) (q .0), agree (p .1 .0) (q .1 .0) ∥ agree (p .1 .1) (q .1 .1) ∥ refl)
+
+abbrev begin-at-post : Promise fn.begin_at.ended
+begin-at-post κs a r e = claim (λ w. fn.begin_at.clauses (w .𝓤) (w .H) (w .𝓖 .A) (w .𝓜 .mem) (w .𝓡 .run) κs a .ensures tt r e) (λ w. r-last _) (λ w. refl)
+
+pub begin-at : OneOutcome fn.begin_at.ended begin-at-post
+begin-at κs a x y u v p q = (agree (p .0) (q .0), agree (p .1 .0) (q .1 .0) ∥ agree (p .1 .1) (q .1 .1) ∥ refl)
+
+abbrev sweep-at-post : Promise fn.sweep_at.ended
+sweep-at-post κs a r e = claim (λ w. fn.sweep_at.clauses (w .𝓤) (w .H) (w .𝓖 .A) (w .𝓜 .mem) (w .𝓡 .run) κs a .ensures tt r e) (λ w. r-last _) (λ w. refl)
+
+pub sweep-at : OneOutcome fn.sweep_at.ended sweep-at-post
+sweep-at κs a x y u v p q = (agree (p .0) (q .0), agree (p .1 .0) (q .1 .0) ∥ agree (p .1 .1) (q .1 .1) ∥ refl)
+
+abbrev finish-at-post : Promise fn.finish_at.ended
+finish-at-post κs a r e = claim (λ w. fn.finish_at.clauses (w .𝓤) (w .H) (w .𝓖 .A) (w .𝓜 .mem) (w .𝓡 .run) κs a .ensures tt r e) (λ w. r-last _) (λ w. refl)
+
+pub finish-at : OneOutcome fn.finish_at.ended finish-at-post
+finish-at κs a x y u v p q = (agree (p .0) (q .0), agree (p .1 .0) (q .1 .0) ∥ agree (p .1 .1) (q .1 .1) ∥ refl)

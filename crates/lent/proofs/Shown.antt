@@ -1,6 +1,6 @@
 -- The walk of the calls that show a stored flake, once: both take a lent drive, a lent volume and two numbers, and differ in what is handed back alone.
 --     R κ              the core's row of what is handed back, at the volume's lifetime.        τ         its MIR type here, where that lifetime has another name
---     Says κ h v n f r     what the core promises of r
+--     Says κ h v n f r     what the core promises of r, with the volume as it is lent: place and bytes
 --     core, core-clauses, self, clauses, function       the core's signature and promise, the function's own, and its code
 --     shown            the function of this shape meets the core's promise, at the drive that is lent
 use Rattle.lent.proofs.Names.{refl, ℕ, [], _∷_, List, length, URA, named, w8, w32, Val, SProp, ent, emp, via, fst∗, id⊢, Fml, ftrue, flft, Heap, Calls, Loops, WpFn, Atoms, givenOf, tables, Lfts, Shares, AllOutlive}
@@ -30,7 +30,7 @@ use Rattle.lent.proofs.Statements.{copied-shared}
 abbrev Plain : List RattleType
 Plain = u32 ∷ u32 ∷ []
 
-module _ (R : Lft → RattleType) (τ : Ty) (written : Written) (#core : Name) (Says : (κ : Lft) → Drive → List ℕ → ℕ → ℕ → R κ .Denot → Type 0) where
+module _ (R : Lft → RattleType) (τ : Ty) (written : Written) (#core : Name) (Says : (κ : Lft) → Drive → RefT (List ℕ) → ℕ → ℕ → R κ .Denot → Type 0) where
   abbrev core : Ended
   core = record {
     signature = record {
@@ -75,10 +75,10 @@ module _ (R : Lft → RattleType) (τ : Ty) (written : Written) (#core : Name) (
 
   module _ {M : Type 1} (𝓤 : URA M) where
     abbrev core-clauses : Clauses 𝓤 core
-    core-clauses κs a = record { ghost = Unit {0}; requires = λ _. emp 𝓤; ensures = λ _ r _. fact 𝓤 (Says (κs .0) (a .0) (now (a .1 .0)) (a .1 .1 .0) (a .1 .1 .1 .0) r) }
+    core-clauses κs a = record { ghost = Unit {0}; requires = λ _. emp 𝓤; ensures = λ _ r _. fact 𝓤 (Says (κs .0) (a .0) (a .1 .0) (a .1 .1 .0) (a .1 .1 .1 .0) r) }
 
     abbrev clauses : Clauses 𝓤 self
-    clauses κs a = record { ghost = Unit {0}; requires = λ _. emp 𝓤; ensures = λ _ r _. fact 𝓤 (Says (κs .1 .0) (now (a .0)) (now (a .1 .0)) (a .1 .1 .0) (a .1 .1 .1 .0) r) }
+    clauses κs a = record { ghost = Unit {0}; requires = λ _. emp 𝓤; ensures = λ _ r _. fact 𝓤 (Says (κs .1 .0) (now (a .0)) (a .1 .0) (a .1 .1 .0) (a .1 .1 .1 .0) r) }
 
   module _ {M : Type 1} (𝓤 : URA M) (H : Heap 𝓤) (A : Atoms 𝓤) where
     abbrev Core : Contract 𝓤
@@ -115,7 +115,7 @@ module _ (R : Lft → RattleType) (τ : Ty) (written : Written) (#core : Name) (
       to-core = (((κs .1 .0, tt), (qs .1 .0, tt), tt, (now d, a .1), (mach (now d) ∷ [], vals .1)), tt)
 
       abbrev Told : R (κs .1 .0) .Denot → Type 0
-      Told = Says (κs .1 .0) (now d) (now x) (a .1 .1 .0) (a .1 .1 .1 .0)
+      Told = Says (κs .1 .0) (now d) x (a .1 .1 .0) (a .1 .1 .1 .0)
 
       module _ (are : Are Plain (Ises Plain) (a .1 .1) (vals .1 .1)) where
         goes : Held (now d) → ent 𝓤 (⋆ 𝓤 H A (Tok ∷ ‵ Vol ∷ [])) (Core 𝓤 H A .pre to-core)

@@ -5,12 +5,13 @@ use drive::Drive;
 use reports::Report;
 ghost use mathlib.Core.Path.{_≡_};
 ghost use lib.ListN.{length};
+ghost use denote.Ref.{ptr};
 ghost use Rattle.layout.specs.Shape.{shape};
 ghost use Rattle.opening.specs.Format.{formatDone, formatVolume};
 ghost use Rattle.opening.specs.Mount.{mountDone};
 ghost use Rattle.reading.specs.Read.{readAnswer, readBuffer};
 ghost use Rattle.reports.specs.Report.{reportOf};
-ghost use Rattle.reports.specs.Stored.{storedAnswer, storedFlake};
+ghost use Rattle.reports.specs.Stored.{storedAnswer, storedFlake, storedAt, onward};
 ghost use Rattle.changes.specs.Write.{writeDone, writeVolume};
 ghost use Rattle.changes.specs.Rekey.{beginDone, beginVolume, sweepDone, sweepVolume, finishDone, finishVolume};
 
@@ -71,7 +72,8 @@ pub fn stored_flake_answer_at(d: &Drive, vol: &[u8], nugget: u32, flake: u32) ->
 
 // "shows a backup tool the stored bytes as that part of the volume itself, no copy"
 pub fn stored_flake_at<'v>(d: &Drive, vol: &'v [u8], nugget: u32, flake: u32) -> &'v [u8]
-    ensures { λ r. ⌜ now r ≡ storedFlake (now (d .entry)) (now (vol .entry)) nugget flake ⌝ }
+    ensures { λ r. ⌜ (now r ≡ storedFlake (now (d .entry)) (now (vol .entry)) nugget flake)
+        × (ptr r ≡ onward (ptr (vol .entry)) (storedAt (now (d .entry)) (now (vol .entry)) nugget flake)) ⌝ }
 {
     let c = *d;
     reports::stored_flake(c, vol, nugget, flake)

@@ -1,22 +1,17 @@
--- Each public function has one outcome.
-use Prim.Native.Nat.{ℕ, _+_, _*_, _%_}
-use mathlib.Core.Path.{_≡_}
-use mathlib.Core.List.{List}
-use Rattle.base.specs.Outcome.{Unique}
-use Rattle.base.proofs.OutcomeLaws.{only}
-use Rattle.words.specs.Le.{num, le}
-use Rattle.limbs.specs.declared.Limbs.{Limbs}
-use Rattle.limbs.specs.Limbs.{value, limbsOf, quad, p}
-use Rattle.limbs.specs.Turns.{turns}
+-- No second outcome meets the words of a public function: each theorem is over its own `ensures`.
+use mathlib.Core.Path.{refl}
+use Rattle.base.specs.Outcome.{OneOutcome}
+use Rattle.base.proofs.OutcomeLaws.{agree}
+use Rattle.limbs.proofs as fn
 
-pub pack-once : (a b c d : ℕ) → Unique (λ (r : Limbs). r ≡ limbsOf (quad a b c d))
-pack-once a b c d = only (limbsOf (quad a b c d))
+pub pack : OneOutcome fn.pack.ended fn.pack.Reads.Post
+pack κs a x y u v p q = (agree p q, refl)
 
-pub blocks-once : (a r : Limbs) (m : List ℕ) (n : ℕ) → Unique (λ (x : Limbs). x ≡ limbsOf (turns n (value r) (value a) m))
-blocks-once a r m n = only (limbsOf (turns n (value r) (value a) m))
+pub blocks : OneOutcome fn.blocks.ended fn.blocks.Reads.Post
+blocks κs a x y u v p q = (agree p q, refl)
 
-pub last-once : (a r : Limbs) (b : List ℕ) → Unique (λ (x : Limbs). x ≡ limbsOf (value r * (value a + num b) % p))
-last-once a r b = only (limbsOf (value r * (value a + num b) % p))
+pub last : OneOutcome fn.last.ended fn.last.Reads.Post
+last κs a x y u v p q = (agree p q, refl)
 
-pub total-once : (a s : Limbs) → Unique (λ (r : List ℕ). r ≡ le 16 (value a + value s))
-total-once a s = only (le 16 (value a + value s))
+pub total : OneOutcome fn.total.ended fn.total.Reads.Post
+total κs a x y u v p q = (agree p q, refl)

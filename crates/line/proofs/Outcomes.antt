@@ -1,33 +1,23 @@
--- No second outcome meets the words of a promise: the next place and the bytes are determined.
-use mathlib.Core.Path.{_≡_, sym, _∙_, ap₂}
-use mathlib.Core.List.{List, _++_}
-use Prim.Native.Nat.{ℕ}
-use Rattle.answers.specs.declared.Answer.{Answer}
-use Rattle.base.specs.Outcome.{Unique}
-use Rattle.base.proofs.OutcomeLaws.{only}
-use Rattle.line.specs.Decimal.{widthIn, decimal, longDecimal}
-use Rattle.line.specs.Lines.{Put, reportLine, refusalLine}
+-- No second outcome meets the words of a public function: each theorem is over its own `ensures`.
+use mathlib.Core.Path.{refl}
+use Rattle.base.specs.Outcome.{OneOutcome}
+use Rattle.base.proofs.OutcomeLaws.{agree, _∥_}
+use Rattle.line.proofs as fn
 
--- what a call hands back, and what it leaves
-pub record Left : Type 0 where
-  pub next : ℕ
-  pub bytes : List ℕ
+pub width : OneOutcome fn.width.ended fn.width.Reads.Post
+width κs a x y u v p q = (agree p q, refl)
 
-pub width : (n : ℕ) → Unique (λ r. r ≡ widthIn 19 n)
-width n = only (widthIn 19 n)
+pub put-long : OneOutcome fn.put_long.ended fn.put_long.Reads.Post
+put-long κs a x y u v p q = (agree (p .behind) (q .behind), agree (p .stored) (q .stored) ∥ refl)
 
-pub put : (s : List ℕ) (at : ℕ) (text : List ℕ) → Unique (λ (o : Left). Put s at text (o .next) (o .bytes))
-put s at text r q f g =
-    ap₂ (λ (n : ℕ) (b : List ℕ). record { next = n; bytes = b }) (f .behind ∙ sym (g .behind)) (f .stored ∙ sym (g .stored))
+pub put : OneOutcome fn.put.ended fn.put.Reads.Post
+put κs a x y u v p q = (agree (p .behind) (q .behind), agree (p .stored) (q .stored) ∥ refl)
 
-pub put-long : (s : List ℕ) (at n : ℕ) → Unique (λ (o : Left). Put s at (longDecimal n) (o .next) (o .bytes))
-put-long s at n = put s at (longDecimal n)
+pub put-field : OneOutcome fn.put_field.ended fn.put_field.Reads.Post
+put-field κs a x y u v p q = (agree (p .behind) (q .behind), agree (p .stored) (q .stored) ∥ refl)
 
-pub put-field : (s : List ℕ) (at : ℕ) (name : List ℕ) (n : ℕ) → Unique (λ (o : Left). Put s at (name ++ decimal n) (o .next) (o .bytes))
-put-field s at name n = put s at (name ++ decimal n)
+pub report-line : OneOutcome fn.report_line.ended fn.report_line.Reads.Post
+report-line κs a x y u v p q = (agree (p .behind) (q .behind), agree (p .stored) (q .stored) ∥ refl)
 
-pub report-line : (s : List ℕ) (n m l k h : ℕ) → Unique (λ (o : Left). Put s 0 (reportLine n m l k h) (o .next) (o .bytes))
-report-line s n m l k h = put s 0 (reportLine n m l k h)
-
-pub refusal-line : (s : List ℕ) (a : Answer) → Unique (λ (o : Left). Put s 0 (refusalLine a) (o .next) (o .bytes))
-refusal-line s a = put s 0 (refusalLine a)
+pub refusal-line : OneOutcome fn.refusal_line.ended fn.refusal_line.Reads.Post
+refusal-line κs a x y u v p q = (agree (p .behind) (q .behind), agree (p .stored) (q .stored) ∥ refl)

@@ -1,18 +1,14 @@
--- No second outcome meets the words of a public promise.
-use mathlib.Core.Path.{_≡_}
-use mathlib.Core.List.{List}
-use Prim.Native.Nat.{ℕ}
-use Rattle.base.specs.Outcome.{Unique}
-use Rattle.base.proofs.OutcomeLaws.{only}
-use Rattle.layout.specs.declared.Shape.{Shape}
-use Rattle.nodes.specs.Nodes.{nodeIn}
-use Rattle.nodes.specs.Made.{goodNode, storeNode}
+-- No second outcome meets the words of a public function: each theorem is over its own `ensures`.
+use mathlib.Core.Path.{refl}
+use Rattle.base.specs.Outcome.{OneOutcome}
+use Rattle.base.proofs.OutcomeLaws.{agree, _∥_}
+use Rattle.nodes.proofs as fn
 
-pub one-good : (s : Shape) (v : List ℕ) (i : ℕ) → Unique (λ r. r ≡ goodNode s v i)
-one-good s v i = only (goodNode s v i)
+pub good : OneOutcome fn.good.ended fn.good.Reads.Post
+good κs a x y u v p q = (agree p q, refl)
 
-pub one-store : (s : Shape) (v : List ℕ) (i : ℕ) → Unique (λ last. last ≡ storeNode s i v)
-one-store s v i = only (storeNode s i v)
+pub store : OneOutcome fn.store.ended fn.store.Reads.Post
+store κs a x y u v p q = (refl, agree p q ∥ refl)
 
-pub one-first : (s : Shape) (v : List ℕ) → Unique (λ r. r ≡ nodeIn s v 1)
-one-first s v = only (nodeIn s v 1)
+pub first : OneOutcome fn.first.ended fn.first.Reads.Post
+first κs a x y u v p q = (agree p q, refl)

@@ -1,18 +1,23 @@
--- No second outcome meets the words of a promise.
-use mathlib.Core.Path.{_≡_, sym, _∙_, ap₂}
-use mathlib.Core.List.{List}
-use Prim.Native.Nat.{ℕ}
-use Rattle.base.specs.Outcome.{Unique}
-use Rattle.base.proofs.OutcomeLaws.{only}
-use Rattle.layout.specs.declared.Shape.{Shape}
-use Rattle.drive.specs.declared.Done.{Done}
-use Rattle.opening.specs.Format.{formatDone, formatVolume}
-use Rattle.opening.specs.Mount.{mountDone}
+-- No second outcome meets the words of a public function: each theorem is over its own `ensures`.
+use mathlib.Core.Path.{refl}
+use Rattle.base.specs.Outcome.{OneOutcome}
+use Rattle.base.proofs.OutcomeLaws.{agree, _∥_}
+use Rattle.opening.proofs as fn
 
--- what is handed back, and the volume
-pub format : (s : Shape) (salt secret : List ℕ) (outside : ℕ) (v : List ℕ)
-    → Unique {A = Done × List ℕ} (λ o. (o .0 ≡ formatDone s salt secret outside v) × (o .1 ≡ formatVolume s salt secret outside v))
-format s salt secret outside v r t p q = ap₂ (λ (d : Done) (w : List ℕ). (d, w)) (p .0 ∙ sym (q .0)) (p .1 ∙ sym (q .1))
+pub head-shape-in : OneOutcome fn.head.shape_in.ended fn.head.shape_in.Reads.Post
+head-shape-in κs a x y u v p q = (agree p q, refl)
 
-pub mount : (v present old : List ℕ) (outside : ℕ) → Unique (λ r. r ≡ mountDone v present old outside)
-mount v present old outside = only (mountDone v present old outside)
+pub head-epoch-in : OneOutcome fn.head.epoch_in.ended fn.head.epoch_in.Reads.Post
+head-epoch-in κs a x y u v p q = (agree p q, refl)
+
+pub head-state-in : OneOutcome fn.head.state_in.ended fn.head.state_in.Reads.Post
+head-state-in κs a x y u v p q = (agree p q, refl)
+
+pub head-form : OneOutcome fn.head.form.ended fn.head.form.Reads.Post
+head-form κs a x y u v p q = (agree p q, refl)
+
+pub format : OneOutcome fn.format.ended fn.format.Reads.Post
+format κs a x y u v p q = (agree (p .0) (q .0), agree (p .1) (q .1) ∥ refl)
+
+pub mount : OneOutcome fn.mount.ended fn.mount.Reads.Post
+mount κs a x y u v p q = (agree p q, refl)

@@ -1,14 +1,11 @@
--- No second outcome meets the words of a promise.
-use mathlib.Core.Path.{_≡_}
-use mathlib.Core.List.{List}
-use Prim.Native.Nat.{ℕ}
-use Rattle.base.specs.Outcome.{Unique}
-use Rattle.base.proofs.OutcomeLaws.{only}
-use Rattle.drive.specs.declared.Drive.{Drive}
-use Rattle.packed.specs.Image.{driveImage, driveIn}
+-- No second outcome meets the words of a public function: each theorem is over its own `ensures`.
+use mathlib.Core.Path.{refl}
+use Rattle.base.specs.Outcome.{OneOutcome}
+use Rattle.base.proofs.OutcomeLaws.{agree}
+use Rattle.packed.proofs as fn
 
-pub pack : (d : Drive) → Unique (λ r. r ≡ driveImage d)
-pack d = only (driveImage d)
+pub pack : OneOutcome fn.pack.ended fn.pack.Reads.Post
+pack κs a x y u v p q = (agree p q, refl)
 
-pub unpack : (image : List ℕ) → Unique (λ r. r ≡ driveIn image)
-unpack image = only (driveIn image)
+pub unpack : OneOutcome fn.unpack.ended fn.unpack.Reads.Post
+unpack κs a x y u v p q = (agree p q, refl)

@@ -1,10 +1,8 @@
--- No second outcome meets the words of a promise: how many bytes, and each byte of what was lent, are determined.
-use mathlib.Core.List.{List}
-use Prim.Native.Nat.{ℕ}
-use Rattle.base.specs.Outcome.{Unique}
-use Rattle.line.specs.Lines.{Put}
-use Rattle.line.proofs.Outcomes.{Left, put}
-use Rattle.pages.specs.Page.{auditPage}
+-- No second outcome meets the words of a public function: each theorem is over its own `ensures`.
+use mathlib.Core.Path.{refl}
+use Rattle.base.specs.Outcome.{OneOutcome}
+use Rattle.base.proofs.OutcomeLaws.{agree, _∥_}
+use Rattle.pages.proofs as fn
 
-pub audit-page : (i s : List ℕ) → Unique (λ (o : Left). Put s 0 (auditPage i) (o .next) (o .bytes))
-audit-page i s = put s 0 (auditPage i)
+pub audit-page : OneOutcome fn.audit_page.ended fn.audit_page.Reads.Post
+audit-page κs a x y u v p q = (agree (p .behind) (q .behind), refl ∥ agree (p .stored) (q .stored) ∥ refl)

@@ -1,17 +1,14 @@
--- Each public function has one outcome.
-use Prim.Native.Nat.{ℕ}
-use mathlib.Core.Path.{_≡_}
-use mathlib.Core.List.{List}
-use Rattle.base.specs.Outcome.{Unique}
-use Rattle.base.proofs.OutcomeLaws.{only}
-use Rattle.poly1305.specs.declared.State.{State}
-use Rattle.poly1305.specs.State.{started, absorbed, finished}
+-- No second outcome meets the words of a public function: each theorem is over its own `ensures`.
+use mathlib.Core.Path.{refl}
+use Rattle.base.specs.Outcome.{OneOutcome}
+use Rattle.base.proofs.OutcomeLaws.{agree}
+use Rattle.poly1305.proofs as fn
 
-pub start-once : (key : List ℕ) → Unique (λ (r : State). r ≡ started key)
-start-once key = only (started key)
+pub start : OneOutcome fn.start.ended fn.start.Reads.Post
+start κs a x y u v p q = (agree p q, refl)
 
-pub absorb-once : (s : State) (m : List ℕ) → Unique (λ (r : State). r ≡ absorbed s m)
-absorb-once s m = only (absorbed s m)
+pub absorb : OneOutcome fn.absorb.ended fn.absorb.Reads.Post
+absorb κs a x y u v p q = (agree p q, refl)
 
-pub finish-once : (s : State) → Unique (λ (r : List ℕ). r ≡ finished s)
-finish-once s = only (finished s)
+pub finish : OneOutcome fn.finish.ended fn.finish.Reads.Post
+finish κs a x y u v p q = (agree p q, refl)

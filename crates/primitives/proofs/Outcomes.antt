@@ -1,21 +1,17 @@
--- No second outcome meets the words of an exported function: what it leaves behind its `&mut`.
-use mathlib.Core.Path.{_≡_}
-use mathlib.Core.List.{List, []}
-use Prim.Native.Nat.{ℕ}
-use Rattle.base.specs.Outcome.{Unique}
-use Rattle.base.proofs.OutcomeLaws.{only}
-use Rattle.chacha20.specs.ChaCha20.{encrypted}
-use Rattle.poly1305.specs.Poly1305.{poly1305}
-use Rattle.blake2s.specs.Hash.{blake2s}
+-- No second outcome meets the words of a public function: each theorem is over its own `ensures`.
+use mathlib.Core.Path.{refl}
+use Rattle.base.specs.Outcome.{OneOutcome}
+use Rattle.base.proofs.OutcomeLaws.{agree, _∥_}
+use Rattle.primitives.proofs as fn
 
-pub one-chacha20 : (key nonce : List ℕ) (counter : ℕ) (d : List ℕ) → Unique (λ r. r ≡ encrypted key nonce counter d)
-one-chacha20 key nonce counter d = only (encrypted key nonce counter d)
+pub ngt-chacha20 : OneOutcome fn.ngt_chacha20.ended fn.ngt_chacha20.Reads.Post
+ngt-chacha20 κs a x y u v p q = (refl, agree p q ∥ refl)
 
-pub one-poly1305 : (key m : List ℕ) → Unique (λ r. r ≡ poly1305 key m)
-one-poly1305 key m = only (poly1305 key m)
+pub ngt-poly1305 : OneOutcome fn.ngt_poly1305.ended fn.ngt_poly1305.Reads.Post
+ngt-poly1305 κs a x y u v p q = (refl, refl ∥ refl ∥ agree p q ∥ refl)
 
-pub one-blake2s : (m : List ℕ) → Unique (λ r. r ≡ blake2s [] m)
-one-blake2s m = only (blake2s [] m)
+pub ngt-blake2s : OneOutcome fn.ngt_blake2s.ended fn.ngt_blake2s.Reads.Post
+ngt-blake2s κs a x y u v p q = (refl, refl ∥ agree p q ∥ refl)
 
-pub one-blake2s-keyed : (key m : List ℕ) → Unique (λ r. r ≡ blake2s key m)
-one-blake2s-keyed key m = only (blake2s key m)
+pub ngt-blake2s-keyed : OneOutcome fn.ngt_blake2s_keyed.ended fn.ngt_blake2s_keyed.Reads.Post
+ngt-blake2s-keyed κs a x y u v p q = (refl, refl ∥ refl ∥ agree p q ∥ refl)

@@ -1,42 +1,35 @@
--- No second outcome meets the words of a promise: each names the bytes that it leaves.
-use mathlib.Core.Path.{_≡_}
-use mathlib.Core.Bool.{Bool}
-use mathlib.Core.List.{List}
-use Prim.Native.Nat.{ℕ}
-use Rattle.base.specs.Outcome.{Unique}
-use Rattle.base.proofs.OutcomeLaws.{only}
-use Rattle.images.specs.Answers.{answerImage}
-use Rattle.keys.specs.Keys.{nuggetKey, tagKey, checkOf, sealOf}
-use Rattle.keys.specs.Tags.{tagOf}
-use Rattle.layout.specs.declared.Shape.{Shape}
-use Rattle.probe.specs.Probes.{laidBytes, pathAnswer, wholeAnswer, renewedBytes, builtBytes}
+-- No second outcome meets the words of a public function: each theorem is over its own `ensures`.
+use mathlib.Core.Path.{refl}
+use Rattle.base.specs.Outcome.{OneOutcome}
+use Rattle.base.proofs.OutcomeLaws.{agree, _∥_}
+use Rattle.probe.proofs as fn
 
-pub ngt-nugget-key : (secret salt : List ℕ) (n : ℕ) → Unique (λ out. out ≡ nuggetKey secret salt n)
-ngt-nugget-key secret salt n = only (nuggetKey secret salt n)
+pub ngt-nugget-key : OneOutcome fn.ngt_nugget_key.ended fn.ngt_nugget_key.Reads.Post
+ngt-nugget-key κs a x y u v p q = (refl, refl ∥ refl ∥ refl ∥ agree p q ∥ refl)
 
-pub ngt-tag-key : (key : List ℕ) (f k : ℕ) → Unique (λ out. out ≡ tagKey key f k)
-ngt-tag-key key f k = only (tagKey key f k)
+pub ngt-tag-key : OneOutcome fn.ngt_tag_key.ended fn.ngt_tag_key.Reads.Post
+ngt-tag-key κs a x y u v p q = (refl, refl ∥ refl ∥ refl ∥ agree p q ∥ refl)
 
-pub ngt-check : (old salt : List ℕ) (e : ℕ) → Unique (λ out. out ≡ checkOf old salt e)
-ngt-check old salt e = only (checkOf old salt e)
+pub ngt-check : OneOutcome fn.ngt_check.ended fn.ngt_check.Reads.Post
+ngt-check κs a x y u v p q = (refl, refl ∥ refl ∥ refl ∥ agree p q ∥ refl)
 
-pub ngt-seal : (secret front node : List ℕ) → Unique (λ out. out ≡ sealOf secret front node)
-ngt-seal secret front node = only (sealOf secret front node)
+pub ngt-seal : OneOutcome fn.ngt_seal.ended fn.ngt_seal.Reads.Post
+ngt-seal κs a x y u v p q = (refl, refl ∥ refl ∥ refl ∥ agree p q ∥ refl)
 
-pub ngt-tag : (key : List ℕ) (k f : ℕ) (stored : List ℕ) → Unique (λ out. out ≡ tagOf key k f stored)
-ngt-tag key k f stored = only (tagOf key k f stored)
+pub ngt-tag : OneOutcome fn.ngt_tag.ended fn.ngt_tag.Reads.Post
+ngt-tag κs a x y u v p q = (refl, refl ∥ refl ∥ refl ∥ refl ∥ agree p q ∥ refl)
 
-pub ngt-lay-pad : (key : List ℕ) (k f : ℕ) (d : List ℕ) → Unique (λ last. last ≡ laidBytes key k f d)
-ngt-lay-pad key k f d = only (laidBytes key k f d)
+pub ngt-lay-pad : OneOutcome fn.ngt_lay_pad.ended fn.ngt_lay_pad.Reads.Post
+ngt-lay-pad κs a x y u v p q = (refl, agree p q ∥ refl)
 
-pub ngt-path : (s : Shape) (e : ℕ) (c : Bool) (v : List ℕ) (n : ℕ) → Unique (λ out. out ≡ answerImage (pathAnswer s e c v n))
-ngt-path s e c v n = only (answerImage (pathAnswer s e c v n))
+pub ngt-path : OneOutcome fn.ngt_path.ended fn.ngt_path.Reads.Post
+ngt-path κs a x y u v p q = (refl, refl ∥ refl ∥ refl ∥ refl ∥ refl ∥ refl ∥ refl ∥ agree p q ∥ refl)
 
-pub ngt-whole : (s : Shape) (e : ℕ) (c : Bool) (v : List ℕ) → Unique (λ out. out ≡ answerImage (wholeAnswer s e c v))
-ngt-whole s e c v = only (answerImage (wholeAnswer s e c v))
+pub ngt-whole : OneOutcome fn.ngt_whole.ended fn.ngt_whole.Reads.Post
+ngt-whole κs a x y u v p q = (refl, refl ∥ refl ∥ refl ∥ refl ∥ refl ∥ refl ∥ agree p q ∥ refl)
 
-pub ngt-renew : (s : Shape) (n : ℕ) (v : List ℕ) → Unique (λ last. last ≡ renewedBytes s n v)
-ngt-renew s n v = only (renewedBytes s n v)
+pub ngt-renew : OneOutcome fn.ngt_renew.ended fn.ngt_renew.Reads.Post
+ngt-renew κs a x y u v p q = (refl, agree p q ∥ refl)
 
-pub ngt-build : (s : Shape) (v : List ℕ) → Unique (λ last. last ≡ builtBytes s v)
-ngt-build s v = only (builtBytes s v)
+pub ngt-build : OneOutcome fn.ngt_build.ended fn.ngt_build.Reads.Post
+ngt-build κs a x y u v p q = (refl, agree p q ∥ refl)

@@ -1,55 +1,47 @@
--- No second outcome meets the words of a promise.
-use mathlib.Core.Path.{_≡_}
-use mathlib.Core.Bool.{Bool}
-use mathlib.Core.List.{List}
-use Prim.Native.Nat.{ℕ}
-use lib.Seq.{sets}
-use Rattle.base.specs.Outcome.{Unique}
-use Rattle.base.proofs.OutcomeLaws.{only}
-use Rattle.records.specs.declared.Record.{Record}
-use Rattle.records.specs.declared.Way.{Way}
-use Rattle.records.specs.Journal.{bit, union, shareNone, flakesFrom, allFlakes, present}
-use Rattle.records.specs.Record.{recordBytes, recordIn, wellFormed}
-use Rattle.records.specs.Rule.{wayOf, rekeys, enciphered, turned, atTop}
+-- No second outcome meets the words of a public function: each theorem is over its own `ensures`.
+use mathlib.Core.Path.{refl}
+use Rattle.base.specs.Outcome.{OneOutcome}
+use Rattle.base.proofs.OutcomeLaws.{agree, _∥_}
+use Rattle.records.proofs as fn
 
-pub read : (vol : List ℕ) (at : ℕ) → Unique (λ r. r ≡ recordIn at vol)
-read vol at = only (recordIn at vol)
+pub read : OneOutcome fn.read.ended fn.read.Reads.Post
+read κs a x y u v p q = (agree p q, refl)
 
-pub store : (vol : List ℕ) (at : ℕ) (r : Record) → Unique (λ last. last ≡ sets vol at (recordBytes r))
-store vol at r = only (sets vol at (recordBytes r))
+pub store : OneOutcome fn.store.ended fn.store.Reads.Post
+store κs a x y u v p q = (refl, agree p q ∥ refl)
 
-pub has : (journal f : ℕ) → Unique (λ r. r ≡ bit journal f)
-has journal f = only (bit journal f)
+pub has : OneOutcome fn.has.ended fn.has.Reads.Post
+has κs a x y u v p q = (agree p q, refl)
 
-pub join : (journal touched : ℕ) → Unique (λ r. r ≡ union journal touched)
-join journal touched = only (union journal touched)
+pub join : OneOutcome fn.join.ended fn.join.Reads.Post
+join κs a x y u v p q = (agree p q, refl)
 
-pub share-none : (journal touched : ℕ) → Unique (λ r. r ≡ shareNone journal touched)
-share-none journal touched = only (shareNone journal touched)
+pub share-none : OneOutcome fn.share_none.ended fn.share_none.Reads.Post
+share-none κs a x y u v p q = (agree p q, refl)
 
-pub all : (p : ℕ) → Unique (λ r. r ≡ allFlakes p)
-all p = only (allFlakes p)
+pub all : OneOutcome fn.all.ended fn.all.Reads.Post
+all κs a x y u v p q = (agree p q, refl)
 
-pub range : (first last : ℕ) → Unique (λ r. r ≡ flakesFrom first last)
-range first last = only (flakesFrom first last)
+pub range : OneOutcome fn.range.ended fn.range.Reads.Post
+range κs a x y u v p q = (agree p q, refl)
 
-pub count : (journal : ℕ) → Unique (λ r. r ≡ present 64 journal)
-count journal = only (present 64 journal)
+pub count : OneOutcome fn.count.ended fn.count.Reads.Post
+count κs a x y u v p q = (agree p q, refl)
 
-pub well-formed : (r : Record) (p epoch : ℕ) (changing : Bool) → Unique (λ ok. ok ≡ wellFormed p epoch changing r)
-well-formed r p epoch changing = only (wellFormed p epoch changing r)
+pub well-formed : OneOutcome fn.well_formed.ended fn.well_formed.Reads.Post
+well-formed κs a x y u v p q = (agree p q, refl)
 
-pub way-of : (r : Record) (touched epoch : ℕ) → Unique (λ way. way ≡ wayOf r touched epoch)
-way-of r touched epoch = only (wayOf r touched epoch)
+pub way-of : OneOutcome fn.way_of.ended fn.way_of.Reads.Post
+way-of κs a x y u v p q = (agree p q, refl)
 
-pub is-rekey : (way : Way) → Unique (λ r. r ≡ rekeys way)
-is-rekey way = only (rekeys way)
+pub is-rekey : OneOutcome fn.is_rekey.ended fn.is_rekey.Reads.Post
+is-rekey κs a x y u v p q = (agree p q, refl)
 
-pub enciphers : (way : Way) (r : Record) → Unique (λ mask. mask ≡ enciphered way r)
-enciphers way r = only (enciphered way r)
+pub enciphers : OneOutcome fn.enciphers.ended fn.enciphers.Reads.Post
+enciphers κs a x y u v p q = (agree p q, refl)
 
-pub at-top : (way : Way) (r : Record) → Unique (λ top. top ≡ atTop way r)
-at-top way r = only (atTop way r)
+pub at-top : OneOutcome fn.at_top.ended fn.at_top.Reads.Post
+at-top κs a x y u v p q = (agree p q, refl)
 
-pub turn : (way : Way) (epoch : ℕ) (r : Record) → Unique (λ after. after ≡ turned way epoch r)
-turn way epoch r = only (turned way epoch r)
+pub turn : OneOutcome fn.turn.ended fn.turn.Reads.Post
+turn κs a x y u v p q = (agree p q, refl)

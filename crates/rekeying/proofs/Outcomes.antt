@@ -1,21 +1,23 @@
--- No second outcome meets the words of a promise.
-use mathlib.Core.Path.{_≡_, sym, _∙_, ap₂}
-use mathlib.Core.List.{List}
-use Prim.Native.Nat.{ℕ}
-use Rattle.base.specs.Outcome.{Unique}
-use Rattle.drive.specs.declared.Drive.{Drive}
-use Rattle.drive.specs.declared.Done.{Done}
-use Rattle.changes.specs.Rekey.{beginDone, beginVolume, sweepDone, sweepVolume, finishDone, finishVolume}
+-- No second outcome meets the words of a public function: each theorem is over its own `ensures`.
+use mathlib.Core.Path.{refl}
+use Rattle.base.specs.Outcome.{OneOutcome}
+use Rattle.base.proofs.OutcomeLaws.{agree, _∥_}
+use Rattle.rekeying.proofs as fn
 
--- what is handed back, and the volume
-both-only : (done : Done) (w : List ℕ) → Unique {A = Done × List ℕ} (λ o. (o .0 ≡ done) × (o .1 ≡ w))
-both-only done w r t p q = ap₂ (λ (d : Done) (u : List ℕ). (d, u)) (p .0 ∙ sym (q .0)) (p .1 ∙ sym (q .1))
+pub admit-begin : OneOutcome fn.admit.begin.ended fn.admit.begin.Reads.Post
+admit-begin κs a x y u v p q = (agree p q, refl)
 
-pub begin : (d : Drive) (v secret : List ℕ) → Unique {A = Done × List ℕ} (λ o. (o .0 ≡ beginDone d v secret) × (o .1 ≡ beginVolume d v secret))
-begin d v secret = both-only (beginDone d v secret) (beginVolume d v secret)
+pub admit-sweep : OneOutcome fn.admit.sweep.ended fn.admit.sweep.Reads.Post
+admit-sweep κs a x y u v p q = (agree p q, refl)
 
-pub sweep : (d : Drive) (v : List ℕ) (n : ℕ) → Unique {A = Done × List ℕ} (λ o. (o .0 ≡ sweepDone d v n) × (o .1 ≡ sweepVolume d v n))
-sweep d v n = both-only (sweepDone d v n) (sweepVolume d v n)
+pub admit-finish : OneOutcome fn.admit.finish.ended fn.admit.finish.Reads.Post
+admit-finish κs a x y u v p q = (agree p q, refl)
 
-pub finish : (d : Drive) (v : List ℕ) → Unique {A = Done × List ℕ} (λ o. (o .0 ≡ finishDone d v) × (o .1 ≡ finishVolume d v))
-finish d v = both-only (finishDone d v) (finishVolume d v)
+pub begin : OneOutcome fn.begin.ended fn.begin.Reads.Post
+begin κs a x y u v p q = (agree (p .0) (q .0), refl ∥ agree (p .1) (q .1) ∥ refl)
+
+pub sweep : OneOutcome fn.sweep.ended fn.sweep.Reads.Post
+sweep κs a x y u v p q = (agree (p .0) (q .0), refl ∥ agree (p .1) (q .1) ∥ refl)
+
+pub finish : OneOutcome fn.finish.ended fn.finish.Reads.Post
+finish κs a x y u v p q = (agree (p .0) (q .0), refl ∥ agree (p .1) (q .1) ∥ refl)

@@ -1,28 +1,26 @@
--- No second outcome meets the words of a promise.
-use mathlib.Core.Path.{_≡_}
+-- No second outcome meets the words of a public function: each theorem is over its own `ensures`.
+use mathlib.Core.Path.{refl}
 use mathlib.Core.List.{List}
 use Prim.Native.Nat.{ℕ}
-use Rattle.base.specs.Outcome.{Unique}
-use Rattle.base.proofs.OutcomeLaws.{only}
-use Rattle.drive.specs.declared.Drive.{Drive}
-use Rattle.reports.specs.Counts.{movedIn, flakesIn, shareOf}
-use Rattle.reports.specs.Report.{reportOf}
-use Rattle.reports.specs.Stored.{storedAnswer, storedFlake}
+use denote.Ref.{ptr, now}
+use Rattle.base.specs.Outcome.{OneOutcome, OneSeen}
+use Rattle.base.proofs.OutcomeLaws.{agree, _∥_}
+use Rattle.reports.proofs as fn
 
-pub moved-in : (e : ℕ) (v : List ℕ) (n : ℕ) → Unique (λ r. r ≡ movedIn e v n)
-moved-in e v n = only (movedIn e v n)
+pub moved-in : OneOutcome fn.moved_in.ended fn.moved_in.Reads.Post
+moved-in κs a x y u v p q = (agree p q, refl)
 
-pub flakes-in : (v : List ℕ) (n : ℕ) → Unique (λ r. r ≡ flakesIn 64 v n)
-flakes-in v n = only (flakesIn 64 v n)
+pub flakes-in : OneOutcome fn.flakes_in.ended fn.flakes_in.Reads.Post
+flakes-in κs a x y u v p q = (agree p q, refl)
 
-pub share-of : (m n : ℕ) → Unique (λ r. r ≡ shareOf m n)
-share-of m n = only (shareOf m n)
+pub share-of : OneOutcome fn.share_of.ended fn.share_of.Reads.Post
+share-of κs a x y u v p q = (agree p q, refl)
 
-pub report : (d : Drive) (v : List ℕ) → Unique (λ r. r ≡ reportOf d v)
-report d v = only (reportOf d v)
+pub report : OneOutcome fn.report.ended fn.report.Reads.Post
+report κs a x y u v p q = (agree p q, refl)
 
-pub stored-flake-answer : (d : Drive) (v : List ℕ) (n f : ℕ) → Unique (λ r. r ≡ storedAnswer d v n f)
-stored-flake-answer d v n f = only (storedAnswer d v n f)
+pub stored-flake-answer : OneOutcome fn.stored_flake_answer.ended fn.stored_flake_answer.Reads.Post
+stored-flake-answer κs a x y u v p q = (agree p q, refl)
 
-pub stored-flake : (d : Drive) (v : List ℕ) (n f : ℕ) → Unique (λ r. r ≡ storedFlake d v n f)
-stored-flake d v n f = only (storedFlake d v n f)
+pub stored-flake : OneSeen fn.stored_flake.ended (λ κs. (ℕ × ℕ) × List ℕ) (λ κs r. (ptr r, now r)) fn.stored_flake.Reads.Post
+stored-flake κs a x y u v p q = (agree (p .1) (q .1) ∥ agree (p .0) (q .0), refl)

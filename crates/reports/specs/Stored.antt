@@ -1,5 +1,5 @@
 -- Document 01: "Stored flake shows a backup tool the stored bytes as that part of the volume itself, no copy."
-use Prim.Native.Nat.{ℕ}
+use Prim.Native.Nat.{ℕ, _+_}
 use mathlib.Core.Bool.{Bool}
 use mathlib.Core.List.{List, []}
 use lib.Dec.{ltb, eqb}
@@ -28,3 +28,11 @@ storedAnswer d v n f =
 -- "It is empty exactly for answers 1, 2 or 8"
 unfoldable pub storedFlake : Drive → List ℕ → ℕ → ℕ → List ℕ
 storedFlake d v n f = pick (accepts (storedAnswer d v n f)) (part (flakeAt (shapeOf d) n f) (d .f) v) []
+
+-- "that part of the volume itself": where it starts in the volume. The empty part of a refusal stands at the volume's start.
+unfoldable pub storedAt : Drive → List ℕ → ℕ → ℕ → ℕ
+storedAt d v n f = pick (accepts (storedAnswer d v n f)) (flakeAt (shapeOf d) n f) 0
+
+-- so many bytes on from a place, which is a block and an offset in it
+abbrev pub onward : ℕ × ℕ → ℕ → ℕ × ℕ
+onward p k = (p .0, k + p .1)

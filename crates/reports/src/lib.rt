@@ -8,10 +8,11 @@ pub use told::Report;
 ghost use mathlib.Core.Path.{_≡_};
 ghost use Prim.Native.Nat.{_≤_};
 ghost use lib.ListN.{length};
+ghost use denote.Ref.{ptr};
 ghost use Rattle.layout.specs.Parts.{recordAt};
 ghost use Rattle.reports.specs.Counts.{movedIn, flakesIn, shareOf};
 ghost use Rattle.reports.specs.Report.{reportAnswer, reportOf};
-ghost use Rattle.reports.specs.Stored.{isFlake, storedAnswer, storedFlake};
+ghost use Rattle.reports.specs.Stored.{isFlake, storedAnswer, storedFlake, storedAt, onward};
 
 // How many of the first n nuggets have this epoch.
 pub fn moved_in(vol: &[u8], n: u32, epoch: u16) -> u32
@@ -117,7 +118,8 @@ pub fn stored_flake_answer(d: Drive, vol: &[u8], nugget: u32, flake: u32) -> Ans
 
 // "shows a backup tool the stored bytes as that part of the volume itself, no copy"
 pub fn stored_flake<'a>(d: Drive, vol: &'a [u8], nugget: u32, flake: u32) -> &'a [u8]
-    ensures { λ r. ⌜ now r ≡ storedFlake d (now (vol .entry)) nugget flake ⌝ }
+    ensures { λ r. ⌜ (now r ≡ storedFlake d (now (vol .entry)) nugget flake)
+        × (ptr r ≡ onward (ptr (vol .entry)) (storedAt d (now (vol .entry)) nugget flake)) ⌝ }
 {
     if answers::accepted(stored_flake_answer(d, vol, nugget, flake)) {
         let at = layout::flake_at(drive::shape_of(d), nugget, flake);

@@ -1,19 +1,14 @@
--- No second outcome meets the words of a promise: the drive, how many bytes, and each byte of what was lent, are determined.
-use mathlib.Core.Path.{_≡_}
-use mathlib.Core.List.{List}
-use Prim.Native.Nat.{ℕ}
-use Rattle.base.specs.Outcome.{Unique}
-use Rattle.base.proofs.OutcomeLaws.{only}
-use Rattle.drive.specs.declared.Done.{Done}
-use Rattle.line.specs.Lines.{Put}
-use Rattle.line.proofs.Outcomes.{Left, put}
-use Rattle.sheets.specs.Sheet.{mountedText, mountedBy, sheetLine}
+-- No second outcome meets the words of a public function: each theorem is over its own `ensures`.
+use mathlib.Core.Path.{refl}
+use Rattle.base.specs.Outcome.{OneOutcome}
+use Rattle.base.proofs.OutcomeLaws.{agree, _∥_}
+use Rattle.sheets.proofs as fn
 
-pub mounted : (i : List ℕ) → Unique (λ r. r ≡ mountedBy i)
-mounted i = only (mountedBy i)
+pub put-mounted : OneOutcome fn.put_mounted.ended fn.put_mounted.Reads.Post
+put-mounted κs a x y u v p q = (agree (p .behind) (q .behind), agree (p .stored) (q .stored) ∥ refl)
 
-pub put-mounted : (m : Done) (v s : List ℕ) → Unique (λ (o : Left). Put s 0 (mountedText m v) (o .next) (o .bytes))
-put-mounted m v s = put s 0 (mountedText m v)
+pub mounted : OneOutcome fn.mounted.ended fn.mounted.Reads.Post
+mounted κs a x y u v p q = (agree p q, refl)
 
-pub sheet-line : (i s : List ℕ) → Unique (λ (o : Left). Put s 0 (sheetLine i) (o .next) (o .bytes))
-sheet-line i s = put s 0 (sheetLine i)
+pub sheet-line : OneOutcome fn.sheet_line.ended fn.sheet_line.Reads.Post
+sheet-line κs a x y u v p q = (agree (p .behind) (q .behind), refl ∥ agree (p .stored) (q .stored) ∥ refl)

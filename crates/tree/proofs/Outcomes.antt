@@ -1,23 +1,17 @@
--- No second outcome meets the words of a public promise.
-use mathlib.Core.Path.{_≡_}
-use mathlib.Core.Bool.{Bool}
-use mathlib.Core.List.{List}
-use Prim.Native.Nat.{ℕ}
-use Rattle.base.specs.Outcome.{Unique}
-use Rattle.base.proofs.OutcomeLaws.{only}
-use Rattle.layout.specs.declared.Shape.{Shape}
-use Rattle.tree.specs.Path.{pathOf}
-use Rattle.tree.specs.Whole.{wholeOf}
-use Rattle.tree.specs.Renewed.{renewed, built}
+-- No second outcome meets the words of a public function: each theorem is over its own `ensures`.
+use mathlib.Core.Path.{refl}
+use Rattle.base.specs.Outcome.{OneOutcome}
+use Rattle.base.proofs.OutcomeLaws.{agree, _∥_}
+use Rattle.tree.proofs as fn
 
-pub one-path : (s : Shape) (epoch : ℕ) (changing : Bool) (v : List ℕ) (n : ℕ) → Unique (λ r. r ≡ pathOf s epoch changing v n)
-one-path s epoch changing v n = only (pathOf s epoch changing v n)
+pub path : OneOutcome fn.path.ended fn.path.Reads.Post
+path κs a x y u v p q = (agree p q, refl)
 
-pub one-whole : (s : Shape) (epoch : ℕ) (changing : Bool) (v : List ℕ) → Unique (λ r. r ≡ wholeOf s epoch changing v)
-one-whole s epoch changing v = only (wholeOf s epoch changing v)
+pub whole : OneOutcome fn.whole.ended fn.whole.Reads.Post
+whole κs a x y u v p q = (agree p q, refl)
 
-pub one-renew : (s : Shape) (n : ℕ) (v : List ℕ) → Unique (λ last. last ≡ renewed s n v)
-one-renew s n v = only (renewed s n v)
+pub renew : OneOutcome fn.renew.ended fn.renew.Reads.Post
+renew κs a x y u v p q = (refl, agree p q ∥ refl)
 
-pub one-build : (s : Shape) (v : List ℕ) → Unique (λ last. last ≡ built s v)
-one-build s v = only (built s v)
+pub build : OneOutcome fn.build.ended fn.build.Reads.Post
+build κs a x y u v p q = (refl, agree p q ∥ refl)

@@ -1,51 +1,44 @@
--- No second outcome meets the words of a promise.
-use mathlib.Core.Path.{_≡_}
-use mathlib.Core.List.{List}
-use Prim.Native.Nat.{ℕ, _^_, _<_}
-use lib.ListN.{length, replicate}
-use lib.Seq.{sets}
-use Rattle.base.specs.Lists.{part, same}
-use Rattle.base.specs.Outcome.{Unique}
-use Rattle.base.proofs.OutcomeLaws.{only}
-use Rattle.words.specs.Word.{rotl, rotr}
-use Rattle.words.specs.Le.{num, le}
-use Rattle.words.specs.Xor.{xorl}
+-- No second outcome meets the words of a public function: each theorem is over its own `ensures`.
+use mathlib.Core.Path.{refl}
+use Rattle.base.specs.Outcome.{OneOutcome}
+use Rattle.base.proofs.OutcomeLaws.{agree, _∥_}
+use Rattle.words.proofs as fn
 
-pub rotate-left : (x n : ℕ) → Unique (λ r. r ≡ rotl n x)
-rotate-left x n = only (rotl n x)
+pub rotate-left : OneOutcome fn.rotate_left.ended fn.rotate_left.Reads.Post
+rotate-left κs a x y u v p q = (agree p q, refl)
 
-pub rotate-right : (x n : ℕ) → Unique (λ r. r ≡ rotr n x)
-rotate-right x n = only (rotr n x)
+pub rotate-right : OneOutcome fn.rotate_right.ended fn.rotate_right.Reads.Post
+rotate-right κs a x y u v p q = (agree p q, refl)
 
-pub wide : (b : ℕ) → Unique (λ r. r ≡ b)
-wide b = only b
+pub wide : OneOutcome fn.wide.ended fn.wide.Reads.Post
+wide κs a x y u v p q = (agree p q, refl)
 
-pub load : (s : List ℕ) (at k : ℕ) → Unique (λ r. (r ≡ num (part at k s)) × (r < 256 ^ k))
-load s at k r q e f = only (num (part at k s)) r q (e .0) (f .0)
+pub load : OneOutcome fn.load.ended fn.load.Reads.Post
+load κs a x y u v p q = (agree (p .0) (q .0), refl)
 
-pub load32 : (s : List ℕ) (at : ℕ) → Unique (λ r. r ≡ num (part at 4 s))
-load32 s at = only (num (part at 4 s))
+pub load32 : OneOutcome fn.load32.ended fn.load32.Reads.Post
+load32 κs a x y u v p q = (agree p q, refl)
 
-pub store : (s : List ℕ) (at k x : ℕ) → Unique (λ last. last ≡ sets s at (le k x))
-store s at k x = only (sets s at (le k x))
+pub store : OneOutcome fn.store.ended fn.store.Reads.Post
+store κs a x y u v p q = (refl, agree p q ∥ refl)
 
-pub store32 : (s : List ℕ) (at x : ℕ) → Unique (λ last. last ≡ sets s at (le 4 x))
-store32 s at x = only (sets s at (le 4 x))
+pub store32 : OneOutcome fn.store32.ended fn.store32.Reads.Post
+store32 κs a x y u v p q = (refl, agree p q ∥ refl)
 
-pub copy : (s : List ℕ) (at : ℕ) (from : List ℕ) → Unique (λ last. last ≡ sets s at from)
-copy s at from = only (sets s at from)
+pub copy : OneOutcome fn.copy.ended fn.copy.Reads.Post
+copy κs a x y u v p q = (refl, agree p q ∥ refl)
 
-pub sixteen : (s : List ℕ) (at : ℕ) → Unique (λ r. r ≡ part at 16 s)
-sixteen s at = only (part at 16 s)
+pub sixteen : OneOutcome fn.sixteen.ended fn.sixteen.Reads.Post
+sixteen κs a x y u v p q = (agree p q, refl)
 
-pub thirty-two : (s : List ℕ) (at : ℕ) → Unique (λ r. r ≡ part at 32 s)
-thirty-two s at = only (part at 32 s)
+pub thirty-two : OneOutcome fn.thirty_two.ended fn.thirty_two.Reads.Post
+thirty-two κs a x y u v p q = (agree p q, refl)
 
-pub xor : (d k : List ℕ) → Unique (λ last. last ≡ xorl d k)
-xor d k = only (xorl d k)
+pub xor : OneOutcome fn.xor.ended fn.xor.Reads.Post
+xor κs a x y u v p q = (refl, agree p q ∥ refl)
 
-pub equal : (a b : List ℕ) → Unique (λ r. r ≡ same a b)
-equal a b = only (same a b)
+pub equal : OneOutcome fn.equal.ended fn.equal.Reads.Post
+equal κs a x y u v p q = (agree p q, refl)
 
-pub clear : (s : List ℕ) → Unique {A = List ℕ} (λ last. last ≡ replicate (length s) 0)
-clear s = only {A = List ℕ} (replicate (length s) 0)
+pub clear : OneOutcome fn.clear.ended fn.clear.Reads.Post
+clear κs a x y u v p q = (refl, agree p q ∥ refl)

@@ -1,14 +1,8 @@
--- No second outcome meets the words of a write.
-use mathlib.Core.Path.{_≡_}
-use mathlib.Core.List.{List}
-use Prim.Native.Nat.{ℕ}
-use Rattle.base.specs.Outcome.{Unique}
-use Rattle.base.proofs.OutcomeLaws.{only}
-use Rattle.drive.specs.declared.Drive.{Drive}
-use Rattle.changes.specs.Write.{writeDone, writeVolume}
+-- No second outcome meets the words of a public function: each theorem is over its own `ensures`.
+use mathlib.Core.Path.{refl}
+use Rattle.base.specs.Outcome.{OneOutcome}
+use Rattle.base.proofs.OutcomeLaws.{agree, _∥_}
+use Rattle.writing.proofs as fn
 
-pub write-done : (d : Drive) (v : List ℕ) (o : ℕ) (bytes : List ℕ) → Unique (λ r. r ≡ writeDone d v o bytes)
-write-done d v o bytes = only (writeDone d v o bytes)
-
-pub write-volume : (d : Drive) (v : List ℕ) (o : ℕ) (bytes : List ℕ) → Unique (λ last. last ≡ writeVolume d v o bytes)
-write-volume d v o bytes = only (writeVolume d v o bytes)
+pub write : OneOutcome fn.write.ended fn.write.Reads.Post
+write κs a x y u v p q = (agree (p .0) (q .0), refl ∥ agree (p .1) (q .1) ∥ refl)
