@@ -30,17 +30,19 @@ use Rattle.changes.specs.Rekey.{beginAnswer, sweepAnswer, finishAnswer}
 use Rattle.history.specs.World.{World, Call, mount, read, write, begin, sweep, finish, report, stored}
 use Rattle.history.specs.Step.{answerTo, step}
 use Rattle.history.specs.History.{Start, begun, run, history, among}
-use Rattle.history.specs.Answers.{changing, isMoved, isLeft, nuggetsLeft, Columns, columns, columnsOf, columnsAfter, allAccepted}
+use Rattle.history.specs.Answers.{changing, isMoved, isLeft, nuggetsLeft, Columns, columns, columnsOf, columnsAfter, allAccepted, reportOn}
 use Rattle.history.proofs.Counts.{many-none}
 use Rattle.history.proofs.Sound.{Sound}
 use Rattle.history.proofs.Steps.{start-sound, begun-drive, step-sound, sound, mount-same}
 use Rattle.history.proofs.Table.{exactly}
 use Rattle.history.proofs.Written.{write-accepted}
 use Rattle.history.proofs.Counters.{run-base}
-use Rattle.history.proofs.Demands.{shape-kept, reads-back, written-last}
+use Rattle.history.proofs.Demands.{shape-kept, reads-back, written-last, share-full}
 use Rattle.history.proofs.Moves.{begin-accepted, sweep-accepted, finish-accepted, begin-moves-none, swept-own}
 use Rattle.history.proofs.Columns.{follows}
-use Rattle.assurances.specs.Example.{secretOf, example, Example, takesDrive, BlankRefused, StoredShows}
+use Rattle.history.proofs.Told.{report-tells}
+use Rattle.history.proofs.Old.{old-secret-needed}
+use Rattle.assurances.specs.Example.{secretOf, example, Example, FullIsNotFree, takesDrive, BlankRefused, StoredShows}
 
 pub blank-refused : BlankRefused
 unfolding readAnswer writeAnswer beginAnswer sweepAnswer finishAnswer reportAnswer storedAnswer andThen
@@ -250,3 +252,18 @@ reads =
 pub exampled : Example
 unfolding fresh
 exampled = (fresh, refl, all-accepted (begun fresh) at-start, reads)
+
+-- the example up to its sweep
+abbrev half : List Call
+half = write 63 bytes ∷ begin (secretOf 7) ∷ sweep 0 ∷ []
+
+pub full-is-not-free : FullIsNotFree
+unfolding allAccepted run
+full-is-not-free =
+    let w = begun fresh in
+    let left : reportOn (history fresh half) .left ≡ 0 = report-tells fresh half .left ∙ none-left w at-start in (
+      fresh,
+      half,
+      both-on (ap accepts (ok₁ w at-start)) (both-on (ap accepts (ok₂ w at-start)) (both-on (ap accepts (ok₃ w at-start)) refl)),
+      (share-full fresh half .1 left, none-left w at-start, λ other far. old-secret-needed fresh half other (state-is (w₃ w at-start) (k₃ w at-start) (x₃ w at-start)) far),
+    )

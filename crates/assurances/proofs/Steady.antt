@@ -1,5 +1,5 @@
 -- A steady drive with something else for its old secret: each test, each answer and each store is the same.
-use mathlib.Core.Path.{_≡_, refl, ap, ap₂}
+use mathlib.Core.Path.{_≡_, refl, ap, ap₂, sym, _∙_}
 use mathlib.Core.Bool.{true, false}
 use mathlib.Core.Logic.{_⊎_, inl, inr}
 use mathlib.Core.List.{List}
@@ -43,17 +43,13 @@ use Rattle.changes.specs.Write.{writeWay, writeAnswer, writes, newContents, wri
 use Rattle.changes.proofs.Each.{each-map, Below, chosen, each-to}
 use Rattle.changes.proofs.SpanLaws.{tested-each}
 use Rattle.changes.proofs.SweepLaws.{laid-alike}
-use Rattle.changes.proofs.Exact.{yes-same, no-same}
+use Rattle.changes.proofs.Exact.{yes-same, no-same, advanced-old}
 use Rattle.assurances.specs.Unseen.{withOld}
 
 -- what a steady state makes of the old secret
 check-any : (s : State) → isChanging s ≡ false → (a b salt : List ℕ) (epoch : ℕ) → checkFor s a salt epoch ≡ checkFor s b salt epoch
 check-any Steady q a b salt epoch = refl
 check-any (Changing left) q a b salt epoch = absurd (clash refl q)
-
-kept-any : (s : State) → isChanging s ≡ false → (a b : List ℕ) → keptOld s a ≡ keptOld s b
-kept-any Steady q a b = refl
-kept-any (Changing left) q a b = absurd (clash refl q)
 
 -- a way that enciphers isn't idle
 busy : (way : Way) (r : Record) (f : ℕ) → bit (enciphered way r) f ≡ true → idles way ≡ false
@@ -163,7 +159,7 @@ module _ (d : Drive) (any v : List ℕ) (steady : isChanging (d .state) ≡ fals
           counter = d .counter + 1;
           node = nodeIn (shapeOf d) (work-same i) 1;
           present = d .present;
-          old = kept-any (d .state) steady any (d .old) i;
+          old = (advanced-old e (writeWork e v o given) steady ∙ sym (advanced-old d (writeWork d v o given) steady)) i;
         }
 
     pub stored-same : settled (writtenDrive (withOld d any) v o given) (writeWork (withOld d any) v o given) ≡ settled (writtenDrive d v o given) (writeWork d v o given)

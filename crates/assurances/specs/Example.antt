@@ -3,18 +3,21 @@
 use Prim.Native.Nat.{ℕ}
 use mathlib.Core.Path.{_≡_}
 use mathlib.Core.Bool.{Bool, true, false}
-use mathlib.Core.List.{List, [], _∷_}
+use mathlib.Core.Logic.{_⊎_}
+use mathlib.Core.List.{List, [], _∷_, _++_}
 use lib.ListN.{replicate}
+use Rattle.words.specs.Le.{le}
 use Rattle.answers.specs.declared.Answer.the-variants as A
 use Rattle.layout.specs.Shape.{shape}
 use Rattle.drive.specs.Drive.{shapeOf, blankDrive}
+use Rattle.opening.specs.Mount.{mountAnswer}
 use Rattle.nuggets.specs.Nugget.{storedIn}
 use Rattle.reading.specs.Read.{readBuffer}
 use Rattle.reports.specs.Stored.{storedFlake}
 use Rattle.history.specs.World.{World, Call, mount, read, write, begin, sweep, finish, report, stored}
 use Rattle.history.specs.Step.{answerTo}
 use Rattle.history.specs.History.{Start, begun, history}
-use Rattle.history.specs.Answers.{allAccepted}
+use Rattle.history.specs.Answers.{nuggetsLeft, allAccepted, Collision, reportOn}
 
 -- a secret of 32 equal bytes
 abbrev pub secretOf : ℕ → List ℕ
@@ -41,6 +44,16 @@ Example =
     (start : Start) × (start .shape ≡ shape 1 2 64)
     × (allAccepted (begun start) example ≡ true)
     × (let w = history start example in readBuffer (w .drive) (w .vol) 63 (0 ∷ 0 ∷ 0 ∷ []) ≡ 1 ∷ 2 ∷ 3 ∷ [])
+
+-- The accident can't be had again: there is a drive that reports 100.00 with nothing left, all calls before accepted, and a
+-- mount of it with another old secret is refused with 5, or the two secrets are a collision over the check's message.
+abbrev pub FullIsNotFree : Type 0
+FullIsNotFree =
+    (start : Start) × (calls : List Call) × (allAccepted (begun start) calls ≡ true)
+    × (let w = history start calls in
+    (reportOn w .share ≡ 10000) × (nuggetsLeft w ≡ 0)
+    × ((other : List ℕ) → (w .old ≡ other → ⊥)
+    → (mountAnswer (w .vol) (w .secret) other (w .outside) ≡ A.OldSecret) ⊎ Collision (w .old) other (79 ∷ (w .drive .salt ++ le 2 (w .drive .epoch)))))
 
 -- "A refused format or mount returns the blank drive: every field zero, steady; every later call on it gives 1." A mount isn't made on a drive.
 abbrev pub takesDrive : Call → Bool

@@ -1,4 +1,5 @@
--- Where nothing is altered, and no keycount is above the counter, the calls that change answer by numbers alone.
+-- Where nothing is altered, and no keycount is above the counter, the calls that change answer by numbers alone; and what
+-- an accepted one makes of the drive's state, numbers and secrets.
 use mathlib.Core.Path.{_≡_, refl, ap}
 use mathlib.Core.Bool.{Bool, true, false, not}
 use mathlib.Core.List.{List}
@@ -8,7 +9,7 @@ use lib.Dec.{eqb, leb, ltb}
 use borrow.Author.Tests.{ne-eqb, eqb-false, ltb-true}
 use Rattle.base.specs.Pick.{pick}
 use Rattle.base.specs.Lists.{same}
-use Rattle.base.proofs.PickLaws.{yes, no}
+use Rattle.base.proofs.PickLaws.{yes, no, clash}
 use Rattle.answers.specs.declared.Answer.{Answer}
 use Rattle.answers.specs.declared.Answer.the-variants as A
 use Rattle.answers.specs.Numbers.{accepts}
@@ -20,15 +21,17 @@ use Rattle.records.specs.Rule.{rekeys, atTop, sweepWay}
 use Rattle.tree.specs.Path.{recordOf}
 use Rattle.tree.specs.Whole.{wholeOf}
 use Rattle.drive.specs.declared.Drive.{Drive}
-use Rattle.drive.specs.Drive.{shapeOf, isChanging, counterTop}
+use Rattle.drive.specs.declared.State.{State}
+use Rattle.drive.specs.declared.State.the-variants.{Steady, Changing}
+use Rattle.drive.specs.Drive.{shapeOf, isChanging, keptOld, zeros, counterTop}
 use Rattle.drive.specs.Opening.{openingOf}
 use Rattle.nuggets.specs.Tests.{flakesOf, pathFor}
 use Rattle.nuggets.specs.Touched.{fitsIn}
 use Rattle.reports.specs.Counts.{isMoved}
 use Rattle.reports.proofs.Exact.{many-not}
-use Rattle.changes.specs.Change.{idles, nuggetChange, testedTo}
+use Rattle.changes.specs.Change.{idles, nuggetChange, testedTo, advanced}
 use Rattle.changes.specs.Write.{writeWay, writeAnswer}
-use Rattle.changes.specs.Rekey.{beginAnswer, sweepAnswer, leftIn, finishAnswer}
+use Rattle.changes.specs.Rekey.{beginAnswer, begunDrive, sweepAnswer, leftIn, finishAnswer, finishedDrive}
 
 -- every test that could call drive or volume altered passes
 pub record Clean (d : Drive) (v : List ℕ) : Type 0 where
@@ -109,3 +112,24 @@ module _ (d : Drive) (v : List ℕ) (x : Clean d v) where
       ≡ pick (isChanging (d .state)) (pick (ltb 0 left) (A.Left left) (pick (eqb (d .counter) (2 ^ 64 - 1)) A.CounterTop A.Accepted)) A.State
   unfolding finishAnswer andThen
   finish-exact = yes _ (ap accepts (x .opens)) (rw (x .whole, left-counted) refl)
+
+-- "Begin takes a new secret: state changing, epoch plus 1, the old secret kept."
+pub begun-makes : (d : Drive) (secret : List ℕ) → let e = begunDrive d secret in
+    (isChanging (e .state) ≡ true) × (e .epoch ≡ d .epoch + 1) × (e .counter ≡ d .counter + 1) × (e .present ≡ secret) × (e .old ≡ d .present)
+unfolding begunDrive
+begun-makes d secret = (refl, refl, refl, refl, refl)
+
+-- "Finish makes the state steady"
+pub finished-makes : (d : Drive) → let e = finishedDrive d in
+    (isChanging (e .state) ≡ false) × (e .epoch ≡ d .epoch) × (e .counter ≡ d .counter + 1) × (e .present ≡ d .present)
+unfolding finishedDrive
+finished-makes d = (refl, refl, refl, refl)
+
+-- "In a steady drive the old secret isn't looked at; an accepted change or mount leaves zeros there."
+steady-kept : (s : State) (old : List ℕ) → isChanging s ≡ false → keptOld s old ≡ zeros 32
+steady-kept Steady old e = refl
+steady-kept (Changing left) old e = absurd (clash refl e)
+
+pub advanced-old : (d : Drive) (w : List ℕ) → isChanging (d .state) ≡ false → advanced d w .old ≡ zeros 32
+unfolding advanced
+advanced-old d w steady = steady-kept (d .state) (d .old) steady

@@ -17,7 +17,8 @@ use Rattle.tree.specs.Path.{recordOf}
 use Rattle.drive.specs.declared.Drive.{Drive}
 use Rattle.drive.specs.Drive.{isChanging}
 use Rattle.changes.specs.Change.{advanced}
-use Rattle.changes.specs.Rekey.{begunDrive, finishedDrive}
+use Rattle.changes.specs.Rekey.{begunDrive}
+use Rattle.changes.proofs.Exact.{begun-makes, finished-makes}
 use Rattle.history.specs.World.{World, Call, begin, sweep, finish}
 use Rattle.history.specs.Step.{answerTo, step}
 use Rattle.history.specs.History.{run, history}
@@ -120,14 +121,15 @@ module _ (w : World) (x : Sound w) (begun : changing w ≡ true) (room : w .driv
 
   -- the sweeps and the finish
   pub rest-accepted : (allAccepted w (restOf w) ≡ true) × (changing (run w (restOf w)) ≡ false)
-  unfolding allAccepted run finishedDrive
+  unfolding allAccepted run
   rest-accepted =
       let (g, all) = swept (w .drive .n) (omega arith) in
       let u = run w (sweepsOf w (w .drive .n)) in
       let none : nuggetsLeft u ≡ 0 = many-none (u .drive .n) (isLeft u) (λ i l. ap not (eq-eqb (recordOf (u .vol) i .epoch) (u .drive .epoch) (g .done i (rw (g .shape) at l) ∙ sym (g .epoch)))) in
       let ok = finish-accepted u (g .sounds) (omega (arith, g .counter, room)) (g .begun) none in (
         accepted-append w (sweepsOf w (w .drive .n)) (finish ∷ []) ∙ both-on all (both-on (ap accepts ok) refl),
-        ap changing (run-append w (sweepsOf w (w .drive .n)) (finish ∷ [])) ∙ ap (λ (d : Drive). isChanging (d .state)) (finish-leaves u (g .sounds) ok),
+        ap changing (run-append w (sweepsOf w (w .drive .n)) (finish ∷ [])) ∙ ap (λ (d : Drive). isChanging (d .state)) (finish-leaves u (g .sounds) ok)
+            ∙ finished-makes (u .drive) .0,
       )
 
 -- secrets that differ
@@ -156,6 +158,6 @@ completes start calls secret room fit = go (changing w) refl
         let leaves = begin-leaves w x secret ok in
         let u = step w (begin secret) in
         let n-is : u .drive .n ≡ w .drive .n = ap (λ (d : Drive). d .n) leaves in
-        let counter-is : u .drive .counter ≡ w .drive .counter + 1 = ap (λ (d : Drive). d .counter) leaves in
-        let (all, steady) = rest-accepted u (step-sound w (begin secret) x) (ap (λ (d : Drive). isChanging (d .state)) leaves) (omega (arith, n-is, counter-is, room)) in
+        let counter-is : u .drive .counter ≡ w .drive .counter + 1 = ap (λ (d : Drive). d .counter) leaves ∙ begun-makes (w .drive) secret .2 in
+        let (all, steady) = rest-accepted u (step-sound w (begin secret) x) (ap (λ (d : Drive). isChanging (d .state)) leaves ∙ begun-makes (w .drive) secret .0) (omega (arith, n-is, counter-is, room)) in
         (both-on (ap accepts ok) all, steady)

@@ -173,7 +173,7 @@ pub record Collision (key other message : List ℕ) : Type 0 where
   pub agree : blake2s key message ≡ blake2s other message
 
 -- While changing it is needed, even with nothing left: a mount with another one is refused with 5, or else the two are a
--- collision over the check's message. So a share of 100.00 isn't leave to destroy it; only an accepted finish is.
+-- collision over the check's message: `O`, salt, head epoch. So a share of 100.00 isn't leave to destroy it; only an accepted finish is.
 abbrev pub OldSecretNeeded : Type 0
 OldSecretNeeded =
     (start : Start) (calls : List Call) (other : List ℕ)

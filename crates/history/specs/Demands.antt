@@ -1,4 +1,4 @@
--- The demands as theorems over every history. Each is proved, under the same name in small letters, in proofs/Demands.antt.
+-- The demands as theorems over every history. Each is proved, under the same name in small letters, in proofs/.
 use Prim.Native.Nat.{ℕ, _+_, _<_, _≤_}
 use mathlib.Core.Path.{_≡_}
 use mathlib.Core.Bool.{true, false}
