@@ -15,7 +15,7 @@ use Rattle.layout.specs.declared.Shape.{Shape}
 use Rattle.layout.specs.Shape.{shape, inLimits, heightOf, heightFrom}
 use Rattle.layout.specs.Parts.{lengthOf}
 use Rattle.drive.specs.declared.Drive.{Drive}
-use Rattle.drive.specs.Drive.{shapeOf, isChanging, zeros, counterTop}
+use Rattle.drive.specs.Drive.{shapeOf, zeros, counterTop}
 use Rattle.drive.specs.Opening.{openingOf}
 use Rattle.drive.proofs.OpeningLaws.{blank-form, blank-limits}
 use Rattle.opening.specs.Format.{formatAnswer, freshDrive}
@@ -30,7 +30,7 @@ use Rattle.changes.specs.Rekey.{beginAnswer, sweepAnswer, finishAnswer}
 use Rattle.history.specs.World.{World, Call, mount, read, write, begin, sweep, finish, report, stored}
 use Rattle.history.specs.Step.{answerTo, step}
 use Rattle.history.specs.History.{Start, begun, run, history, among}
-use Rattle.history.specs.Answers.{changing, isMoved, isLeft, nuggetsLeft, Columns, columns, columnsOf, columnsAfter, allAccepted, reportOn}
+use Rattle.history.specs.Answers.{changing, hasMoved, isLeft, nuggetsLeft, Columns, columns, columnsOf, columnsAfter, allAccepted, reportOn}
 use Rattle.history.proofs.Counts.{many-none}
 use Rattle.history.proofs.Sound.{Sound}
 use Rattle.history.proofs.Steps.{start-sound, begun-drive, step-sound, sound, mount-same}
@@ -39,7 +39,7 @@ use Rattle.history.proofs.Written.{write-accepted}
 use Rattle.history.proofs.Counters.{run-base}
 use Rattle.history.proofs.Demands.{shape-kept, reads-back, written-last, share-full}
 use Rattle.history.proofs.Moves.{begin-accepted, sweep-accepted, finish-accepted, begin-moves-none, swept-own}
-use Rattle.history.proofs.Columns.{follows}
+use Rattle.history.proofs.Columns.{follows, columns-start}
 use Rattle.history.proofs.Told.{report-tells}
 use Rattle.history.proofs.Old.{old-secret-needed}
 use Rattle.assurances.specs.Example.{secretOf, example, Example, FullIsNotFree, takesDrive, BlankRefused, StoredShows}
@@ -173,7 +173,7 @@ module _ (w : World) (x : At w (columns false 1 1 (secretOf 0))) where
       only : (i : ℕ) → i < 1 → i ≡ 0
       only i l = omega arith
 
-      moved : isMoved w₃ 0 ≡ true
+      moved : hasMoved w₃ 0 ≡ true
       moved = eq-eqb (recordOf (w₃ .vol) 0 .epoch) (w₃ .drive .epoch) (swept-own w₂ (x₂ .sounds) 0 ok₃ ∙ epoch-is w₂ k₂ x₂ ∙ sym (epoch-is w₃ k₃ x₃))
 
   ok₄ : answerTo w₃ finish ≡ A.Accepted
@@ -227,14 +227,8 @@ fresh =
     }
 
 at-start : At (begun fresh) (columns false 1 1 (secretOf 0))
-unfolding begun freshDrive fresh
-at-start =
-    let d = begun-drive fresh in
-    record {
-      sounds = start-sound fresh;
-      shaped = ap shapeOf d;
-      tells = λ i. columns (isChanging (d i .state)) (d i .epoch) (d i .counter) (secretOf 0);
-    }
+unfolding freshDrive fresh
+at-start = record { sounds = start-sound fresh; shaped = ap shapeOf (begun-drive fresh); tells = columns-start fresh }
 
 reads : let w = history fresh example in
     readBuffer (w .drive) (w .vol) 63 (0 ∷ 0 ∷ 0 ∷ []) ≡ bytes

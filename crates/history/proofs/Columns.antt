@@ -13,16 +13,18 @@ use Rattle.base.proofs.PickLaws.{told}
 use Rattle.answers.specs.Numbers.{accepts}
 use Rattle.records.specs.Journal.{many}
 use Rattle.drive.specs.declared.Drive.{Drive}
+use Rattle.drive.specs.Drive.{isChanging}
+use Rattle.opening.specs.Format.{freshDrive}
 use Rattle.changes.specs.Change.{advanced}
 use Rattle.changes.specs.Write.{writeAnswer, writeDone}
 use Rattle.changes.specs.Rekey.{beginAnswer, begunDrive, beginDone, sweepAnswer, sweepDone, finishAnswer, finishedDrive, finishDone}
 use Rattle.history.specs.World.{World, Call, mount, read, write, begin, sweep, finish, report, stored}
 use Rattle.history.specs.Step.{answerTo, left, step}
-use Rattle.history.specs.History.{history}
-use Rattle.history.specs.Answers.{changing, isLeft, Columns, columns, columnsOf, columnsAfter, ColumnsFollow, BeginLeavesAll}
+use Rattle.history.specs.History.{begun, history}
+use Rattle.history.specs.Answers.{changing, isLeft, Columns, columns, columnsOf, columnsAfter, ColumnsStart, ColumnsFollow, BeginLeavesAll}
 use Rattle.history.proofs.Counts.{many-full}
 use Rattle.history.proofs.Sound.{Sound}
-use Rattle.history.proofs.Steps.{sound, mount-same}
+use Rattle.history.proofs.Steps.{begun-drive, sound, mount-same}
 use Rattle.history.proofs.Moves.{begin-leaves, begin-moves-none}
 
 either-way : (b : Bool) (k : Columns) → k ≡ pick b k k
@@ -83,6 +85,12 @@ module _ (w : World) where
   follows x finish = finish-follows
   follows x report = either-way (accepts (answerTo w report)) (columnsOf w)
   follows x (stored n f) = either-way (accepts (answerTo w (stored n f))) (columnsOf w)
+
+pub columns-start : ColumnsStart
+unfolding begun freshDrive
+columns-start start =
+    let d = begun-drive start in
+    λ i. columns (isChanging (d i .state)) (d i .epoch) (d i .counter) (start .secret)
 
 pub columns-follow : ColumnsFollow
 columns-follow start calls c = follows (history start calls) (sound start calls) c

@@ -22,7 +22,7 @@ use Rattle.changes.proofs.Exact.{begun-makes, finished-makes}
 use Rattle.history.specs.World.{World, Call, begin, sweep, finish}
 use Rattle.history.specs.Step.{answerTo, step}
 use Rattle.history.specs.History.{run, history}
-use Rattle.history.specs.Answers.{changing, isMoved, isLeft, nuggetsLeft, allAccepted, sweepsOf, restOf, Completes}
+use Rattle.history.specs.Answers.{changing, hasMoved, isLeft, nuggetsLeft, allAccepted, sweepsLeft, toFinish, Completes}
 use Rattle.history.proofs.Counts.{many-none}
 use Rattle.history.proofs.Sound.{Sound}
 use Rattle.history.proofs.Steps.{step-sound, sound}
@@ -73,7 +73,7 @@ one-swept w u k h g e =
         swept-other u (g .sounds) k e m (rw (g .shape) (omega (arith, l, h))) far ∙ g .done m (omega (arith, l, far))
 
 -- a nugget that had moved before
-none-swept : (w u : World) (k : ℕ) → isMoved w k ≡ true → k < w .drive .n → Swept w k u → Swept w (suc k) u
+none-swept : (w u : World) (k : ℕ) → hasMoved w k ≡ true → k < w .drive .n → Swept w k u → Swept w (suc k) u
 none-swept w u k moved h g =
     record {
       sounds = g .sounds;
@@ -90,8 +90,8 @@ none-swept w u k moved h g =
     go m l (inr q) = g .done m (omega (arith, l, eqb-false m k q))
 
 module _ (w : World) (x : Sound w) (begun : changing w ≡ true) (room : w .drive .counter + w .drive .n + 1 < 2 ^ 64) where
-  swept : (k : ℕ) → k ≤ w .drive .n → Swept w k (run w (sweepsOf w k)) × (allAccepted w (sweepsOf w k) ≡ true)
-  unfolding sweepsOf allAccepted run
+  swept : (k : ℕ) → k ≤ w .drive .n → Swept w k (run w (sweepsLeft w k)) × (allAccepted w (sweepsLeft w k) ≡ true)
+  unfolding sweepsLeft allAccepted run
   swept zero h = (
     record {
       sounds = x;
@@ -106,29 +106,29 @@ module _ (w : World) (x : Sound w) (begun : changing w ≡ true) (room : w .driv
   )
   swept (suc k) h = next (swept k (omega arith)) (isLeft w k) refl
     where
-      next : Swept w k (run w (sweepsOf w k)) × (allAccepted w (sweepsOf w k) ≡ true) → (b : Bool) → isLeft w k ≡ b
-          → Swept w (suc k) (run w (sweepsOf w k ++ pick b (sweep k ∷ []) [])) × (allAccepted w (sweepsOf w k ++ pick b (sweep k ∷ []) []) ≡ true)
+      next : Swept w k (run w (sweepsLeft w k)) × (allAccepted w (sweepsLeft w k) ≡ true) → (b : Bool) → isLeft w k ≡ b
+          → Swept w (suc k) (run w (sweepsLeft w k ++ pick b (sweep k ∷ []) [])) × (allAccepted w (sweepsLeft w k ++ pick b (sweep k ∷ []) []) ≡ true)
       next (g, all) true e =
-          let u = run w (sweepsOf w k) in
+          let u = run w (sweepsLeft w k) in
           let here : k < u .drive .n = rw (g .shape) h in
-          let same-epoch = eqb-false (recordOf (w .vol) k .epoch) (w .drive .epoch) (not-true (isMoved w k) e) in
-          let still : isMoved u k ≡ false = ne-eqb (recordOf (u .vol) k .epoch) (u .drive .epoch) (λ z. same-epoch (sym (g .rest k (omega arith) h) ∙ z ∙ g .epoch)) in
+          let same-epoch = eqb-false (recordOf (w .vol) k .epoch) (w .drive .epoch) (not-true (hasMoved w k) e) in
+          let still : hasMoved u k ≡ false = ne-eqb (recordOf (u .vol) k .epoch) (u .drive .epoch) (λ z. same-epoch (sym (g .rest k (omega arith) h) ∙ z ∙ g .epoch)) in
           let ok = sweep-accepted u (g .sounds) (omega (arith, g .counter, room, h)) k (g .begun) here still in (
-            rw (run-append w (sweepsOf w k) (sweep k ∷ [])) (one-swept w u k h g ok),
-            accepted-append w (sweepsOf w k) (sweep k ∷ []) ∙ both-on all (both-on (ap accepts ok) refl),
+            rw (run-append w (sweepsLeft w k) (sweep k ∷ [])) (one-swept w u k h g ok),
+            accepted-append w (sweepsLeft w k) (sweep k ∷ []) ∙ both-on all (both-on (ap accepts ok) refl),
           )
-      next (g, all) false e = rw (append-nil (sweepsOf w k)) (none-swept w (run w (sweepsOf w k)) k (not-false (isMoved w k) e) h g, all)
+      next (g, all) false e = rw (append-nil (sweepsLeft w k)) (none-swept w (run w (sweepsLeft w k)) k (not-false (hasMoved w k) e) h g, all)
 
   -- the sweeps and the finish
-  pub rest-accepted : (allAccepted w (restOf w) ≡ true) × (changing (run w (restOf w)) ≡ false)
+  pub rest-accepted : (allAccepted w (toFinish w) ≡ true) × (changing (run w (toFinish w)) ≡ false)
   unfolding allAccepted run
   rest-accepted =
       let (g, all) = swept (w .drive .n) (omega arith) in
-      let u = run w (sweepsOf w (w .drive .n)) in
+      let u = run w (sweepsLeft w (w .drive .n)) in
       let none : nuggetsLeft u ≡ 0 = many-none (u .drive .n) (isLeft u) (λ i l. ap not (eq-eqb (recordOf (u .vol) i .epoch) (u .drive .epoch) (g .done i (rw (g .shape) at l) ∙ sym (g .epoch)))) in
       let ok = finish-accepted u (g .sounds) (omega (arith, g .counter, room)) (g .begun) none in (
-        accepted-append w (sweepsOf w (w .drive .n)) (finish ∷ []) ∙ both-on all (both-on (ap accepts ok) refl),
-        ap changing (run-append w (sweepsOf w (w .drive .n)) (finish ∷ [])) ∙ ap (λ (d : Drive). isChanging (d .state)) (finish-leaves u (g .sounds) ok)
+        accepted-append w (sweepsLeft w (w .drive .n)) (finish ∷ []) ∙ both-on all (both-on (ap accepts ok) refl),
+        ap changing (run-append w (sweepsLeft w (w .drive .n)) (finish ∷ [])) ∙ ap (λ (d : Drive). isChanging (d .state)) (finish-leaves u (g .sounds) ok)
             ∙ finished-makes (u .drive) .0,
       )
 
@@ -148,8 +148,8 @@ completes start calls secret room fit = go (changing w) refl
     w = history start calls
 
     go : (b : Bool) → changing w ≡ b
-        → (allAccepted w (pick b (restOf w) (begin secret ∷ restOf (step w (begin secret)))) ≡ true)
-        × (changing (run w (pick b (restOf w) (begin secret ∷ restOf (step w (begin secret))))) ≡ false)
+        → (allAccepted w (pick b (toFinish w) (begin secret ∷ toFinish (step w (begin secret)))) ≡ true)
+        × (changing (run w (pick b (toFinish w) (begin secret ∷ toFinish (step w (begin secret))))) ≡ false)
     go true e = rest-accepted w (sound start calls) e (omega (arith, room))
     go false e =
         let x = sound start calls in

@@ -21,7 +21,7 @@ use Rattle.changes.proofs.SettleLaws.{settled-record}
 use Rattle.changes.proofs.SweepLaws.{way-own, way-other}
 use Rattle.history.specs.World.{World, begin, sweep, finish}
 use Rattle.history.specs.Step.{answerTo, left, step}
-use Rattle.history.specs.Answers.{changing, isMoved, nuggetsLeft}
+use Rattle.history.specs.Answers.{changing, hasMoved, nuggetsLeft}
 use Rattle.history.proofs.Taken.{begins, Sweeps, sweeps}
 use Rattle.history.proofs.Sound.{Sound}
 use Rattle.history.proofs.Ways.{swept-turns}
@@ -35,7 +35,7 @@ module _ (w : World) (x : Sound w) where
         ∙ no _ steady
         (no _ new (no _ (ne-eqb (w .drive .epoch) epochTop (λ e. omega (arith, e, early))) (no _ (ne-eqb (w .drive .counter) counterTop (λ e. omega (arith, e, low))) refl)))
 
-    pub sweep-accepted : (n : ℕ) → changing w ≡ true → n < w .drive .n → isMoved w n ≡ false → answerTo w (sweep n) ≡ A.Accepted
+    pub sweep-accepted : (n : ℕ) → changing w ≡ true → n < w .drive .n → hasMoved w n ≡ false → answerTo w (sweep n) ≡ A.Accepted
     sweep-accepted n begun inside still =
         exactly w x (sweep n)
         ∙ yes _ begun (yes _ (lt-ltb n (w .drive .n) inside) (no _ still (no _ (ne-eqb (w .drive .counter) counterTop (λ e. omega (arith, e, low))) refl)))
@@ -60,7 +60,7 @@ module _ (w : World) (x : Sound w) where
       go (inr e) = absurd (clash (e .0) steady)
 
   -- so after a begin none has moved
-  pub begin-moves-none : (secret : List ℕ) → answerTo w (begin secret) ≡ A.Accepted → (n : ℕ) → n < w .drive .n → isMoved (step w (begin secret)) n ≡ false
+  pub begin-moves-none : (secret : List ℕ) → answerTo w (begin secret) ≡ A.Accepted → (n : ℕ) → n < w .drive .n → hasMoved (step w (begin secret)) n ≡ false
   unfolding step left beginVolume beginDone begunDrive
   begin-moves-none secret e n h =
       let taken : accepts (beginAnswer (w .drive) (w .vol) secret) ≡ true = ap accepts e in

@@ -21,7 +21,7 @@ use Rattle.history.specs.World.{World, Call, mount, read, write, begin, 
 use Rattle.history.specs.Step.{answerTo}
 use Rattle.history.specs.History.{history}
 use Rattle.history.specs.Demands.{NoFalseAlarm}
-use Rattle.history.specs.Answers.{changing, isMoved, nuggetsLeft, counterFull, within, due, AnswersExactly}
+use Rattle.history.specs.Answers.{changing, hasMoved, nuggetsLeft, counterFull, inRange, due, AnswersExactly}
 use Rattle.history.proofs.Quiet.{path-quiet, whole-quiet, flakes-quiet, nugget-read, report-accepts}
 use Rattle.history.proofs.Sound.{Sound}
 use Rattle.history.proofs.Steps.{sound, mount-back}
@@ -63,9 +63,9 @@ quiet-pick false p q = q
 
 due-quiet : (w : World) (c : Call) → Quiet (due w c)
 due-quiet w (mount any) = inl refl
-due-quiet w (read o buffer) = quiet-pick (within w o (length buffer)) (inl refl) (inr (omega arith))
+due-quiet w (read o buffer) = quiet-pick (inRange w o (length buffer)) (inl refl) (inr (omega arith))
 due-quiet w (write o bytes) =
-    quiet-pick (within w o (length bytes))
+    quiet-pick (inRange w o (length bytes))
     (quiet-pick (eqb (length bytes) 0) (inl refl) (quiet-pick (counterFull w) (inr (omega arith)) (inl refl)))
     (inr (omega arith))
 due-quiet w (begin secret) =
@@ -75,7 +75,7 @@ due-quiet w (begin secret) =
 due-quiet w (sweep n) =
     quiet-pick (changing w)
     (quiet-pick (ltb n (w .drive .n))
-    (quiet-pick (isMoved w n) (inr (omega arith)) (quiet-pick (counterFull w) (inr (omega arith)) (inl refl)))
+    (quiet-pick (hasMoved w n) (inr (omega arith)) (quiet-pick (counterFull w) (inr (omega arith)) (inl refl)))
     (inr (omega arith)))
     (inr (omega arith))
 due-quiet w finish =

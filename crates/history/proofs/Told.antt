@@ -15,7 +15,7 @@ use Rattle.changes.specs.Change.{advanced}
 use Rattle.history.specs.World.{World, sweep}
 use Rattle.history.specs.Step.{answerTo, step}
 use Rattle.history.specs.History.{history}
-use Rattle.history.specs.Answers.{changing, isMoved, Tells, reportOn, ReportTells, SweepMoves}
+use Rattle.history.specs.Answers.{changing, hasMoved, Tells, reportOn, ReportTells, SweepMoves}
 use Rattle.history.proofs.Counts.{many-one}
 use Rattle.history.proofs.Quiet.{report-accepts}
 use Rattle.history.proofs.Sound.{Sound}
@@ -41,11 +41,11 @@ report-tells start calls = tells (history start calls) (sound start calls)
 
 module _ (w : World) (x : Sound w) (n : ℕ) (e : answerTo w (sweep n) ≡ A.Accepted) where
   -- it wasn't moved
-  still : isMoved w n ≡ false
+  still : hasMoved w n ≡ false
   still =
       let t₁ = passed (changing w) _ A.State refl (ap accepts (sym (exactly w x (sweep n)) ∙ e)) in
       let t₂ = passed (ltb n (w .drive .n)) _ A.PastEnd refl (t₁ .1) in
-      spared (isMoved w n) A.Moved _ refl (t₂ .1) .0
+      spared (hasMoved w n) A.Moved _ refl (t₂ .1) .0
 
   epoch-kept : step w (sweep n) .drive .epoch ≡ w .drive .epoch
   unfolding advanced
@@ -55,16 +55,16 @@ module _ (w : World) (x : Sound w) (n : ℕ) (e : answerTo w (sweep n) ≡ A.Acc
   unfolding advanced
   n-kept = ap (λ (d : Drive). d .n) (sweep-leaves w x n e)
 
-  moves : many (w .drive .n) (isMoved (step w (sweep n))) ≡ many (w .drive .n) (isMoved w) + 1
+  moves : many (w .drive .n) (hasMoved (step w (sweep n))) ≡ many (w .drive .n) (hasMoved w) + 1
   moves =
-      many-one (w .drive .n) (isMoved w) (isMoved (step w (sweep n))) n (sweep-tells w x n e .inside) still
+      many-one (w .drive .n) (hasMoved w) (hasMoved (step w (sweep n))) n (sweep-tells w x n e .inside) still
       (eq-eqb (recordOf (step w (sweep n) .vol) n .epoch) (step w (sweep n) .drive .epoch) (swept-own w x n e ∙ sym epoch-kept))
       (λ i a b. rw (swept-other w x n e i a b, epoch-kept) refl)
 
   sweep-raises : reportOn (step w (sweep n)) .moved ≡ reportOn w .moved + 1
   sweep-raises =
       tells (step w (sweep n)) (step-sound w (sweep n) x) .moved
-      ∙ ap (λ (k : ℕ). many k (isMoved (step w (sweep n)))) n-kept
+      ∙ ap (λ (k : ℕ). many k (hasMoved (step w (sweep n)))) n-kept
       ∙ moves
       ∙ ap (λ (k : ℕ). k + 1) (sym (tells w x .moved))
 

@@ -26,7 +26,7 @@ use Rattle.ledger.specs.Listing.{lastOf}
 use Rattle.ledger.specs.Totals.{sum}
 use Rattle.history.specs.World.{World, Call, mount, read, write, begin, sweep, finish, report, stored}
 use Rattle.history.specs.Step.{answerTo, step}
-use Rattle.history.specs.History.{Start, run, history}
+use Rattle.history.specs.History.{Start, begun, run, history}
 
 infixr 10 _if_else_ _unless_else_
 -- A line of the tables below: an answer, and when it is due. The first that is due is given.
@@ -41,11 +41,11 @@ abbrev pub changing : World → Bool
 changing w = isChanging (w .drive .state)
 
 -- "moved (epoch equal to the head's)", and left: not so
-abbrev pub isMoved : World → ℕ → Bool
-isMoved w n = eqb (recordOf (w .vol) n .epoch) (w .drive .epoch)
+abbrev pub hasMoved : World → ℕ → Bool
+hasMoved w n = eqb (recordOf (w .vol) n .epoch) (w .drive .epoch)
 
 abbrev pub isLeft : World → ℕ → Bool
-isLeft w n = not (isMoved w n)
+isLeft w n = not (hasMoved w n)
 
 -- nuggets left, of all N
 abbrev pub nuggetsLeft : World → ℕ
@@ -56,16 +56,16 @@ abbrev pub counterFull : World → Bool
 counterFull w = eqb (w .drive .counter) (2 ^ 64 - 1)
 
 -- the range lies within the N P F bytes of the drive
-abbrev pub within : World → ℕ → ℕ → Bool
-within w o len = leb (o + len) (w .drive .n * w .drive .p * w .drive .f)
+abbrev pub inRange : World → ℕ → ℕ → Bool
+inRange w o len = leb (o + len) (w .drive .n * w .drive .p * w .drive .f)
 
 -- The table. 8: past the end; 9: not in this state; 10: the same secret; 11: nuggets left; 12: moved; 13: counter at its top;
 -- 15: epoch at its top. 1 to 7 aren't in it, nor is 14: no keycount is above the counter, so 13 comes first.
 abbrev pub due : World → Call → Answer
 due w (mount any) = A.Accepted
-due w (read o buffer) = A.PastEnd unless within w o (length buffer) else A.Accepted
+due w (read o buffer) = A.PastEnd unless inRange w o (length buffer) else A.Accepted
 due w (write o bytes) =
-    A.PastEnd unless within w o (length bytes)
+    A.PastEnd unless inRange w o (length bytes)
     else A.Accepted if eqb (length bytes) 0
     else A.CounterTop if counterFull w
     else A.Accepted
@@ -78,7 +78,7 @@ due w (begin secret) =
 due w (sweep n) =
     A.State unless changing w
     else A.PastEnd unless ltb n (w .drive .n)
-    else A.Moved if isMoved w n
+    else A.Moved if hasMoved w n
     else A.CounterTop if counterFull w
     else A.Accepted
 due w finish =
@@ -117,7 +117,11 @@ columnsAfter k finish = columns false (k .epoch) (k .counter + 1) (k .secret)
 columnsAfter k report = k
 columnsAfter k (stored n f) = k
 
--- They follow from the calls that were accepted: a refused call changes none of them, an accepted one as above.
+-- "epochs are 1; the counter is the outside value plus 1"
+abbrev pub ColumnsStart : Type 0
+ColumnsStart = (start : Start) → columnsOf (begun start) ≡ columns false 1 (start .outside + 1) (start .secret)
+
+-- From there they follow from the calls that were accepted: a refused call changes none of them, an accepted one as above.
 abbrev pub ColumnsFollow : Type 0
 ColumnsFollow =
     (start : Start) (calls : List Call) (c : Call)
@@ -137,16 +141,16 @@ allAccepted w [] = true
 allAccepted w (c ∷ calls) = both (accepts (answerTo w c)) (allAccepted (step w c) calls)
 
 -- a sweep of each nugget below k that is left
-unfoldable pub sweepsOf : World → ℕ → List Call
-sweepsOf w zero = []
-sweepsOf w (suc k) = sweepsOf w k ++ pick (isLeft w k) (sweep k ∷ []) []
+unfoldable pub sweepsLeft : World → ℕ → List Call
+sweepsLeft w zero = []
+sweepsLeft w (suc k) = sweepsLeft w k ++ pick (isLeft w k) (sweep k ∷ []) []
 
 -- what is to be done until the old secret may go: begin if it isn't begun, a sweep of each nugget left, finish
-abbrev pub restOf : World → List Call
-restOf w = sweepsOf w (w .drive .n) ++ (finish ∷ [])
+abbrev pub toFinish : World → List Call
+toFinish w = sweepsLeft w (w .drive .n) ++ (finish ∷ [])
 
 abbrev pub changeTo : List ℕ → World → List Call
-changeTo secret w = pick (changing w) (restOf w) (begin secret ∷ restOf (step w (begin secret)))
+changeTo secret w = pick (changing w) (toFinish w) (begin secret ∷ toFinish (step w (begin secret)))
 
 -- From any point of a history with room in counter and epoch a change of the secret comes to its end: all its calls are
 -- accepted, and then the drive is steady.
@@ -185,7 +189,7 @@ OldSecretNeeded =
 pub record Tells (w : World) (r : Report) : Type 0 where
   pub accepted : r .answer ≡ A.Accepted
   pub nuggets : r .n ≡ w .drive .n
-  pub moved : r .moved ≡ many (w .drive .n) (isMoved w)
+  pub moved : r .moved ≡ many (w .drive .n) (hasMoved w)
   pub left : r .left ≡ nuggetsLeft w
   pub flakes : r .flakes ≡ sum (w .drive .n) (λ n. many (w .drive .p) (bit (recordOf (w .vol) n .journal)))
   pub share : r .share ≡ r .moved * 10000 / r .n
