@@ -108,13 +108,13 @@ static void measure(const Line *line, double least[SIDES]) {
 
 static void tell(const Line *line, const double least[SIDES]) {
     double mb = 1e-6 * SIZE * CALLS;
-    printf("%-9s ", line->what);
+    printf("%-10s", line->what);
     for (int i = PROVED; i <= HERE; i++) {
-        printf(" %5.0f  %.2f", mb / least[i], least[PEER] / least[i]);
-        line->sides[OPENSSL] ? printf("  %.2f   ", least[OPENSSL] / least[i]) : printf("     -   ");
+        printf("%6.0f%6.2f", mb / least[i], least[PEER] / least[i]);
+        line->sides[OPENSSL] ? printf("%12.2f", least[OPENSSL] / least[i]) : printf("%12s", "-");
     }
-    printf(" %5.0f   ", mb / least[PEER]);
-    line->sides[OPENSSL] ? printf("%5.0f\n", mb / least[OPENSSL]) : printf("    -\n");
+    printf("%9.0f", mb / least[PEER]);
+    line->sides[OPENSSL] ? printf("%9.0f\n", mb / least[OPENSSL]) : printf("%9s\n", "-");
 }
 
 int main(void) {
@@ -123,8 +123,8 @@ int main(void) {
     check(SIZE);
     printf("equal at 0 to 1,100 and at %d bytes; %d-byte buffers, warm, least of %d rounds of %d calls; MB/s and ratios\n", SIZE, SIZE, ROUNDS, CALLS);
     printf("OpenSSL: %s\n", OPENSSL_SAYS);
-    printf("           proved, as built        for this processor     plain C  OpenSSL\n");
-    printf("            MB/s  of C  of OpenSSL  MB/s  of C  of OpenSSL  MB/s   MB/s\n");
+    printf("%-10s%24s%24s%9s%9s\n", "", "proved, as built", "for this processor", "plain C", "OpenSSL");
+    printf("%-10s%6s%6s%12s%6s%6s%12s%9s%9s\n", "", "MB/s", "of C", "of OpenSSL", "MB/s", "of C", "of OpenSSL", "MB/s", "MB/s");
     int lost = 0;
     for (size_t i = 0; i < sizeof lines / sizeof lines[0]; i++) {
         double least[SIDES];

@@ -90,10 +90,10 @@ static void read_pass(const Volumes *v, Least *least) {
 
 static void tell(const char *what, const Least *t) {
     double mb = 1e-6 * SLICE * PIECE;
-    printf("%-9s ", what);
+    printf("%-10s", what);
     for (int i = PROVED; i <= HERE; i++)
-        printf("  %4.0f  %.2f  %.2f   ", mb / t->of[i], t->of[PEER] / t->of[i], t->of[OPENING] / t->of[i]);
-    printf("  %4.0f    %4.0f\n", mb / t->of[PEER], mb / t->of[OPENING]);
+        printf("%6.0f%6.2f%12.2f", mb / t->of[i], t->of[PEER] / t->of[i], t->of[OPENING] / t->of[i]);
+    printf("%9.0f%9.0f\n", mb / t->of[PEER], mb / t->of[OPENING]);
 }
 
 static void throughput(void) {
@@ -106,9 +106,9 @@ static void throughput(void) {
         write_pass(&v, 2 * i + 1, &over);
         read_pass(&v, &back);
     }
-    printf("N %u, P %u, F %u, 64 KiB at a time in order; all volumes equal to the byte\n", v.n, v.p, v.f);
-    printf("            proved, as built       for this processor     plain C, scalar\n");
-    printf("            MB/s  of C  of opening  MB/s  of C  of opening  MB/s  opening every flake\n");
+    printf("N %u, P %u, F %u, 64 KiB at a time in order; all volumes equal to the byte; opening: the peer that opens every flake\n", v.n, v.p, v.f);
+    printf("%-10s%24s%24s%9s%9s\n", "", "proved, as built", "for this processor", "C", "opening");
+    printf("%-10s%6s%6s%12s%6s%6s%12s%9s%9s\n", "", "MB/s", "of C", "of opening", "MB/s", "of C", "of opening", "MB/s", "MB/s");
     tell("first", &first), tell("overwrite", &over), tell("read", &back);
     release(&v);
 }
@@ -140,9 +140,9 @@ static void small_writes(uint32_t n, Least *first, Least *over) {
 }
 
 static void tell_growth(const char *what, const Least *few, const Least *many) {
-    printf("%-9s ", what);
+    printf("%-10s", what);
     for (int i = PROVED; i <= PEER; i++)
-        printf("  %5.1f  %5.1f  (%.2f) ", 1e6 * few->of[i] / BATCH, 1e6 * many->of[i] / BATCH, many->of[i] / few->of[i]);
+        printf("%8.1f%8.1f  (%.2f)", 1e6 * few->of[i] / BATCH, 1e6 * many->of[i] / BATCH, many->of[i] / few->of[i]);
     printf("\n");
 }
 
@@ -152,7 +152,7 @@ static void growth(void) {
     small_writes(16, &few_first, &few_over);
     small_writes(16384, &many_first, &many_over);
     printf("a write of 4 KiB, P 1, F 4096, in microseconds at N 16 and at N 16,384, and their ratio\n");
-    printf("            proved, as built       for this processor     plain C\n");
+    printf("%-10s%24s%24s%24s\n", "", "proved, as built", "for this processor", "plain C");
     tell_growth("first", &few_first, &many_first), tell_growth("overwrite", &few_over, &many_over);
 }
 
