@@ -4,9 +4,8 @@ use Prim.Native.Nat.{ℕ}
 use mathlib.Core.Path.{_≡_}
 use mathlib.Core.Bool.{Bool, true, false}
 use mathlib.Core.Logic.{_⊎_}
-use mathlib.Core.List.{List, [], _∷_, _++_}
+use mathlib.Core.List.{List, [], _∷_}
 use lib.ListN.{replicate}
-use Rattle.words.specs.Le.{le}
 use Rattle.answers.specs.declared.Answer.the-variants as A
 use Rattle.layout.specs.Shape.{shape}
 use Rattle.drive.specs.Drive.{shapeOf, blankDrive}
@@ -17,7 +16,7 @@ use Rattle.reports.specs.Stored.{storedFlake}
 use Rattle.history.specs.World.{World, Call, mount, read, write, begin, sweep, finish, report, stored}
 use Rattle.history.specs.Step.{answerTo}
 use Rattle.history.specs.History.{Start, begun, history}
-use Rattle.history.specs.Answers.{nuggetsLeft, allAccepted, Collision, reportOn}
+use Rattle.history.specs.Answers.{nuggetsLeft, allAccepted, checkedText, Collision, reportOn}
 
 -- a secret of 32 equal bytes
 abbrev pub secretOf : ℕ → List ℕ
@@ -53,7 +52,7 @@ FullIsNotFree =
     × (let w = history start calls in
     (reportOn w .share ≡ 10000) × (nuggetsLeft w ≡ 0)
     × ((other : List ℕ) → (w .old ≡ other → ⊥)
-    → (mountAnswer (w .vol) (w .secret) other (w .outside) ≡ A.OldSecret) ⊎ Collision (w .old) other (79 ∷ (w .drive .salt ++ le 2 (w .drive .epoch)))))
+    → (mountAnswer (w .vol) (w .secret) other (w .outside) ≡ A.OldSecret) ⊎ Collision (w .old) other (checkedText w)))
 
 -- "A refused format or mount returns the blank drive: every field zero, steady; every later call on it gives 1." A mount isn't made on a drive.
 abbrev pub takesDrive : Call → Bool

@@ -1,29 +1,29 @@
--- When the old secret may go, and that it may not before.
+-- What a mount answers to any secrets and counter; when the old secret may go, and that it may not before.
 use mathlib.Core.Path.{_≡_, refl, sym, ap, ap₂, _∙_}
-use mathlib.Core.Bool.{true, false}
+use mathlib.Core.Bool.{true, false, not}
 use mathlib.Core.Logic.{_⊎_, inl, inr}
 use mathlib.Core.List.{List, []}
 use mathlib.Core.Option.{some}
 use Prim.Native.Nat.{ℕ, _<_}
 use lib.ListN.{length}
 use borrow.Author.Tests.{eq-eqb, le-leb}
-use Rattle.base.specs.Lists.{same}
-use Rattle.base.proofs.PickLaws.{yes, no, told, clash}
-use Rattle.base.proofs.FoldLaws.{same-true}
-use Rattle.messages.specs.Messages.{checkMessage}
+use Rattle.base.specs.Pick.{either}
+use Rattle.base.specs.Lists.{part, same}
+use Rattle.base.proofs.PickLaws.{yes, no, told}
+use Rattle.base.proofs.FoldLaws.{same-true, same-refl}
 use Rattle.blake2s.specs.Hash.{blake2s}
 use Rattle.answers.specs.declared.Answer.the-variants as A
 use Rattle.records.specs.Journal.{bit}
 use Rattle.records.specs.Listing.{Entry}
-use Rattle.keys.specs.Keys.{checkOf}
+use Rattle.keys.specs.Keys.{checkOf, sealOf}
 use Rattle.tree.specs.Path.{recordOf}
 use Rattle.drive.specs.declared.Drive.{Drive}
 use Rattle.drive.specs.declared.Done.{Done}
 use Rattle.drive.specs.declared.State.{State}
 use Rattle.drive.specs.declared.State.the-variants.{Steady, Changing}
-use Rattle.drive.specs.Drive.{isChanging, keptOld}
+use Rattle.drive.specs.Drive.{isChanging, keptOld, zeros}
 use Rattle.drive.specs.Head.{checkFor, checkIn}
-use Rattle.opening.specs.Mount.{saltIn, epochIn, checkBytes, openedDrive, sealed, checked, mountAnswer, mountDone}
+use Rattle.opening.specs.Mount.{saltIn, epochIn, checkBytes, sealBytes, openedDrive, sealed, checked, mountAnswer, mountDone}
 use Rattle.opening.proofs.HeadBack.{Opened, opened}
 use Rattle.opening.proofs.Reopens.{drive-back}
 use Rattle.ledger.specs.Ledger.{secretAt, entryAt}
@@ -31,10 +31,10 @@ use Rattle.ledger.specs.Listing.{lastOf}
 use Rattle.history.specs.World.{World}
 use Rattle.history.specs.Step.{oldFor}
 use Rattle.history.specs.History.{history}
-use Rattle.history.specs.Answers.{changing, OldSecretFree, Collision, OldSecretNeeded}
+use Rattle.history.specs.Answers.{changing, sealedText, checkedText, agreeOn, mountDue, OldSecretFree, MountsExactly, Collision, OldSecretNeeded}
 use Rattle.history.proofs.View.{ledgerOf}
 use Rattle.history.proofs.Sound.{Sound}
-use Rattle.history.proofs.Steps.{sound, mount-back}
+use Rattle.history.proofs.Steps.{kept-any, sound, mount-back}
 use Rattle.history.proofs.Moves.{steady-epoch}
 
 pad-present : (w : World) → Sound w → changing w ≡ false → (n f : ℕ) (pad : Entry) → n < w .drive .n → bit (recordOf (w .vol) n .journal) f ≡ true
@@ -52,54 +52,77 @@ old-secret-free start calls steady =
     let x = sound start calls in
     (pad-present w x steady, λ any. rw (no (w .old) steady refl) at (mount-back w x any))
 
--- while changing the check is made with the old secret that is brought
-check-made : (s : State) (other salt : List ℕ) (epoch : ℕ) → isChanging s ≡ true → checkFor s (keptOld s other) salt epoch ≡ checkOf other salt epoch
-check-made Steady other salt epoch e = absurd (clash e refl)
-check-made (Changing left) other salt epoch e = refl
+-- the checks that two old secrets make: the same when steady
+checks-test : (s : State) (a b salt : List ℕ) (epoch : ℕ) → same (checkFor s (keptOld s a) salt epoch) (checkFor s (keptOld s b) salt epoch)
+    ≡ either (not (isChanging s)) (same (checkOf a salt epoch) (checkOf b salt epoch))
+checks-test Steady a b salt epoch = same-refl (zeros 32)
+checks-test (Changing left) a b salt epoch = refl
 
-module _ (w : World) (x : Sound w) (begun : changing w ≡ true) where
-  abbrev message : List ℕ
-  message = checkMessage (w .drive .salt) (w .drive .epoch)
+module _ (w : World) (x : Sound w) where
+  abbrev v : List ℕ
+  v = w .vol
 
-  accepted : mountAnswer (w .vol) (w .secret) (w .old) (w .outside) ≡ A.Accepted
+  abbrev right : Drive
+  right = openedDrive (w .vol) (w .secret) (oldFor w [])
+
+  tests : Opened v right (w .outside)
   unfolding mountDone
-  accepted =
-      let brought : oldFor w [] ≡ w .old = yes [] begun refl in
-      ap (λ (old : List ℕ). mountAnswer (w .vol) (w .secret) old (w .outside)) (sym brought) ∙ ap (λ (done : Done). done .answer) (mount-back w x [])
+  tests = opened v (w .secret) (oldFor w []) (w .outside) (ap (λ (done : Done). done .answer) (mount-back w x []))
 
-  -- the check that the head's bytes and a brought secret make
-  check-brought : (other : List ℕ) → checkIn (openedDrive (w .vol) (w .secret) other) ≡ blake2s other message
-  unfolding openedDrive checkOf
-  check-brought other =
-      let v = w .vol in
-      let back = drive-back (w .drive) v (w .old) (x .handed) (x .untouched .opens) in
-      ap (λ (s : State). checkFor s (keptOld s other) (saltIn v) (epochIn v)) (ap (λ (d : Drive). d .state) back)
-      ∙ check-made (w .drive .state) other (saltIn v) (epochIn v) begun
-      ∙ ap₂ (checkOf other) (ap (λ (d : Drive). d .salt) back) (ap (λ (d : Drive). d .epoch) back)
+  -- the head's bytes make the drive, but for the secrets
+  back : openedDrive v (w .drive .present) (w .old) ≡ w .drive
+  back = drive-back (w .drive) v (w .old) (x .handed) (x .untouched .opens)
 
-  tests : Opened (w .vol) (openedDrive (w .vol) (w .secret) (w .old)) (w .outside)
-  tests = opened (w .vol) (w .secret) (w .old) (w .outside) accepted
+  -- the check that they and a brought secret make
+  check-made : (present old : List ℕ) → checkIn (openedDrive v present old) ≡ checkFor (w .drive .state) (keptOld (w .drive .state) old) (w .drive .salt) (w .drive .epoch)
+  unfolding openedDrive
+  check-made present old =
+      ap (λ (s : State). checkFor s (keptOld s old) (saltIn v) (epochIn v)) (ap (λ (d : Drive). d .state) back)
+      ∙ ap₂ (checkFor (w .drive .state) (keptOld (w .drive .state) old)) (ap (λ (d : Drive). d .salt) back) (ap (λ (d : Drive). d .epoch) back)
 
-  check-stands : checkBytes (w .vol) ≡ blake2s (w .old) message
+  check-stands : checkBytes v ≡ checkFor (w .drive .state) (keptOld (w .drive .state) (w .old)) (w .drive .salt) (w .drive .epoch)
   unfolding checked
-  check-stands = same-true (checkBytes (w .vol)) (checkIn (openedDrive (w .vol) (w .secret) (w .old))) (tests .check) ∙ check-brought (w .old)
+  check-stands =
+      same-true (checkBytes v) (checkIn right) (tests .check)
+      ∙ check-made (w .secret) (oldFor w [])
+      ∙ ap (λ (old : List ℕ). checkFor (w .drive .state) old (w .drive .salt) (w .drive .epoch)) (kept-any (w .drive .state) (w .old) [])
 
-  refused : (other : List ℕ) → same (checkBytes (w .vol)) (blake2s other message) ≡ false → mountAnswer (w .vol) (w .secret) other (w .outside) ≡ A.OldSecret
-  unfolding mountAnswer sealed checked openedDrive
-  refused other e =
-      yes _ (le-leb 104 (length (w .vol)) (tests .head-long))
+  check-test : (present old : List ℕ) → checked (openedDrive v present old) v ≡ either (not (changing w)) (agreeOn (checkedText w) (w .old) old)
+  unfolding checked checkOf
+  check-test present old = ap₂ same check-stands (check-made present old) ∙ checks-test (w .drive .state) (w .old) old (w .drive .salt) (w .drive .epoch)
+
+  node-is : right .node ≡ w .drive .node
+  unfolding openedDrive
+  node-is = ap (λ (d : Drive). d .node) back
+
+  seal-test : (present old : List ℕ) → sealed (openedDrive v present old) v ≡ agreeOn (sealedText w) (w .secret) present
+  unfolding sealed openedDrive sealOf
+  seal-test present old =
+      let stands : sealBytes v ≡ sealOf (w .secret) (part 0 72 v) (right .node) = same-true (sealBytes v) (sealOf (w .secret) (part 0 72 v) (right .node)) (tests .seal) in
+      ap (λ (l : List ℕ). same l (sealOf present (part 0 72 v) (right .node))) stands
+      ∙ ap (λ (n : List ℕ). same (sealOf (w .secret) (part 0 72 v) n) (sealOf present (part 0 72 v) n)) node-is
+
+  mounts : (present old : List ℕ) (outside : ℕ) → mountAnswer v present old outside ≡ mountDue w present old outside
+  unfolding mountAnswer openedDrive
+  mounts present old outside =
+      yes _ (le-leb 104 (length v) (tests .head-long))
       (yes _ (tests .has-mark)
       (yes _ (tests .fits)
       (yes _ (tests .long)
-      (yes _ (tests .seal) (no _ (ap (same (checkBytes (w .vol))) (check-brought other) ∙ e) refl)))))
+      (rw (seal-test present old, check-test present old, tests .counter, tests .whole) refl))))
 
-  needed : (other : List ℕ) → (w .old ≡ other → ⊥) → (mountAnswer (w .vol) (w .secret) other (w .outside) ≡ A.OldSecret) ⊎ Collision (w .old) other message
-  needed other far = go (told (same (checkBytes (w .vol)) (blake2s other message)))
-    where
-      go : (same (checkBytes (w .vol)) (blake2s other message) ≡ true) ⊎ (same (checkBytes (w .vol)) (blake2s other message) ≡ false)
-          → (mountAnswer (w .vol) (w .secret) other (w .outside) ≡ A.OldSecret) ⊎ Collision (w .old) other message
-      go (inl e) = inr (record { differ = far; agree = sym check-stands ∙ same-true (checkBytes (w .vol)) (blake2s other message) e })
-      go (inr e) = inl (refused other e)
+pub mounts-exactly : MountsExactly
+mounts-exactly start calls present old outside = mounts (history start calls) (sound start calls) present old outside
 
 pub old-secret-needed : OldSecretNeeded
-old-secret-needed start calls other begun far = needed (history start calls) (sound start calls) begun other far
+old-secret-needed start calls other begun far = go (told (agreeOn (checkedText w) (w .old) other))
+  where
+    w : World
+    w = history start calls
+
+    go : (agreeOn (checkedText w) (w .old) other ≡ true) ⊎ (agreeOn (checkedText w) (w .old) other ≡ false)
+        → (mountAnswer (w .vol) (w .secret) other (w .outside) ≡ A.OldSecret) ⊎ Collision (w .old) other (checkedText w)
+    go (inl e) = inr (record { differ = far; agree = same-true (blake2s (w .old) (checkedText w)) (blake2s other (checkedText w)) e })
+    go (inr e) =
+        let off : either (not (changing w)) (agreeOn (checkedText w) (w .old) other) ≡ false = rw (begun, e) refl in
+        inl (mounts-exactly start calls (w .secret) other (w .outside) ∙ yes _ (same-refl (blake2s (w .secret) (sealedText w))) (no _ off refl))

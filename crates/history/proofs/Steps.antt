@@ -102,7 +102,7 @@ begun-record x n h =
     let (lent, top) = format-lent (x .shape) (x .outside) (x .given) (ap accepts (x .accepted)) in
     rw (x .accepted) (fresh-record (x .shape) (x .salt) (x .secret) (x .outside) (x .salted) (lent .limited) n h)
 
-kept-any : (s : State) (old any : List ℕ) → keptOld s (pick (isChanging s) old any) ≡ keptOld s old
+pub kept-any : (s : State) (old any : List ℕ) → keptOld s (pick (isChanging s) old any) ≡ keptOld s old
 kept-any Steady old any = refl
 kept-any (Changing epoch) old any = refl
 

@@ -8,9 +8,9 @@ use mathlib.Core.List.{List, [], _∷_, _++_}
 use mathlib.Core.Option.{some}
 use lib.Dec.{eqb, leb, ltb}
 use lib.ListN.{length}
-use Rattle.base.specs.Pick.{pick, both}
-use Rattle.base.specs.Lists.{same}
-use Rattle.messages.specs.Messages.{checkMessage}
+use Rattle.base.specs.Pick.{pick, either, both}
+use Rattle.base.specs.Lists.{part, same}
+use Rattle.messages.specs.Messages.{sealMessage, checkMessage}
 use Rattle.blake2s.specs.Hash.{blake2s}
 use Rattle.answers.specs.declared.Answer.{Answer}
 use Rattle.answers.specs.declared.Answer.the-variants as A
@@ -171,19 +171,46 @@ OldSecretFree =
     → ((n f : ℕ) (pad : Entry) → n < w .drive .n → bit (recordOf (w .vol) n .journal) f ≡ true → lastOf n f (w .listing) ≡ some pad → pad .secret ≡ w .secret)
     × ((any : List ℕ) → mountDone (w .vol) (w .secret) any (w .outside) ≡ record { answer = A.Accepted; drive = w .drive })
 
+-- "Seal: keyed with the present secret, `H`, head bytes 0-71, node 1."
+abbrev pub sealedText : World → List ℕ
+sealedText w = sealMessage (part 0 72 (w .vol)) (w .drive .node)
+
+-- "Old-secret check: keyed with the old secret, `O`, salt, head epoch (2)."
+abbrev pub checkedText : World → List ℕ
+checkedText w = checkMessage (w .drive .salt) (w .drive .epoch)
+
+-- two keys give a message the same BLAKE2s value
+abbrev pub agreeOn : List ℕ → List ℕ → List ℕ → Bool
+agreeOn message a b = same (blake2s a message) (blake2s b message)
+
+-- A mount with any secrets and any outside counter. 4: the present secret is another; 5: while changing, the old one is; 6: the counter is.
+abbrev pub mountDue : World → List ℕ → List ℕ → ℕ → Answer
+mountDue w present old outside =
+    A.Seal unless agreeOn (sealedText w) (w .secret) present
+    else A.OldSecret unless either (not (changing w)) (agreeOn (checkedText w) (w .old) old)
+    else A.Counter unless eqb (w .outside) outside
+    else A.Accepted
+
+-- In every history such a mount answers this, and nothing else.
+abbrev pub MountsExactly : Type 0
+MountsExactly =
+    (start : Start) (calls : List Call) (present old : List ℕ) (outside : ℕ)
+    → let w = history start calls in
+    mountAnswer (w .vol) present old outside ≡ mountDue w present old outside
+
 -- two different keyed messages with the same BLAKE2s value: two keys over one message
 pub record Collision (key other message : List ℕ) : Type 0 where
   pub differ : key ≡ other → ⊥
   pub agree : blake2s key message ≡ blake2s other message
 
--- While changing it is needed, even with nothing left: a mount with another one is refused with 5, or else the two are a
--- collision over the check's message: `O`, salt, head epoch. So a share of 100.00 isn't leave to destroy it; only an accepted finish is.
+-- While changing the old secret is needed, even with nothing left: a mount with another one is refused with 5, or else the two
+-- are a collision over the check's message. So a share of 100.00 isn't leave to destroy it; only an accepted finish is.
 abbrev pub OldSecretNeeded : Type 0
 OldSecretNeeded =
     (start : Start) (calls : List Call) (other : List ℕ)
     → let w = history start calls in
     changing w ≡ true → (w .old ≡ other → ⊥)
-    → (mountAnswer (w .vol) (w .secret) other (w .outside) ≡ A.OldSecret) ⊎ Collision (w .old) other (checkMessage (w .drive .salt) (w .drive .epoch))
+    → (mountAnswer (w .vol) (w .secret) other (w .outside) ≡ A.OldSecret) ⊎ Collision (w .old) other (checkedText w)
 
 -- "Report gives N, nuggets moved (epoch equal to the head's), left, flakes present, and share = moved × 10,000 / N rounded down"
 pub record Tells (w : World) (r : Report) : Type 0 where
