@@ -1,20 +1,24 @@
 -- Stored bytes of absent flakes, and their tags under an unchanged leaf: a read doesn't look at them.
 use mathlib.Core.Path.{_≡_, refl, sym, ap, ap₂, _∙_}
-use mathlib.Core.Bool.{Bool, true}
+use mathlib.Core.Bool.{Bool, true, false}
+use mathlib.Core.Logic.{inl}
 use mathlib.Core.List.{List}
 use Prim.Native.Nat.{ℕ, zero, suc, _+_, _*_, _-_, _/_, _<_, _≤_}
 use native.Mathlib.Omega.{arith}
 use lib.Bits.{bitAnd}
 use lib.ListN.{length}
+use lib.Seq.{sets, length-sets}
 use Rattle.base.specs.Pick.{pick}
-use Rattle.base.specs.Lists.{same}
-use Rattle.base.proofs.PickLaws.{both-left}
+use Rattle.base.specs.Lists.{part, same}
+use Rattle.base.proofs.PickLaws.{clash, both-left}
 use Rattle.answers.specs.declared.Answer.the-variants as A
 use Rattle.answers.specs.declared.Place.the-variants as P
 use Rattle.answers.specs.Numbers.{accepts}
 use Rattle.layout.specs.declared.Shape.{Shape}
 use Rattle.layout.specs.Shape.{leaves, heightOf}
 use Rattle.layout.specs.Lent.{Lent}
+use Rattle.layout.specs.Parts.{flakesAt, recordAt, tagAt, nodeAt, flakeAt}
+use Rattle.layout.proofs.Places.{record-inside, tag-inside, node-inside, parts-inside}
 use Rattle.layout.proofs.Height.{leaves-some}
 use Rattle.layout.proofs.Limits.{lent-small}
 use Rattle.records.specs.Journal.{bit}
@@ -22,7 +26,8 @@ use Rattle.records.proofs.BitLaws.{bit-and}
 use Rattle.keys.specs.Pads.{under}
 use Rattle.nodes.specs.Nodes.{innerOf}
 use Rattle.nodes.specs.Made.{madeOf, goodNode}
-use Rattle.nodes.proofs.MadeLaws.{made-by, made-inner, made-bottom, bottom-leaf, bottom-zero}
+use Rattle.nodes.proofs.Bounds.{tags-inside}
+use Rattle.nodes.proofs.MadeLaws.{leaf-alike, made-by, made-inner, made-bottom, bottom-leaf, bottom-zero}
 use Rattle.tree.specs.Path.{recordOf, goodRecord, climbed, pathOf, Rises}
 use Rattle.tree.proofs.Heights.{rises-some, rises-half, rises-leaf}
 use Rattle.drive.specs.declared.Drive.{Drive}
@@ -31,8 +36,10 @@ use Rattle.drive.specs.Opening.{headStands, openingOf}
 use Rattle.nuggets.specs.declared.Nugget.{Nugget}
 use Rattle.nuggets.specs.Nugget.{keyFor, nuggetOf, contentsIn, contentsOf}
 use Rattle.nuggets.specs.Tests.{goodFlake, passes, flakesUp, flakesIn, pathFor, nuggetRead}
+use Rattle.changes.proofs.CellLaws.{part-apart, Other, flakes-apart}
+use Rattle.changes.proofs.PadsLaws.{record-told}
 use Rattle.changes.proofs.Exact.{yes-same}
-use Rattle.assurances.specs.Unseen.{ButAbsent, AbsentUnseen}
+use Rattle.assurances.specs.Unseen.{ButAbsent, AbsentUnseen, AbsentBytes}
 use Rattle.assurances.proofs.SameReads.{read-alike, buffer-alike}
 
 -- flakes that test alike where the set has them
@@ -107,3 +114,36 @@ absent-unseen d v w o buffer x = (
   read-alike d (d .old) v w (opens d v w x) (tests d v w x) (λ l n f h k p. bytes d v w x n f h k) o (length buffer),
   buffer-alike d (d .old) v w (opens d v w x) (tests d v w x) (λ l n f h k p. bytes d v w x n f h k) o buffer,
 )
+
+module _ (d : Drive) (v : List ℕ) (n f : ℕ) (other : List ℕ) (h : n < d .n) (few : f < d .p) (off : bit (recordOf v n .journal) f ≡ false) (long : length other ≡ d .f) where
+  abbrev w : List ℕ
+  w = sets v (flakeAt (shapeOf d) n f) other
+
+  -- all that stands before the flakes stays
+  before : (at k : ℕ) → at + k ≤ flakesAt (shapeOf d) → part at k w ≡ part at k v
+  before at k low = part-apart at k v (flakeAt (shapeOf d) n f) (d .f) other long (inl (omega (arith, low)))
+
+  far : (m g : ℕ) → bit (recordOf v m .journal) g ≡ true → Other m g n f
+  far m g on p q = clash on (ap₂ (λ (i j : ℕ). bit (recordOf v i .journal) j) p q ∙ off)
+
+  but-absent : ButAbsent d v w
+  but-absent =
+      let s = shapeOf d in
+      let inside = parts-inside s in
+      record {
+        long = length-sets v (flakeAt s n f) other;
+        head = before 0 104 (omega arith);
+        records = λ m a. record-told (recordAt m) w v (before (recordAt m) 18 (omega (arith, record-inside s m a, inside)));
+        nodes = λ i a b. before (nodeAt s i) 32 (node-inside s i a b .1);
+        made = λ m a.
+            leaf-alike s w v m
+            (record {
+              records = before (recordAt m) 18 (omega (arith, record-inside s m a, inside));
+              tags = before (tagAt s m 0) (16 * d .p) (omega (arith, tags-inside s m a, inside));
+            });
+        flakes = λ m g a b on. part-apart (flakeAt s m g) (d .f) v (flakeAt s n f) (d .f) other long (flakes-apart s m g n f b few (far m g on));
+        tags = λ m g a b on. before (tagAt s m g) 16 (omega (arith, tag-inside s m g a b, inside));
+      }
+
+pub absent-bytes : AbsentBytes
+absent-bytes d v n f other h few off long = but-absent d v n f other h few off long

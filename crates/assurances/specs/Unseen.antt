@@ -4,9 +4,10 @@ use mathlib.Core.Path.{_≡_}
 use mathlib.Core.Bool.{true, false}
 use mathlib.Core.List.{List}
 use lib.ListN.{length}
+use lib.Seq.{sets}
 use Rattle.base.specs.Lists.{part}
 use Rattle.layout.specs.Shape.{leaves}
-use Rattle.layout.specs.Parts.{tagAt}
+use Rattle.layout.specs.Parts.{tagAt, flakeAt}
 use Rattle.records.specs.Journal.{bit}
 use Rattle.nodes.specs.Nodes.{nodeIn, leafOf}
 use Rattle.tree.specs.Path.{recordOf}
@@ -86,3 +87,9 @@ abbrev pub AbsentUnseen : Type 0
 AbsentUnseen =
     (d : Drive) (v w : List ℕ) (o : ℕ) (buffer : List ℕ) → ButAbsent d v w
     → (readAnswer d w o (length buffer) ≡ readAnswer d v o (length buffer)) × (readBuffer d w o buffer ≡ readBuffer d v o buffer)
+
+-- Such is a volume with other stored bytes for a flake that is absent.
+abbrev pub AbsentBytes : Type 0
+AbsentBytes =
+    (d : Drive) (v : List ℕ) (n f : ℕ) (other : List ℕ) → n < d .n → f < d .p → bit (recordOf v n .journal) f ≡ false → length other ≡ d .f
+    → ButAbsent d v (sets v (flakeAt (shapeOf d) n f) other)
