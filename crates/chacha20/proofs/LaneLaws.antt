@@ -17,7 +17,7 @@ use Rattle.words.specs.Word.{add32}
 use Rattle.words.specs.Le.{wordsOf, serialised}
 use Rattle.words.proofs.LeLaws.{length-serialised}
 use Rattle.chacha20.specs.ChaCha20.{start, added, doubleRound, doubleRounds, twentyRounds, blockFrom, blockOf, keystream}
-use Rattle.chacha20.specs.Lanes.{lane, later, Put, Each, repeated, counters, Spread, laneBlocks, stretch}
+use Rattle.chacha20.specs.Lanes.{lane, later, Put, Each, repeated, counters, Spread, laneBlocks, blocksFrom}
 use Rattle.chacha20.proofs.RoundLaws.{listed}
 
 -- the first i words of s and t are laid into lanes l and 4 + l
@@ -155,21 +155,21 @@ pub blocks-all : (w s d : List ℕ) (n m : ℕ) {r : List ℕ} → r ≡ laneBlo
 blocks-all w s d n m e q h = e ∙ rw (q, drop-of-length-le d h) (append-nil (laneBlocks w s m))
 
 -- twenty rounds in every lane, and the sums: the blocks of eight counters
-pub lanes-stretch : (s w x : List ℕ) → Spread s w → Each twentyRounds w x → (n : ℕ) → n ≤ 8 → laneBlocks x w n ≡ stretch s n
-unfolding laneBlocks stretch blockFrom
-lanes-stretch s w x from each zero h = refl
-lanes-stretch s w x from each (suc n) h =
+pub lanes-blocks : (s w x : List ℕ) → Spread s w → Each twentyRounds w x → (n : ℕ) → n ≤ 8 → laneBlocks x w n ≡ blocksFrom s n
+unfolding laneBlocks blocksFrom blockFrom
+lanes-blocks s w x from each zero h = refl
+lanes-blocks s w x from each (suc n) h =
     let less : n < 8 = omega arith in
-    rw (lanes-stretch s w x from each n (omega arith), each .at n less, from .at n less)
+    rw (lanes-blocks s w x from each n (omega arith), each .at n less, from .at n less)
 
 later-start : (key nonce : List ℕ) (c n : ℕ) → later (start key nonce c) n ≡ start key nonce (add32 c n)
 unfolding later start wordsOf tab
 later-start key nonce c n = refl
 
-pub stretch-keystream : (key nonce : List ℕ) (c n : ℕ) → stretch (start key nonce c) n ≡ keystream key nonce c n
-unfolding stretch keystream blockOf
-stretch-keystream key nonce c zero = refl
-stretch-keystream key nonce c (suc n) = rw (stretch-keystream key nonce c n, later-start key nonce c n)
+pub blocks-keystream : (key nonce : List ℕ) (c n : ℕ) → blocksFrom (start key nonce c) n ≡ keystream key nonce c n
+unfolding blocksFrom keystream blockOf
+blocks-keystream key nonce c zero = refl
+blocks-keystream key nonce c (suc n) = rw (blocks-keystream key nonce c n, later-start key nonce c n)
 
 -- the lanes below l of each half are a double round further
 pub record Rounded (l : ℕ) (w v : List ℕ) : Type 0 where

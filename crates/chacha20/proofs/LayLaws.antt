@@ -13,9 +13,9 @@ use Rattle.words.specs.Word.{add32}
 use Rattle.words.specs.Xor.{xorl}
 use Rattle.words.proofs.XorLaws.{length-xorl}
 use Rattle.chacha20.specs.ChaCha20.{start, blockFrom, blockOf, keystream, encrypted}
-use Rattle.chacha20.specs.Lanes.{stretch}
+use Rattle.chacha20.specs.Lanes.{blocksFrom}
 use Rattle.chacha20.proofs.BlockLaws.{start-at}
-use Rattle.chacha20.proofs.LaneLaws.{stretch-keystream}
+use Rattle.chacha20.proofs.LaneLaws.{blocks-keystream}
 use Rattle.chacha20.proofs.KeystreamLaws.{encrypted-none, encrypted-by, encrypted-append}
 
 -- z takes the place of the n bytes from `at` on, and f lays what is left
@@ -110,7 +110,7 @@ left-all d c at key nonce left h x =
 
 -- eight blocks at a time
 pub eight-more : (key nonce : List ℕ) (c : ℕ) (d : List ℕ) (at m : ℕ) {s k z : List ℕ} {b : ℕ} → s ≡ start key nonce c → at + 512 ≤ length d → m ≡ 512
-    → k ≡ stretch s 8 → z ≡ xorl (take m (drop at d)) k → b ≡ add32 c 8
+    → k ≡ blocksFrom s 8 → z ≡ xorl (take m (drop at d)) k → b ≡ add32 c 8
     → take (at + 512) (take at d ++ (z ++ drop m (drop at d))) ++ encrypted key nonce b (drop (at + 512) (take at d ++ (z ++ drop m (drop at d))))
     ≡ take at d ++ encrypted key nonce c (drop at d)
 eight-more key nonce c d at m {s} {k} {z} {b} f h q v w g =
@@ -118,7 +118,7 @@ eight-more key nonce c d at m {s} {k} {z} {b} f h q v w g =
     let left : length t ≡ length d - at = length-drop at d in
     let full : length (take 512 t) ≡ 64 * 8 = length-take 512 t ∙ omega arith in
     let some : z ≡ encrypted key nonce c (take 512 t) =
-    rw (q, v, f, stretch-keystream key nonce c 8) at w ∙ encrypted-by key nonce c (take 512 t) 8 (omega arith) in
+    rw (q, v, f, blocks-keystream key nonce c 8) at w ∙ encrypted-by key nonce c (take 512 t) 8 (omega arith) in
     let whole : z ++ encrypted key nonce (add32 c 8) (drop 512 t) ≡ encrypted key nonce c t =
     rw some (sym (encrypted-append key nonce c (take 512 t) (drop 512 t) 8 full) ∙ ap (encrypted key nonce c) (take-append-drop 512 t)) in
     let reach : length z ≡ 512 = ap length w ∙ length-xorl (take m t) k ∙ length-take m t ∙ omega arith in

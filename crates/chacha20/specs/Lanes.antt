@@ -46,6 +46,6 @@ laneBlocks w s zero = []
 laneBlocks w s (suc n) = laneBlocks w s n ++ serialised (added (lane w n) (lane s n))
 
 -- n blocks from the counter of s on
-unfoldable pub stretch : List ℕ → ℕ → List ℕ
-stretch s zero = []
-stretch s (suc n) = stretch s n ++ blockFrom (later s n)
+unfoldable pub blocksFrom : List ℕ → ℕ → List ℕ
+blocksFrom s zero = []
+blocksFrom s (suc n) = blocksFrom s n ++ blockFrom (later s n)

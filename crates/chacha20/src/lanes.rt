@@ -7,7 +7,7 @@ ghost use lib.ListN.{length};
 ghost use lib.Seq.{sets};
 ghost use Rattle.words.specs.Le.{serialised};
 ghost use Rattle.chacha20.specs.ChaCha20.{doubleRound, twentyRounds, added};
-ghost use Rattle.chacha20.specs.Lanes.{lane, Put, Each, repeated, counters, Spread, laneBlocks, stretch};
+ghost use Rattle.chacha20.specs.Lanes.{lane, Put, Each, repeated, counters, Spread, laneBlocks, blocksFrom};
 
 // Two states.
 struct Two {
@@ -46,27 +46,27 @@ fn put(w: &mut [u32; 128], l: usize, x: Two)
     }
 }
 
-// 2.3 on two states, in turns, so that neither waits for the other.
+// 2.3 on two states: the columns of both, then the diagonals of both, so that neither waits for the other.
 fn double_two(x: Two) -> Two
     ensures { λ r. ⌜ (r .s ≡ doubleRound (x .s)) × (r .t ≡ doubleRound (x .t)) ⌝ }
 {
     let s = x.s;
     let t = x.t;
     let q0 = crate::quarter_round(s[0], s[4], s[8], s[12]);
-    let u0 = crate::quarter_round(t[0], t[4], t[8], t[12]);
     let q1 = crate::quarter_round(s[1], s[5], s[9], s[13]);
-    let u1 = crate::quarter_round(t[1], t[5], t[9], t[13]);
     let q2 = crate::quarter_round(s[2], s[6], s[10], s[14]);
-    let u2 = crate::quarter_round(t[2], t[6], t[10], t[14]);
     let q3 = crate::quarter_round(s[3], s[7], s[11], s[15]);
+    let u0 = crate::quarter_round(t[0], t[4], t[8], t[12]);
+    let u1 = crate::quarter_round(t[1], t[5], t[9], t[13]);
+    let u2 = crate::quarter_round(t[2], t[6], t[10], t[14]);
     let u3 = crate::quarter_round(t[3], t[7], t[11], t[15]);
     let p0 = crate::quarter_round(q0.a, q1.b, q2.c, q3.d);
-    let v0 = crate::quarter_round(u0.a, u1.b, u2.c, u3.d);
     let p1 = crate::quarter_round(q1.a, q2.b, q3.c, q0.d);
-    let v1 = crate::quarter_round(u1.a, u2.b, u3.c, u0.d);
     let p2 = crate::quarter_round(q2.a, q3.b, q0.c, q1.d);
-    let v2 = crate::quarter_round(u2.a, u3.b, u0.c, u1.d);
     let p3 = crate::quarter_round(q3.a, q0.b, q1.c, q2.d);
+    let v0 = crate::quarter_round(u0.a, u1.b, u2.c, u3.d);
+    let v1 = crate::quarter_round(u1.a, u2.b, u3.c, u0.d);
+    let v2 = crate::quarter_round(u2.a, u3.b, u0.c, u1.d);
     let v3 = crate::quarter_round(u3.a, u0.b, u1.c, u2.d);
     Two {
         s: crate::from_diagonals(p0, p1, p2, p3),
@@ -160,7 +160,7 @@ fn wide_summed(w: [u32; 128], s: [u32; 128]) -> [u8; 512]
 
 // Eight blocks from the state's counter on.
 pub fn eight_blocks(s: [u32; 16]) -> [u8; 512]
-    ensures { λ r. ⌜ r ≡ stretch s 8 ⌝ }
+    ensures { λ r. ⌜ r ≡ blocksFrom s 8 ⌝ }
 {
     let w = spread(s);
     let x = wide_rounds(w);
