@@ -1,8 +1,8 @@
 -- Laws of the turns: what one turn adds, and a loop of turns from the front.
-use mathlib.Core.Path.{_≡_, refl, _∙_}
+use mathlib.Core.Path.{_≡_, refl, ap, sym, _∙_}
 use mathlib.Core.List.{List, [], _∷_, _++_}
 use Prim.Native.Nat.{ℕ, zero, suc, _+_, _-_, _*_, _%_, _^_, _<_, _≤_}
-use native.Mathlib.Nat.{mul-comm, add-zero, sub-zero, mod-eq-of-lt, mod-lt, sub-eq-zero-of-le}
+use native.Mathlib.Nat.{mul-comm, zero-add, add-zero, sub-zero, mod-eq-of-lt, mod-lt, sub-eq-zero-of-le}
 use native.Mathlib.Omega.{arith}
 use lib.Dec.{lit<}
 use lib.ListN.{length, take, drop, length-drop}
@@ -10,15 +10,29 @@ use lib.Seq.{drop-drop, take-all, length-take-le}
 use Rattle.base.specs.Lists.{part}
 use Rattle.words.specs.Le.{num}
 use Rattle.limbs.specs.declared.Limbs.{Limbs}
-use Rattle.limbs.specs.Limbs.{p}
-use Rattle.limbs.specs.Bounds.{Below, stepBy, stepsBy}
+use Rattle.limbs.specs.Limbs.{value, p}
+use Rattle.limbs.specs.Bounds.{Below, Sums, stepBy, stepsBy}
 use Rattle.limbs.specs.Turns.{turn, turns}
-use Rattle.limbs.proofs.Field.{mod-in}
+use Rattle.limbs.proofs.Field.{plus, mod-in}
 use Rattle.limbs.proofs.Digits.{wraps}
 use Rattle.words.proofs.LeLaws.{num-append}
 
-pub wider : {x : Limbs} → Below (2 ^ 26) x → Below (2 ^ 26 + 2 ^ 20) x
-wider b = record { b0 = omega arith; b1 = omega arith; b2 = omega arith; b3 = omega arith; b4 = omega arith }
+pub wider : {m k : ℕ} {x : Limbs} → m ≤ k → Below m x → Below k x
+wider h b = record { b0 = omega arith; b1 = omega arith; b2 = omega arith; b3 = omega arith; b4 = omega arith }
+
+pub sums-value : {a b r : Limbs} → Sums a b r → value r ≡ value a + value b
+sums-value {a} {b} {r} s =
+    rw (s .s0, s .s1, s .s2, s .s3, s .s4) (sym (plus (2 ^ 26) (a .l0) (a .l1) (a .l2) (a .l3) (a .l4) (b .l0) (b .l1) (b .l2) (b .l3) (b .l4)))
+
+pub sums-below : {m k n : ℕ} {a b r : Limbs} → m + k ≤ n → Below m a → Below k b → Sums a b r → Below n r
+sums-below h x y s =
+    record {
+      b0 = omega (arith, s .s0, x .b0, y .b0);
+      b1 = omega (arith, s .s1, x .b1, y .b1);
+      b2 = omega (arith, s .s2, x .b2, y .b2);
+      b3 = omega (arith, s .s3, x .b3, y .b3);
+      b4 = omega (arith, s .s4, x .b4, y .b4);
+    }
 
 -- what one turn leaves is below p
 pub turn-lt : (r a : ℕ) (b : List ℕ) → turn r a b < p
@@ -52,6 +66,26 @@ steps-more top n i r h t m l e f =
 pub steps-done : (top n i r a : ℕ) (m : List ℕ) {T : ℕ} → n ≤ i → stepsBy top (n - i) r a m ≡ T → a ≡ T
 unfolding stepsBy
 steps-done top n i r a m h e = rw (sub-eq-zero-of-le h) at e
+
+-- turns after turns
+pub steps-append : (top k n r a : ℕ) (m : List ℕ) → stepsBy top (k + n) r a m ≡ stepsBy top n r (stepsBy top k r a m) (drop (16 * k) m)
+unfolding stepsBy
+steps-append top zero n r a m = rw (zero-add n)
+steps-append top (suc k) n r a m =
+    let e : suc k + n ≡ suc (k + n) = omega arith in
+    let f : 16 * suc k ≡ 16 + 16 * k = omega arith in
+    rw (e, f, ← drop-drop (16 * k) 16 m) (steps-append top k n r (stepBy top r a (take 16 m)) (drop 16 m))
+
+-- all from e on
+pub rest-is : (e f : ℕ) (m : List ℕ) → e ≡ f → take (length m - e) (drop e m) ≡ drop f m
+rest-is e f m same = take-all (length m - e) (drop e m) (rw (length-drop e m) (omega arith)) ∙ ap (λ (z : ℕ). drop z m) same
+
+-- k turns, and the others with what is behind their blocks
+pub steps-both : (top k n r a h t : ℕ) (m l : List ℕ) → k ≤ n → l ≡ drop (16 * k) m → h % p ≡ stepsBy top k r a m → t % p ≡ stepsBy top (n - k) r (h % p) l
+    → t % p ≡ stepsBy top n r a m
+steps-both top k n r a h t m l less e f g =
+    let all : k + (n - k) ≡ n = omega arith in
+    g ∙ rw (e, f) (sym (steps-append top k (n - k) r a m)) ∙ ap (λ (z : ℕ). stepsBy top z r a m) all
 
 -- with the 1 of whole blocks these are the turns
 steps-turns : (n r a : ℕ) (m : List ℕ) → 16 * n ≤ length m → stepsBy (2 ^ 24) n r a m ≡ turns n r a m

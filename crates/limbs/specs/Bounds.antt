@@ -46,6 +46,14 @@ pub record Holds (x : ℕ) (r : Limbs) : Type 0 where
   pub whole : value r ≡ x
   pub small : Below (2 ^ 26) r
 
+-- both numbers' limbs added
+pub record Sums (a b r : Limbs) : Type 0 where
+  pub s0 : r .l0 ≡ a .l0 + b .l0
+  pub s1 : r .l1 ≡ a .l1 + b .l1
+  pub s2 : r .l2 ≡ a .l2 + b .l2
+  pub s3 : r .l3 ≡ a .l3 + b .l3
+  pub s4 : r .l4 ≡ a .l4 + b .l4
+
 -- five times each limb
 pub record Fives (r v : Limbs) : Type 0 where
   pub f0 : v .l0 ≡ 5 * r .l0

@@ -1,3 +1,4 @@
 pub mod Limbs
 pub mod Bounds
 pub mod Turns
+pub mod Lanes

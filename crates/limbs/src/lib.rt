@@ -1,12 +1,14 @@
 // Numbers modulo 2^130 - 5 in five limbs of 26 bits, and the turns of RFC 8439 2.5.1 over 16-byte blocks.
 // It touches `base` and `words`.
+mod lanes;
+
 ghost use mathlib.Core.Path.{_≡_};
 ghost use Prim.Native.Nat.{_+_, _*_, _%_, _^_, _<_, _≤_};
 ghost use lib.ListN.{length};
 ghost use Rattle.base.specs.Lists.{part};
 ghost use Rattle.words.specs.Le.{num, le};
 ghost use Rattle.limbs.specs.Limbs.{at, value, limbsOf, quad, p};
-ghost use Rattle.limbs.specs.Bounds.{Below, Reduced, Cuts, Ripples, Stands, Holds, Fives, Ran, Worded, stepsBy};
+ghost use Rattle.limbs.specs.Bounds.{Below, Reduced, Cuts, Ripples, Stands, Holds, Sums, Fives, Ran, Worded, stepsBy};
 ghost use Rattle.limbs.specs.Turns.{turns};
 
 pub struct Limbs {
@@ -86,7 +88,7 @@ fn ripple_limbs(h: Limbs, x: u64) -> Rippled
 
 // 2^130 is 5 modulo p, so what leaves the top comes back five times at the bottom. Two chains of carries run side by side.
 fn carry(a: u64, b: u64, c: u64, d: u64, e: u64) -> Limbs
-    requires { ⌜ (a < 2 ^ 60) × (b < 2 ^ 60) × (c < 2 ^ 60) × (d < 2 ^ 60) × (e < 2 ^ 60) ⌝ }
+    requires { ⌜ (a < 2 ^ 62) × (b < 2 ^ 62) × (c < 2 ^ 62) × (d < 2 ^ 62) × (e < 2 ^ 62) ⌝ }
     ensures { λ r. ⌜ Stands (at (2 ^ 26) a b c d e) r ⌝ }
 {
     let c0 = split(a);
@@ -106,22 +108,22 @@ fn carry(a: u64, b: u64, c: u64, d: u64, e: u64) -> Limbs
 }
 
 fn times(a: u32, b: u32) -> u64
-    requires { ⌜ (a < 2 ^ 28) × (b < 2 ^ 29) ⌝ }
-    ensures { λ r. ⌜ (r ≡ a * b) × (r < 2 ^ 57) ⌝ }
+    requires { ⌜ (a < 2 ^ 29) × (b < 2 ^ 29) ⌝ }
+    ensures { λ r. ⌜ (r ≡ a * b) × (r < 2 ^ 58) ⌝ }
 {
     (a as u64) * (b as u64)
 }
 
 fn dot(h: Limbs, a: u32, b: u32, c: u32, d: u32, e: u32) -> u64
-    requires { ⌜ Below (2 ^ 28) h × (a < 2 ^ 29) × (b < 2 ^ 29) × (c < 2 ^ 29) × (d < 2 ^ 29) × (e < 2 ^ 29) ⌝ }
-    ensures { λ r. ⌜ (r ≡ h .l0 * a + h .l1 * b + h .l2 * c + h .l3 * d + h .l4 * e) × (r < 2 ^ 60) ⌝ }
+    requires { ⌜ Below (2 ^ 29) h × (a < 2 ^ 29) × (b < 2 ^ 29) × (c < 2 ^ 29) × (d < 2 ^ 29) × (e < 2 ^ 29) ⌝ }
+    ensures { λ r. ⌜ (r ≡ h .l0 * a + h .l1 * b + h .l2 * c + h .l3 * d + h .l4 * e) × (r < 2 ^ 61) ⌝ }
 {
     times(h.l0, a) + times(h.l1, b) + times(h.l2, c) + times(h.l3, d) + times(h.l4, e)
 }
 
 // Five times each limb: what a limb of r counts where its product leaves the top.
 fn fives(r: Limbs) -> Limbs
-    requires { ⌜ Below (2 ^ 26) r ⌝ }
+    requires { ⌜ Below (2 ^ 26 + 2 ^ 20) r ⌝ }
     ensures { λ v. ⌜ Fives r v ⌝ }
 {
     Limbs {
@@ -134,7 +136,7 @@ fn fives(r: Limbs) -> Limbs
 }
 
 fn mul(h: Limbs, r: Limbs, v: Limbs) -> Limbs
-    requires { ⌜ Below (2 ^ 28) h × Below (2 ^ 26) r × Fives r v ⌝ }
+    requires { ⌜ Below (2 ^ 29) h × Below (2 ^ 26 + 2 ^ 20) r × Fives r v ⌝ }
     ensures { λ x. ⌜ Stands (value h * value r) x ⌝ }
 {
     let d0 = dot(h, r.l0, v.l4, v.l3, v.l2, v.l1);
@@ -170,8 +172,8 @@ pub fn pack(a: u32, b: u32, c: u32, d: u32) -> Limbs
 
 // Both numbers' limbs added, with no carry.
 fn add(a: Limbs, b: Limbs) -> Limbs
-    requires { ⌜ Below (2 ^ 26 + 2 ^ 20) a × Below (2 ^ 26) b ⌝ }
-    ensures { λ r. ⌜ (value r ≡ value a + value b) × Below (2 ^ 28) r ⌝ }
+    requires { ⌜ Below (2 ^ 28) a × Below (2 ^ 28) b ⌝ }
+    ensures { λ r. ⌜ Sums a b r ⌝ }
 {
     Limbs {
         l0: a.l0 + b.l0,
@@ -182,22 +184,30 @@ fn add(a: Limbs, b: Limbs) -> Limbs
     }
 }
 
-// One turn with the 16 bytes at `at` and `one` at bit 128.
-fn turn_at(h: Limbs, r: Limbs, v: Limbs, m: &[u8], at: usize, one: u32) -> Limbs
-    requires { ⌜ Below (2 ^ 26 + 2 ^ 20) h × Below (2 ^ 26) r × Fives r v × (at + 16 ≤ length (now m)) × (one ≤ 1) ⌝ }
-    ensures { λ x. ⌜ Stands ((value h + (num (part at 16 (now (m .entry))) + 2 ^ 104 * (one * 2 ^ 24))) * value r) x ⌝ }
+// The 16 bytes at `at` as a number, with `one` at bit 128.
+fn number(m: &[u8], at: usize, one: u32) -> Limbs
+    requires { ⌜ (at + 16 ≤ length (now m)) × (one ≤ 1) ⌝ }
+    ensures { λ r. ⌜ Holds (num (part at 16 (now (m .entry))) + 2 ^ 104 * (one * 2 ^ 24)) r ⌝ }
 {
     let a = words::load32(m, at);
     let b = words::load32(m, at + 4);
     let c = words::load32(m, at + 8);
     let d = words::load32(m, at + 12);
-    let n = join(a, b, c, d, one);
+    join(a, b, c, d, one)
+}
+
+// One turn with the 16 bytes at `at` and `one` at bit 128.
+fn turn_at(h: Limbs, r: Limbs, v: Limbs, m: &[u8], at: usize, one: u32) -> Limbs
+    requires { ⌜ Below (2 ^ 28) h × Below (2 ^ 26 + 2 ^ 20) r × Fives r v × (at + 16 ≤ length (now m)) × (one ≤ 1) ⌝ }
+    ensures { λ x. ⌜ Stands ((value h + (num (part at 16 (now (m .entry))) + 2 ^ 104 * (one * 2 ^ 24))) * value r) x ⌝ }
+{
+    let n = number(m, at, one);
     mul(add(h, n), r, v)
 }
 
-// n turns with the first blocks of m. A turn is called from here alone, so that it is laid into the loop.
+// n turns with the first blocks of m, or a itself. A turn is called from here alone, so that it is laid into the loop.
 fn run(a: Limbs, r: Limbs, v: Limbs, m: &[u8], n: usize, one: u32) -> Limbs
-    requires { ⌜ Below (2 ^ 26) a × Below (2 ^ 26) r × Fives r v × (16 * n ≤ length (now m)) × (one ≤ 1) ⌝ }
+    requires { ⌜ Below (2 ^ 28) a × (n ≡ 0 → Below (2 ^ 26 + 2 ^ 20) a) × Below (2 ^ 26 + 2 ^ 20) r × Fives r v × (16 * n ≤ length (now m)) × (one ≤ 1) ⌝ }
     ensures { λ x. ⌜ Ran (stepsBy (one * 2 ^ 24) n (value r) (value a % p) (now (m .entry))) x ⌝ }
 {
     let mut h = a;
@@ -220,13 +230,21 @@ fn freeze(h: Limbs) -> Limbs
     left.low
 }
 
-// n turns with the first blocks of m.
+// n turns with the first blocks of m. The lanes' powers of r and their sum at the end cost what they spare at some 20 blocks.
 pub fn blocks(a: Limbs, r: Limbs, m: &[u8], n: usize) -> Limbs
     requires { ⌜ Reduced a × Below (2 ^ 26) r × (16 * n ≤ length (now m)) ⌝ }
     ensures { λ x. ⌜ x ≡ limbsOf (turns n (value r) (value a) (now (m .entry))) ⌝ }
 {
-    let h = run(a, r, fives(r), m, n, 1);
-    freeze(h)
+    let v = fives(r);
+    if n < 32 {
+        let h = run(a, r, v, m, n, 1);
+        return freeze(h);
+    }
+    let g = n / 4;
+    let e = 64 * g;
+    let h = lanes::run_four(a, r, v, m, g);
+    let x = run(h, r, v, &m[e..], n - 4 * g, 1);
+    freeze(x)
 }
 
 // The turn of a last block, whose 1 stands among the 16 bytes.

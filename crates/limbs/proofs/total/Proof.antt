@@ -1,16 +1,17 @@
 use borrow.Author.Needs.{needs}
+use lib.Dec.{lit≤}
 use mathlib.Core.Path.{ap, sym, _∙_}
 use Prim.Native.Nat.{ℕ, _+_, _*_, _/_, _^_}
 use native.Mathlib.Nat.{add-zero}
 use Rattle.words.specs.Le.{le}
 use Rattle.limbs.specs.Limbs.{p}
-use Rattle.limbs.proofs.TurnLaws.{wider}
+use Rattle.limbs.proofs.TurnLaws.{wider, sums-value}
 use Rattle.limbs.proofs.Quads.{laid, le-quad, quad-over}
 use Rattle.limbs.proofs.total.Statement.{statement}
 use Rattle.limbs.proofs.total.Tie as tie
 
 add-requires : tie.Need-add-requires
-add-requires c κs = (wider (c .pre .0), search needs)
+add-requires c κs = (wider (lit≤ tt) (c .pre .0), wider (lit≤ tt) (c .pre .1))
 
 ripple-limbs-requires : tie.Need-ripple-limbs-requires
 ripple-limbs-requires c κs = search needs
@@ -49,7 +50,7 @@ returns c = let w = c .before .before .before .before .before .before .before .b
     let top = x .result .top in
     let left = x .result .low .l4 / 2 ^ 24 in
     let sum =
-    sym (c .before .before .before .before .before .before .before .before .before .before .before .before .before .before .add .ensures .0)
+    sym (sums-value (c .before .before .before .before .before .before .before .before .before .before .before .before .before .before .add .ensures))
     ∙ (rw add-zero at (x .ensures .whole))
     ∙ ap (λ (z : ℕ). z + (p + 5) * top) (wd .whole)
     ∙ quad-over (w .a) (w .b) (w .c) (w .d) left top in
