@@ -140,7 +140,7 @@ fn fold(h: &[u64; 20], r: Limbs, v: Limbs) -> Limbs
 }
 
 // 4 g turns with the first blocks of m. The fourth power of r is what three turns with zeros make of r.
-pub fn run_four(a: Limbs, r: Limbs, v: Limbs, m: &[u8], g: usize) -> Limbs
+pub(crate) fn run_four(a: Limbs, r: Limbs, v: Limbs, m: &[u8], g: usize) -> Limbs
     requires { ⌜ Below (2 ^ 26) a × Below (2 ^ 26) r × Fives r v × (0 < g) × (64 * g ≤ length (now m)) ⌝ }
     ensures { λ x. ⌜ Ran (stepsBy (2 ^ 24) (4 * g) (value r) (value a % p) (now (m .entry))) x ⌝ }
 {
