@@ -17,7 +17,7 @@ laneOf h l = record { l0 = getD h l 0; l1 = getD h (4 + l) 0; l2 = getD h (8 + l
 abbrev pub blockAt : List ℕ → ℕ → ℕ
 blockAt m at = num (part at 16 m) + 2 ^ 104 * 2 ^ 24
 
--- four numbers, each times its power of r: the first has waited for four turns, the last for one
+-- four numbers, each times its power of r: what is in lane 0 has four turns before it, what is in lane 3 one
 abbrev pub sum : ℕ → ℕ → ℕ → ℕ → ℕ → ℕ
 sum r a b c d = a * (r * r * r * r) + b * (r * r * r) + c * (r * r) + d * r
 

@@ -1,5 +1,6 @@
-// Four turns at a time: lane l takes block l and every fourth block after it.
-// Each limb has 64 bits of its own, so that a product of two limbs is one instruction for a pair of lanes.
+// Four turns at a time: lane l takes block l and every fourth block after it, and the lanes are added in the end.
+// A limb lies in 64 bits, so that a product of limbs is one instruction for a pair of lanes. What the loop over the lanes
+// calls is called from there alone or is small, so that all of it is laid into the loop and compiled for lanes.
 use crate::Limbs;
 ghost use mathlib.Core.Path.{_≡_};
 ghost use Prim.Native.Nat.{_+_, _*_, _%_, _^_, _<_, _≤_};
@@ -29,6 +30,7 @@ fn lane(h: &[u64; 20], l: usize) -> Limbs
     }
 }
 
+// x into lane l.
 fn put(h: &mut [u64; 20], l: usize, x: Limbs)
     requires { ⌜ (length (now h) ≡ 20) × (l < 4) ⌝ }
     ensures { λ _. ⌜ Put l x (now (h .entry)) (now (h .exit)) ⌝ }
@@ -73,7 +75,7 @@ fn halves(m: &[u8], at: usize) -> Block
     }
 }
 
-// h times r with a block and the 1 at bit 128 added: the block's parts join the sums of products before the carry.
+// h times r with a block and its 1 at bit 128 added: the block's parts join the sums of products before the carry.
 fn mul_add(h: Limbs, r: Limbs, v: Limbs, n: Block) -> Limbs
     requires { ⌜ Below (2 ^ 29) h × Below (2 ^ 26 + 2 ^ 20) r × Fives r v ⌝ }
     ensures { λ x. ⌜ Stands (value h * value r + (n .lo + 2 ^ 64 * n .hi + 2 ^ 104 * 2 ^ 24)) x ⌝ }
@@ -130,11 +132,11 @@ fn fold(h: &[u64; 20], r: Limbs, v: Limbs) -> Limbs
         l3: 0,
         l4: 0,
     };
-    let mut l = 0;
-    while l < 4 {
-        let y = crate::run(crate::add(x, lane(h, l)), r, v, &zeros, 1, 0);
+    let mut k = 0;
+    while k < 4 {
+        let y = crate::run(crate::add(x, lane(h, k)), r, v, &zeros, 1, 0);
         x = y;
-        l += 1;
+        k += 1;
     }
     x
 }

@@ -230,7 +230,7 @@ fn freeze(h: Limbs) -> Limbs
     left.low
 }
 
-// n turns with the first blocks of m. The lanes' powers of r and their sum at the end cost what they spare at some 20 blocks.
+// n turns with the first blocks of m. With few blocks the power of r and the sum of the lanes cost more than lanes spare.
 pub fn blocks(a: Limbs, r: Limbs, m: &[u8], n: usize) -> Limbs
     requires { ⌜ Reduced a × Below (2 ^ 26) r × (16 * n ≤ length (now m)) ⌝ }
     ensures { λ x. ⌜ x ≡ limbsOf (turns n (value r) (value a) (now (m .entry))) ⌝ }
