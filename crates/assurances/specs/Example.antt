@@ -44,8 +44,8 @@ Example =
     × (allAccepted (begun start) example ≡ true)
     × (let w = history start example in readBuffer (w .drive) (w .vol) 63 (0 ∷ 0 ∷ 0 ∷ []) ≡ 1 ∷ 2 ∷ 3 ∷ [])
 
--- The accident can't be had again: there is a drive that reports 100.00 with nothing left, all calls before accepted, and a
--- mount of it with another old secret is refused with 5, or the two secrets are a collision over the check's message.
+-- A share of 100.00 isn't leave to destroy the old secret: there is a history, all its calls accepted, after which the report
+-- says 100.00 with nothing left, and a mount with another old secret is refused with 5, or the two are a collision.
 abbrev pub FullIsNotFree : Type 0
 FullIsNotFree =
     (start : Start) × (calls : List Call) × (allAccepted (begun start) calls ≡ true)
