@@ -24,6 +24,7 @@ SAMPLE_PAGE = SAMPLE_LINE + b"""nugget=0 key=new epoch=2 keycount=1 flakes=1
 nugget=1 key=old epoch=1 keycount=0 flakes=-
 nugget=2 key=old epoch=1 keycount=0 flakes=0
 counter=5
+old=needed
 """
 CLASSES = ["form"] * 3 + ["key"] * 3 + ["altered"] + ["request"] * 5 + ["spent"] * 3
 
@@ -105,12 +106,13 @@ nugget=0 key=new epoch=2 keycount=1 flakes=1
 nugget=1 key=old epoch=1 keycount=4 flakes=-
 nugget=2 key=old epoch=1 keycount=0 flakes=0,1
 counter=9
+old=needed
 """)
     steady = made(Spec(1, 64, 64, 0, 3, 2**64 - 1, [[2**64 - 1, 2**64 - 1, 3]]))
     tally.same("page when steady", audit.page(sheet_input(*steady)),
                b"nuggets=1 moved=1 left=0 flakes=64 share=100.00\n"
                b"nugget=0 key=present epoch=3 keycount=18446744073709551615 flakes="
-               + b",".join(b"%d" % f for f in range(64)) + b"\ncounter=18446744073709551615\n")
+               + b",".join(b"%d" % f for f in range(64)) + b"\ncounter=18446744073709551615\nold=free\n")
     for data in (b"", good[:71], good[:-1], flipped(good, 0), flipped(good, 32), flipped(good, 64), flipped(good, 72 + 104)):
         tally.same("page of a refusal", audit.page(data), sheet.line(data))
     tally.same("page of the sample", audit.page(sample.sample()), SAMPLE_PAGE)
