@@ -221,7 +221,7 @@ pub record Tells (w : World) (r : Report) : Type 0 where
   pub moved : r .moved ≡ many (w .drive .n) (hasMoved w)
   pub left : r .left ≡ nuggetsLeft w
   pub flakes : r .flakes ≡ sum (w .drive .n) (λ n. many (w .drive .p) (bit (recordOf (w .vol) n .journal)))
-  pub done : r .done ≡ sum (w .drive .n) (λ n. pick (isMoved w n) (many (w .drive .p) (bit (recordOf (w .vol) n .journal))) 0)
+  pub done : r .done ≡ sum (w .drive .n) (λ n. pick (hasMoved w n) (many (w .drive .p) (bit (recordOf (w .vol) n .journal))) 0)
   pub share : (r .flakes ≡ 0 → ⊥) → r .share ≡ min (pick (eqb (r .left) 0) 10000 9999) (r .done * 10000 / r .flakes)
   pub empty : r .flakes ≡ 0 → r .share ≡ r .moved * 10000 / r .n
 
