@@ -36,7 +36,8 @@ uint32_t ngt_sweep(uint8_t drive[144], uint8_t *vol, size_t vol_len, uint32_t nu
  * share of 100.00 is not leave. */
 uint32_t ngt_finish(uint8_t drive[144], uint8_t *vol, size_t vol_len, uint8_t answer[16]);
 
-/* report: N, moved, left, flakes, share in hundredths of a percent, 4 bytes each; all zero if refused. A share of 10000, which
+/* report: N, moved, left, flakes, share in hundredths of a percent, 4 bytes each; all zero if refused. The share is by present
+ * flakes (with none present by nuggets), rounded down, and at most 9,999 while any nugget is left. A share of 10000, which
  * is 100.00, is not leave to destroy the old secret: only an accepted ngt_finish is. */
 uint32_t ngt_report(const uint8_t drive[144], const uint8_t *vol, size_t vol_len, uint8_t report[20], uint8_t answer[16]);
 

@@ -21,6 +21,7 @@ class Report(NamedTuple):
     left: int = 0
     flakes: int = 0
     share: int = 0
+    done: int = 0
 
 
 class Result(NamedTuple):
@@ -34,9 +35,11 @@ class Result(NamedTuple):
     pads: tuple = ()
 
 
-def share_of(moved, nuggets):
-    """In hundredths of a percent, rounded down."""
-    return moved * 10000 // nuggets
+def share_of(nuggets, moved, flakes, done):
+    """Document 02, Item 1, in hundredths of a percent, rounded down: `done` are the present flakes
+    of moved nuggets. With no flake present nuggets count; while any is left at most 99.99."""
+    share = done * 10000 // flakes if flakes else moved * 10000 // nuggets
+    return min(share, 9999) if moved < nuggets else share
 
 
 def format(volume, n, p, f, salt, secret, outside):
@@ -187,9 +190,11 @@ def sweep(drive, volume, nugget):
 def count(drive, volume):
     """The report's values, read from the records."""
     records = [read_record(volume, drive.layout, n) for n in range(drive.n)]
-    moved = sum(record.epoch == drive.epoch for record in records)
+    behind = [record for record in records if record.epoch != drive.epoch]
+    moved = drive.n - len(behind)
     flakes = sum(len(record.present()) for record in records)
-    return Report(drive.n, moved, drive.n - moved, flakes, share_of(moved, drive.n))
+    done = flakes - sum(len(record.present()) for record in behind)
+    return Report(drive.n, moved, len(behind), flakes, share_of(drive.n, moved, flakes, done), done)
 
 
 def whole_answer(drive, volume):

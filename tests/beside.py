@@ -83,7 +83,7 @@ class Beside:
     def report(self, want, drive, volume):
         mine = room(size=20)
         given, got = self.on_drive(self.proved.ngt_report, drive, volume, [mine], [mine])
-        return got, (given, volume, struct.pack("<5I", *want.report))
+        return got, (given, volume, struct.pack("<5I", *want.report[:5]))
 
     def stored_flake(self, want, drive, volume, nugget, flake):
         mine = room(size=16)

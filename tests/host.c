@@ -109,7 +109,7 @@ static void changes_secret(const uint8_t *contents) {
     holds("no such nugget is refused by 8", ngt_sweep(drive, vol, LENGTH, N, answer) == 8 && as_kept());
     holds("sweep is accepted", ngt_sweep(drive, vol, LENGTH, 0, answer) == 0 && record_is(0, 2, 3, 2) && number(drive + 40, 8) == 14);
     holds("both secrets are read at once", ngt_read(drive, vol, LENGTH, 0, text, ALL, answer) == 0 && memcmp(text, contents, ALL) == 0);
-    holds("a report counts what has moved", ngt_report(drive, vol, LENGTH, report, answer) == 0 && report[4] == 1 && report[8] == 2 && report[12] == 3 && number(report + 16, 4) == 3333);
+    holds("a report counts what has moved", ngt_report(drive, vol, LENGTH, report, answer) == 0 && report[4] == 1 && report[8] == 2 && report[12] == 3 && number(report + 16, 4) == 6666);
     keep();
     holds("a nugget moved is refused by 12", ngt_sweep(drive, vol, LENGTH, 0, answer) == 12 && as_kept());
     holds("the other sweeps are accepted", ngt_sweep(drive, vol, LENGTH, 1, answer) == 0 && ngt_sweep(drive, vol, LENGTH, 2, answer) == 0);

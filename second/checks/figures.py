@@ -30,7 +30,33 @@ def shares(tally):
                                  ("8", 10000, 10000, "100.00"), ("9", 0, 1, "0.00"),
                                  ("reading 28", 2, 3, "66.66"), ("one of 16,384", 1, 16384, "0.00"),
                                  ("5 of 10,000", 5, 10000, "0.05")):
-        tally.same(f"figure {name}", share_words(share_of(moved, n)), want)
+        tally.same(f"figure {name}", share_words(share_of(n, moved, n, moved)), want)
+    for name, counts, want in (("sheet line", (3, 1, 2, 1), "50.00"),
+                               ("full nugget left", (16384, 16383, 64, 0), "0.00"),
+                               ("half the data left", (5000, 4999, 128, 64), "50.00"),
+                               ("empty nugget left", (2, 1, 64, 64), "99.99"),
+                               ("no flake, one left", (16384, 16383, 0, 0), "99.99"),
+                               ("no flake, all moved", (5, 5, 0, 0), "100.00"),
+                               ("2^20 flakes, one left", (16384, 16383, 2**20, 2**20 - 1), "99.99"),
+                               ("2^20 flakes, all moved", (16384, 16384, 2**20, 2**20), "100.00")):
+        tally.same(f"share, {name}", share_words(share_of(*counts)), want)
+
+
+def left_behind(tally):
+    """Item 1's accident: thousands of empty nuggets moved say nothing of the data."""
+    full, n = 2**64 - 1, 4000
+    moved, left, empty = [0, full, 2], [0, full, 1], [3, 0, 2]
+    for name, front, back, want in (
+            ("full one left", [], left, (n, n - 1, 1, 64, 0, 0)),
+            ("one full left, one moved", [moved], left, (n, n - 1, 1, 128, 5000, 64)),
+            ("full one moved, an empty one left", [[3, 0, 1]], moved, (n, n - 1, 1, 64, 9999, 64)),
+            ("full one moved, nothing left", [], moved, (n, n, 0, 64, 10000, 64)),
+            ("no flake, one left", [[3, 0, 1]], empty, (n, n - 1, 1, 0, 9997, 0)),
+            ("no flake, nothing left", [], empty, (n, n, 0, 0, 10000, 0))):
+        records = front + [empty] * (n - 1 - len(front)) + [back]
+        drive, volume = made(Spec(n, 64, 64, 1, 2, 9, records))
+        got = calls.report(drive, volume)
+        tally.same(f"report, {name}", (got.answer.number, tuple(got.report)), (0, want))
 
 
 def writes(tally):
@@ -115,5 +141,5 @@ def edges(tally):
 
 
 def run(tally):
-    for part in (lengths, shares, writes, bad_shapes, bad_states, edges):
+    for part in (lengths, shares, left_behind, writes, bad_shapes, bad_states, edges):
         part(tally)

@@ -3,6 +3,8 @@
 It predicts each call's answer and the encipherings listed, in document 01's words.
 """
 
+from fractions import Fraction
+
 from checks.make import Spec
 
 TOP = 2**64 - 1
@@ -42,8 +44,11 @@ class Model:
 
     def report(self):
         moved = self.n - self.left()
-        present = sum(len(self.flakes(n)) for n in range(self.n))
-        return (self.n, moved, self.n - moved, present, moved * 10000 // self.n)
+        present = [len(self.flakes(n)) for n in range(self.n)]
+        done = sum(present[n] for n in range(self.n) if self.records[n][2] == self.epoch)
+        part = Fraction(done, sum(present)) if any(present) else Fraction(moved, self.n)
+        share = 9999 if part == 1 and self.left() else int(part * 10000)
+        return (self.n, moved, self.left(), sum(present), share, done)
 
     def rekey(self, n):
         """Raises the keycount and moves the nugget."""

@@ -19,7 +19,7 @@ from layout import layout
 from checks.make import OLD, PRESENT, SALT, Spec, flipped, made
 
 HERE = os.path.dirname(os.path.dirname(os.path.abspath(__file__)))
-SAMPLE_LINE = b"nuggets=3 moved=1 left=2 flakes=2 share=33.33\n"
+SAMPLE_LINE = b"nuggets=3 moved=1 left=2 flakes=2 share=50.00\n"
 SAMPLE_PAGE = SAMPLE_LINE + b"""nugget=0 key=new epoch=2 keycount=1 flakes=1
 nugget=1 key=old epoch=1 keycount=0 flakes=-
 nugget=2 key=old epoch=1 keycount=0 flakes=0
@@ -72,7 +72,7 @@ def refusals(tally):
     drive, volume = made(Spec(3, 2, 64, 1, 3, 9, [[4, 3, 2], [7, 3, 3], [0, 1, 2]]))
     good = sheet_input(drive, volume)
     for words, data in (
-            (b"nuggets=3 moved=1 left=2 flakes=5 share=33.33", good),
+            (b"nuggets=3 moved=1 left=2 flakes=5 share=40.00", good),
             (b"refused=2 class=form", b""), (b"refused=2 class=form", good[:71]),
             (b"refused=2 class=form", good[:72]), (b"refused=2 class=form", good[:175]),
             (b"refused=2 class=form", good[:176]), (b"refused=2 class=form", good + b"\0"),
@@ -202,7 +202,7 @@ def script(tally):
         short = ",".join("/".join(pad.split("/")[:3]) for pad in listed.split(","))
         tally.same(f"pads of {want}", short, pads)
     tally.same("bytes read", got[4].split("bytes=")[1], "11112222")
-    tally.same("report told", got[5].split("report=")[1], "1,1,0,2,10000")
+    tally.same("report told", got[5].split("report=")[1], "1,1,0,2,10000,2")
     tally.same("span told", got[9].split("span=")[1], f"{314 - 64}+64")
     refused = got[len(ANSWERS):]
     tally.same("refusal lines", [line.split(" ", 1)[0] for line in refused],

@@ -1,4 +1,4 @@
--- The one claim: document 01's figures 1 to 11.
+-- The one claim: document 01's figures 1 to 11, and the share of document 02's Item 1.
 use mathlib.Core.Path.{_≡_, refl, ap}
 use mathlib.Core.List.{List, [], _∷_}
 use Prim.Native.Nat.{ℕ, _+_}
@@ -19,6 +19,7 @@ use Rattle.opening.specs.Format.{formatAnswer}
 use Rattle.history.specs.World.{World, write}
 use Rattle.history.specs.Step.{step}
 use Rattle.history.specs.History.{Start, begun, run}
+use Rattle.reports.specs.Counts.{exactOf, shareOf}
 use Rattle.figures.specs.Figures.{small, Fresh, countsOf, Figures}
 use Rattle.figures.proofs.Writes.{Holds, starts-so, holds-on, one-present}
 
@@ -63,7 +64,7 @@ some = (
 )
 
 pub figures : Figures
-unfolding heightOf heightFrom shareText decimal digits widthIn run many bit
+unfolding heightOf heightFrom exactOf shareOf shareText decimal digits widthIn run many bit
 figures =
     record {
       one = refl;
@@ -81,4 +82,5 @@ figures =
       eleven = λ x a fresh la.
           let h = after-eleven x a fresh la in
           (ap (λ (r : Record). r .keycount) (h .nugget), ap (λ (r : Record). r .journal) (h .nugget));
+      twelve = refl;
     }

@@ -1,4 +1,5 @@
--- Document 01, "Figures to hold against the rules: Proved together, as a single table with a single claim".
+-- Document 01, "Figures to hold against the rules: Proved together, as a single table with a single claim", and the sheet line of
+-- document 02's Item 1.
 use mathlib.Core.Path.{_≡_}
 use mathlib.Core.List.{List, [], _∷_}
 use Prim.Native.Nat.{ℕ, _+_, _<_}
@@ -10,13 +11,18 @@ use Rattle.layout.specs.declared.Shape.{Shape}
 use Rattle.line.specs.Lines.{shareText}
 use Rattle.drive.specs.Drive.{counterTop}
 use Rattle.tree.specs.Path.{recordOf}
+use Rattle.reports.specs.declared.told.Counts.{Counts}
 use Rattle.reports.specs.Counts.{flakesIn, shareOf}
 use Rattle.history.specs.World.{World, write}
 use Rattle.history.specs.History.{Start, history}
 
--- the share of nuggets moved, as the sheet shows it
-abbrev pub shown : ℕ → ℕ → List ℕ
-shown moved n = shareText (shareOf moved n)
+-- the share of n nuggets with these counts, as the sheet shows it
+abbrev pub shown : ℕ → Counts → List ℕ
+shown n c = shareText (shareOf n c)
+
+-- Document 02, Item 1: "Figures 6 to 9 then read as volumes with one flake in each nugget"
+abbrev pub oneEach : ℕ → ℕ → List ℕ
+oneEach moved n = shown n (record { moved = moved; flakes = n; done = moved })
 
 abbrev pub small : Shape
 small = shape 1 2 64
@@ -51,13 +57,13 @@ pub record Figures : Type 0 where
   -- "P 2, F 64, offset 200: nugget 1, flake 1, byte 8."
   pub five : (n : ℕ) → spotAt (shape n 2 64) 200 ≡ record { nugget = 1; flake = 1; byte = 8 }
   -- "9,996 of 10,000: 99.96."
-  pub six : shown 9996 10000 ≡ 57 ∷ 57 ∷ 46 ∷ 57 ∷ 54 ∷ []
+  pub six : oneEach 9996 10000 ≡ 57 ∷ 57 ∷ 46 ∷ 57 ∷ 54 ∷ []
   -- "16,383 of 16,384: 99.99."
-  pub seven : shown 16383 16384 ≡ 57 ∷ 57 ∷ 46 ∷ 57 ∷ 57 ∷ []
+  pub seven : oneEach 16383 16384 ≡ 57 ∷ 57 ∷ 46 ∷ 57 ∷ 57 ∷ []
   -- "10,000 of 10,000: 100.00."
-  pub eight : shown 10000 10000 ≡ 49 ∷ 48 ∷ 48 ∷ 46 ∷ 48 ∷ 48 ∷ []
+  pub eight : oneEach 10000 10000 ≡ 49 ∷ 48 ∷ 48 ∷ 46 ∷ 48 ∷ 48 ∷ []
   -- "0 of 1: 0.00."
-  pub nine : shown 0 1 ≡ 48 ∷ 46 ∷ 48 ∷ 48 ∷ []
+  pub nine : oneEach 0 1 ≡ 48 ∷ 46 ∷ 48 ∷ 48 ∷ []
   -- "N 1, P 2, F 64, fresh; write 64 bytes at 0, 64 at 64, 1 at 0: keycount 1, journal 3, four pads listed, two present, two retired."
   pub ten : (x : Start) (a b c : List ℕ) → Fresh 3 x → length a ≡ 64 → length b ≡ 64 → length c ≡ 1
       → let w = history x (write 0 a ∷ write 64 b ∷ write 0 c ∷ []) in
@@ -66,3 +72,5 @@ pub record Figures : Type 0 where
   pub eleven : (x : Start) (a : List ℕ) → Fresh 1 x → length a ≡ 10
       → let w = history x (write 60 a ∷ []) in
       (keycountIn w ≡ 0) × (journalIn w ≡ 3)
+  -- Document 02, Item 1: "document 01's sheet line, one of its flakes moved, says 50.00": three nuggets, one moved, two flakes
+  pub twelve : shown 3 (record { moved = 1; flakes = 2; done = 1 }) ≡ 53 ∷ 48 ∷ 46 ∷ 48 ∷ 48 ∷ []

@@ -1,16 +1,20 @@
 -- The report field by field, and a sweep that raises its moved by one.
 use mathlib.Core.Path.{_≡_, refl, sym, ap, _∙_}
 use mathlib.Core.Bool.{false}
-use Prim.Native.Nat.{ℕ, _+_}
-use lib.Dec.{ltb}
+use Prim.Native.Nat.{ℕ, zero, suc, _+_}
+use mathlib.Core.List.{List}
+use lib.Dec.{eqb, ltb}
 use borrow.Author.Tests.{eq-eqb}
 use Rattle.answers.specs.declared.Answer.the-variants as A
 use Rattle.answers.specs.Numbers.{accepts}
 use Rattle.answers.proofs.StageLaws.{passed, spared}
-use Rattle.records.specs.Journal.{many}
+use Rattle.base.specs.Pick.{pick}
+use Rattle.records.specs.Journal.{many, present}
 use Rattle.tree.specs.Path.{recordOf}
 use Rattle.drive.specs.declared.Drive.{Drive}
+use Rattle.reports.specs.Counts.{countOf, countsIn}
 use Rattle.reports.proofs.Exact.{report-exact}
+use Rattle.ledger.specs.Totals.{sum}
 use Rattle.changes.specs.Change.{advanced}
 use Rattle.history.specs.World.{World, sweep}
 use Rattle.history.specs.Step.{answerTo, step}
@@ -24,6 +28,12 @@ use Rattle.history.proofs.Table.{exactly}
 use Rattle.history.proofs.Demands.{flakes-sum}
 use Rattle.history.proofs.Moves.{sweep-tells, sweep-leaves, swept-own, swept-other}
 
+-- the report's count of flakes done, nugget by nugget
+done-sum : (p e : ℕ) (v : List ℕ) (n : ℕ) → sum n (λ i. pick (eqb (recordOf v i .epoch) e) (present p (recordOf v i .journal)) 0) ≡ countsIn p e v n .done
+unfolding countsIn countOf sum
+done-sum p e v zero = refl
+done-sum p e v (suc n) = rw (done-sum p e v n)
+
 tells : (w : World) → Sound w → Tells w (reportOn w)
 tells w x =
     let t = report-exact (w .drive) (w .vol) (report-accepts (w .drive) (w .vol) (x .untouched)) in
@@ -33,7 +43,9 @@ tells w x =
       moved = t .moved-told;
       left = t .left-told;
       flakes = t .flakes-told ∙ sym (flakes-sum (w .drive .p) (w .vol) (w .drive .n));
+      done = t .done-told ∙ sym (done-sum (w .drive .p) (w .drive .epoch) (w .vol) (w .drive .n));
       share = t .share-told;
+      empty = t .empty-told;
     }
 
 pub report-tells : ReportTells

@@ -1,6 +1,6 @@
 -- What each call answers in every history, that a change of the secret can always be brought to its end, and when the old
 -- secret may go. Each statement is proved, under the same name in small letters, in proofs/.
-use Prim.Native.Nat.{ℕ, zero, suc, _+_, _*_, _-_, _/_, _^_, _<_}
+use Prim.Native.Nat.{ℕ, zero, suc, _+_, _*_, _-_, _/_, _^_, _<_, min}
 use mathlib.Core.Path.{_≡_}
 use mathlib.Core.Bool.{Bool, true, false, not}
 use mathlib.Core.Logic.{_⊎_}
@@ -212,14 +212,18 @@ OldSecretNeeded =
     changing w ≡ true → (w .old ≡ other → ⊥)
     → (mountAnswer (w .vol) (w .secret) other (w .outside) ≡ A.OldSecret) ⊎ Collision (w .old) other (checkedText w)
 
--- "Report gives N, nuggets moved (epoch equal to the head's), left, flakes present, and share = moved × 10,000 / N rounded down"
+-- "Report gives N, nuggets moved (epoch equal to the head's), left, flakes present, and share". The share is document 02's, Item
+-- 1: "present flakes in moved nuggets × 10,000 / all present flakes, rounded down; with no flake present the nugget share
+-- stands; while any nugget is left the figure is at most 99.99."
 pub record Tells (w : World) (r : Report) : Type 0 where
   pub accepted : r .answer ≡ A.Accepted
   pub nuggets : r .n ≡ w .drive .n
   pub moved : r .moved ≡ many (w .drive .n) (hasMoved w)
   pub left : r .left ≡ nuggetsLeft w
   pub flakes : r .flakes ≡ sum (w .drive .n) (λ n. many (w .drive .p) (bit (recordOf (w .vol) n .journal)))
-  pub share : r .share ≡ r .moved * 10000 / r .n
+  pub done : r .done ≡ sum (w .drive .n) (λ n. pick (hasMoved w n) (many (w .drive .p) (bit (recordOf (w .vol) n .journal))) 0)
+  pub share : (r .flakes ≡ 0 → ⊥) → r .share ≡ min (pick (eqb (r .left) 0) 10000 9999) (r .done * 10000 / r .flakes)
+  pub empty : r .flakes ≡ 0 → r .share ≡ r .moved * 10000 / r .n
 
 -- the report on what the user holds
 abbrev pub reportOn : World → Report

@@ -28,7 +28,7 @@ newline = 10 ∷ []
 unfoldable pub shareText : ℕ → List ℕ
 shareText h = decimal (h / 100) ++ (46 ∷ (48 + h / 10 % 10) ∷ (48 + h % 10) ∷ [])
 
--- `nuggets=3 moved=1 left=2 flakes=2 share=33.33`
+-- `nuggets=3 moved=1 left=2 flakes=2 share=50.00`
 unfoldable pub reportLine : ℕ → ℕ → ℕ → ℕ → ℕ → List ℕ
 reportLine n moved left flakes share =
     t-nuggets ++ (decimal n ++ (t-moved ++ (decimal moved ++ (t-left ++ (decimal left ++ (t-flakes ++ (decimal flakes ++ (t-share ++ (shareText share ++ newline)))))))))

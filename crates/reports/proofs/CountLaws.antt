@@ -1,32 +1,33 @@
--- A turn of each counting loop, and what the counts and the share are between.
-use mathlib.Core.Path.{_≡_, refl, _∙_}
-use mathlib.Core.Bool.{true, false}
-use mathlib.Core.Logic.{_⊎_, inl, inr}
+-- A turn of each counting loop, and how the counts stand to each other.
+use mathlib.Core.Path.{_≡_, refl, ap, sym, _∙_}
+use mathlib.Core.Bool.{Bool, true, false}
 use mathlib.Core.List.{List}
-use Prim.Native.Nat.{ℕ, zero, suc, _+_, _*_, _/_, _^_, _<_, _≤_}
-use native.Mathlib.Nat.{lt-of-lt-of-le, div-lt-iff-lt-mul, mul-div-cancel-left}
+use Prim.Native.Nat.{ℕ, zero, suc, _+_, _*_, _^_, _<_, _≤_}
+use native.Mathlib.Nat.{lt-of-lt-of-le}
 use native.Mathlib.Numerals.{add-one}
 use native.Mathlib.Omega.{arith}
 use lib.Pow.{pow-mono}
-use lib.Dec.{ltb}
-use borrow.Author.Tests.{eq-eqb, ne-eqb, ltb-true, ltb-false}
-use Rattle.base.proofs.PickLaws.{told}
+use lib.Dec.{eqb}
+use borrow.Author.Tests.{eq-eqb, ne-eqb}
+use Rattle.base.specs.Pick.{pick}
+use Rattle.base.proofs.PickLaws.{yes, no}
 use Rattle.layout.specs.Parts.{recordAt}
 use Rattle.records.specs.Journal.{many, present}
 use Rattle.records.specs.Record.{recordIn}
 use Rattle.records.specs.declared.Record.{Record}
 use Rattle.records.proofs.CountLaws.{many-le, present-le, present-more}
 use Rattle.tree.specs.Path.{recordOf}
-use Rattle.reports.specs.Counts.{isMoved, movedIn, flakesIn, shareOf}
+use Rattle.reports.specs.declared.told.Counts.{Counts}
+use Rattle.reports.specs.Counts.{isMoved, movedIn, flakesIn, countOf, none, plus, countsIn}
 
 -- before the first turn
 pub moved-none : (e : ℕ) (v : List ℕ) → 0 ≡ movedIn e v 0
 unfolding many
 moved-none e v = refl
 
-pub flakes-none : (p : ℕ) (v : List ℕ) → 0 ≡ flakesIn p v 0
-unfolding flakesIn
-flakes-none p v = refl
+pub counts-none : (p e : ℕ) (v : List ℕ) → none ≡ countsIn p e v 0
+unfolding countsIn
+counts-none p e v = refl
 
 -- a turn at nugget i, whose record r was read at its place
 pub moved-one : (e : ℕ) (v : List ℕ) (i : ℕ) {m at : ℕ} {r : Record} → m ≡ movedIn e v i → at ≡ recordAt i → r ≡ recordIn at v → r .epoch ≡ e
@@ -43,41 +44,79 @@ moved-same e v i em ea er ne =
     let q : recordOf v i .epoch ≡ e → ⊥ = rw (er, ea) at ne in
     em ∙ rw (add-one i, ne-eqb (recordOf v i .epoch) e q) (omega arith)
 
-pub flakes-more : (p : ℕ) (v : List ℕ) (i : ℕ) {m k at : ℕ} {r : Record} → m ≡ flakesIn p v i → at ≡ recordAt i → r ≡ recordIn at v → k ≡ present p (r .journal)
-    → m + k ≡ flakesIn p v (i + 1)
-unfolding flakesIn
-flakes-more p v i em ea er ek = rw (em, ek, er, ea, add-one i)
+pub counts-more : (p e : ℕ) (v : List ℕ) (i : ℕ) {c k m : Counts} {at : ℕ} {r : Record} → c ≡ countsIn p e v i → at ≡ recordAt i → r ≡ recordIn at v
+    → k ≡ countOf p e r → m ≡ plus c k → m ≡ countsIn p e v (i + 1)
+unfolding countsIn
+counts-more p e v i ec ea er ek em = rw (em, ec, ek, er, ea, add-one i)
 
--- no more have moved than there are, and no more flakes are present than there are
+-- of a record that has moved, and of one that has not
+pub count-one : (p e : ℕ) (r : Record) {k : ℕ} → k ≡ present p (r .journal) → r .epoch ≡ e
+    → _≡_ {A = Counts} (record { moved = 1; flakes = k; done = k }) (countOf p e r)
+unfolding countOf
+count-one p e r ek ee = rw (eq-eqb (r .epoch) e ee, ek)
+
+pub count-none : (p e : ℕ) (r : Record) {k : ℕ} → k ≡ present p (r .journal) → (r .epoch ≡ e → ⊥)
+    → _≡_ {A = Counts} (record { moved = 0; flakes = k; done = 0 }) (countOf p e r)
+unfolding countOf
+count-none p e r ek ne = rw (ne-eqb (r .epoch) e ne, ek)
+
+-- no more have moved than there are
 pub moved-le : (e : ℕ) (v : List ℕ) (n : ℕ) → movedIn e v n ≤ n
 moved-le e v n = many-le n (isMoved e v)
 
-pub flakes-le : (p : ℕ) (v : List ℕ) (n : ℕ) → flakesIn p v n ≤ n * p
-unfolding flakesIn
-flakes-le p v zero = omega arith
-flakes-le p v (suc n) = omega (arith, flakes-le p v n, present-le p (recordOf v n .journal))
+-- the counts are those of finish and of the listing
+pub counts-moved : (p e : ℕ) (v : List ℕ) (n : ℕ) → countsIn p e v n .moved ≡ movedIn e v n
+unfolding countsIn countOf many
+counts-moved p e v zero = refl
+counts-moved p e v (suc n) = rw (counts-moved p e v n)
+
+pub counts-flakes : (p e : ℕ) (v : List ℕ) (n : ℕ) → countsIn p e v n .flakes ≡ flakesIn p v n
+unfolding countsIn countOf flakesIn
+counts-flakes p e v zero = refl
+counts-flakes p e v (suc n) = rw (counts-flakes p e v n)
+
+-- counts of n records with at most p flakes each
+pub record Counted (p n : ℕ) (c : Counts) : Type 0 where
+  pub moved-few : c .moved ≤ n
+  pub flakes-few : c .flakes ≤ n * p
+  pub done-le : c .done ≤ c .flakes
+  pub done-all : c .moved ≡ n → c .done ≡ c .flakes
+
+one-more : (p n : ℕ) (c : Counts) (b : Bool) (k : ℕ) → k ≤ p → Counted p n c
+    → Counted p (suc n) (plus c (record { moved = pick b 1 0; flakes = k; done = pick b k 0 }))
+one-more p n c true k l h =
+    record {
+      moved-few = omega (arith, h .moved-few);
+      flakes-few = omega (arith, h .flakes-few);
+      done-le = omega (arith, h .done-le);
+      done-all = λ e. ap (λ (d : ℕ). d + k) (h .done-all (omega arith));
+    }
+one-more p n c false k l h =
+    record {
+      moved-few = omega (arith, h .moved-few);
+      flakes-few = omega (arith, h .flakes-few);
+      done-le = omega (arith, h .done-le);
+      done-all = λ e. absurd (omega (arith, h .moved-few));
+    }
+
+pub counts-stand : (p e : ℕ) (v : List ℕ) (n : ℕ) → Counted p n (countsIn p e v n)
+unfolding countsIn countOf
+counts-stand p e v zero = record { moved-few = omega arith; flakes-few = omega arith; done-le = omega arith; done-all = λ e. refl }
+counts-stand p e v (suc n) =
+    one-more p n (countsIn p e v n) (isMoved e v n) (present p (recordOf v n .journal)) (present-le p (recordOf v n .journal)) (counts-stand p e v n)
+
+-- no sum of a turn rolls over
+pub counts-fit : (e : ℕ) (v : List ℕ) (i : ℕ) (r : Record) {c k : Counts} → i < 16384 → c ≡ countsIn 64 e v i → k ≡ countOf 64 e r
+    → (c .moved + k .moved < 2 ^ 32) × (c .flakes + k .flakes < 2 ^ 32) × (c .done + k .done < 2 ^ 32)
+unfolding countOf
+counts-fit e v i r l ec ek =
+    let h = one-more 64 i (countsIn 64 e v i) (eqb (r .epoch) e) (present 64 (r .journal)) (present-le 64 (r .journal)) (counts-stand 64 e v i) in
+    rw (ec, ek) (omega (arith, h .moved-few), omega (arith, h .flakes-few), omega (arith, h .flakes-few, h .done-le))
 
 -- where no journal has a bit at or above P, the ones of its word are its flakes below P
-pub flakes-below : (p : ℕ) (v : List ℕ) (n : ℕ) → p ≤ 64 → ((m : ℕ) → m < n → recordOf v m .journal < 2 ^ p) → flakesIn 64 v n ≡ flakesIn p v n
-unfolding flakesIn
-flakes-below p v zero h f = refl
-flakes-below p v (suc n) h f =
+pub counts-below : (p e : ℕ) (v : List ℕ) (n : ℕ) → p ≤ 64 → ((m : ℕ) → m < n → recordOf v m .journal < 2 ^ p) → countsIn 64 e v n ≡ countsIn p e v n
+unfolding countsIn countOf
+counts-below p e v zero h f = refl
+counts-below p e v (suc n) h f =
     let low : recordOf v n .journal < 2 ^ p = f n (omega arith) in
-    rw (flakes-below p v n h (λ m l. f m (omega arith)), present-more p 64 (recordOf v n .journal) low (lt-of-lt-of-le low (pow-mono h)))
-
--- "share = moved × 10,000 / N": at most 10,000, and that exactly if nothing is left
-pub share-le : (m n : ℕ) → 1 ≤ n → m ≤ n → shareOf m n ≤ 10000
-share-le m n a b = let z : m * 10000 / n < 10001 = div-lt-iff-lt-mul a .1 (omega arith) in omega arith
-
-pub share-full : (n : ℕ) → 1 ≤ n → shareOf n n ≡ 10000
-share-full n a = mul-div-cancel-left 10000 a
-
-pub share-less : (m n : ℕ) → 1 ≤ n → m < n → shareOf m n < 10000
-share-less m n a b = div-lt-iff-lt-mul a .1 (omega arith)
-
-pub share-told : (m n : ℕ) → 1 ≤ n → m ≤ n → shareOf m n ≡ 10000 → m ≡ n
-share-told m n a b e = go (told (ltb m n))
-  where
-    go : (ltb m n ≡ true) ⊎ (ltb m n ≡ false) → m ≡ n
-    go (inl q) = absurd (omega (arith, share-less m n a (ltb-true m n q)))
-    go (inr q) = omega (arith, ltb-false m n q)
+    rw (counts-below p e v n h (λ m l. f m (omega arith)), present-more p 64 (recordOf v n .journal) low (lt-of-lt-of-le low (pow-mono h)))

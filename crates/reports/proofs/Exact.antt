@@ -1,8 +1,8 @@
 -- An accepted report field by field, read off the records; and where nothing is altered what stored flake answers and shows.
-use mathlib.Core.Path.{_≡_, refl, ap}
+use mathlib.Core.Path.{_≡_, refl, ap, _∙_}
 use mathlib.Core.Bool.{Bool, true, false, not}
 use mathlib.Core.List.{List}
-use Prim.Native.Nat.{ℕ, zero, suc, _+_, _*_, _-_, _/_}
+use Prim.Native.Nat.{ℕ, zero, suc, _+_, _*_, _-_, _/_, min}
 use native.Mathlib.Omega.{arith}
 use lib.Dec.{eqb, ltb}
 use lib.ListN.{length}
@@ -13,6 +13,7 @@ use Rattle.base.proofs.PickLaws.{yes}
 use Rattle.answers.specs.declared.Answer.the-variants as A
 use Rattle.answers.specs.Numbers.{accepts}
 use Rattle.layout.specs.Parts.{lengthOf, flakeAt}
+use Rattle.layout.proofs.Limits.{limits}
 use Rattle.records.specs.Journal.{many}
 use Rattle.tree.specs.Path.{recordOf}
 use Rattle.drive.specs.declared.Drive.{Drive}
@@ -20,9 +21,12 @@ use Rattle.drive.specs.Drive.{shapeOf}
 use Rattle.drive.specs.Opening.{openingOf}
 use Rattle.drive.proofs.OpeningLaws.{opening-told}
 use Rattle.reports.specs.declared.told.Report.{Report}
-use Rattle.reports.specs.Counts.{flakesIn}
+use Rattle.reports.specs.Counts.{flakesIn, countsIn, shareOf}
 use Rattle.reports.specs.Report.{reportAnswer, reportOf}
 use Rattle.reports.specs.Stored.{isFlake, storedAnswer, storedFlake}
+use Rattle.reports.proofs.AnswerLaws.{report-is}
+use Rattle.reports.proofs.CountLaws.{counts-moved, counts-flakes, counts-stand}
+use Rattle.reports.proofs.ShareLaws.{exact-flakes, cap-left, share-empty}
 use Rattle.reports.proofs.ReportLaws.{report-accepted}
 
 -- those that pass a test and those that don't are all
@@ -47,18 +51,28 @@ module _ (d : Drive) (v : List ℕ) where
     pub moved-told : r .moved ≡ many (d .n) (λ i. eqb (recordOf v i .epoch) (d .epoch))
     pub left-told : r .left ≡ many (d .n) (λ i. not (eqb (recordOf v i .epoch) (d .epoch)))
     pub flakes-told : r .flakes ≡ flakesIn (d .p) v (d .n)
-    pub share-told : r .share ≡ r .moved * 10000 / r .n
+    pub done-told : r .done ≡ countsIn (d .p) (d .epoch) v (d .n) .done
+    -- document 02, Item 1, without a flake and with some
+    pub empty-told : r .flakes ≡ 0 → r .share ≡ r .moved * 10000 / r .n
+    pub share-told : (r .flakes ≡ 0 → ⊥) → r .share ≡ min (pick (eqb (r .left) 0) 10000 9999) (r .done * 10000 / r .flakes)
 
   pub report-exact : reportAnswer d v ≡ A.Accepted → Told (reportOf d v)
+  unfolding shareOf
   report-exact e =
+      let c = countsIn (d .p) (d .epoch) v (d .n) in
+      let stand = counts-stand (d .p) (d .epoch) v (d .n) in
+      let some = limits (shapeOf d) (report-is d v (ap accepts e) .lent .limited) .some in
+      let moved = counts-moved (d .p) (d .epoch) v (d .n) in
       rw (report-accepted d v (ap accepts e))
       (record {
         answer-told = e;
         n-told = refl;
-        moved-told = refl;
-        left-told = many-not (d .n) (λ i. eqb (recordOf v i .epoch) (d .epoch));
-        flakes-told = refl;
-        share-told = refl;
+        moved-told = moved;
+        left-told = ap (λ (m : ℕ). d .n - m) moved ∙ many-not (d .n) (λ i. eqb (recordOf v i .epoch) (d .epoch));
+        flakes-told = counts-flakes (d .p) (d .epoch) v (d .n);
+        done-told = refl;
+        empty-told = share-empty (d .p) (d .n) c some stand;
+        share-told = λ ne. rw (cap-left (d .p) (d .n) c some stand, exact-flakes (d .n) c ne) refl;
       })
 
   -- stored flake: 8 past the end, else accepted

@@ -1,4 +1,5 @@
 pub mod CountLaws
+pub mod ShareLaws
 pub mod AnswerLaws
 pub mod ReportLaws
 pub mod StoredLaws

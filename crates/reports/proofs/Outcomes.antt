@@ -10,11 +10,14 @@ use Rattle.reports.proofs as fn
 pub moved-in : OneOutcome fn.moved_in.ended fn.moved_in.Reads.Post
 moved-in κs a x y u v p q = (agree p q, refl)
 
-pub flakes-in : OneOutcome fn.flakes_in.ended fn.flakes_in.Reads.Post
-flakes-in κs a x y u v p q = (agree p q, refl)
+pub counting-count-of : OneOutcome fn.counting.count_of.ended fn.counting.count_of.Reads.Post
+counting-count-of κs a x y u v p q = (agree p q, refl)
 
-pub share-of : OneOutcome fn.share_of.ended fn.share_of.Reads.Post
-share-of κs a x y u v p q = (agree p q, refl)
+pub counting-counts-in : OneOutcome fn.counting.counts_in.ended fn.counting.counts_in.Reads.Post
+counting-counts-in κs a x y u v p q = (agree p q, refl)
+
+pub counting-share-of : OneOutcome fn.counting.share_of.ended fn.counting.share_of.Reads.Post
+counting-share-of κs a x y u v p q = (agree p q, refl)
 
 pub report : OneOutcome fn.report.ended fn.report.Reads.Post
 report κs a x y u v p q = (agree p q, refl)

@@ -12,15 +12,22 @@ use Rattle.answers.specs.Numbers.{accepts}
 use Rattle.drive.specs.declared.Drive.{Drive}
 use Rattle.drive.specs.Drive.{shapeOf}
 use Rattle.reports.specs.declared.told.Report.{Report}
-use Rattle.reports.specs.Counts.{movedIn, flakesIn, shareOf}
+use Rattle.reports.specs.declared.told.Counts.{Counts}
+use Rattle.reports.specs.Counts.{countsIn, shareOf}
 use Rattle.reports.specs.Report.{reportAnswer, counted, refused, reportOf}
-use Rattle.reports.proofs.CountLaws.{moved-le, flakes-below, share-le, share-full, share-told}
+use Rattle.reports.proofs.CountLaws.{Counted, counts-stand, counts-below}
+use Rattle.reports.proofs.ShareLaws.{share-le, share-full, share-told}
 use Rattle.reports.proofs.AnswerLaws.{report-is}
 
 module _ (d : Drive) (v : List ℕ) where
+  abbrev counts : Counts
+  counts = countsIn (d .p) (d .epoch) v (d .n)
+
+  stand : Counted (d .p) (d .n) counts
+  stand = counts-stand (d .p) (d .epoch) v (d .n)
+
   -- accepted: the counts of the records
-  pub report-accepted : accepts (reportAnswer d v) ≡ true
-      → reportOf d v ≡ counted (reportAnswer d v) (d .n) (movedIn (d .epoch) v (d .n)) (flakesIn (d .p) v (d .n))
+  pub report-accepted : accepts (reportAnswer d v) ≡ true → reportOf d v ≡ counted (reportAnswer d v) (d .n) (countsIn (d .p) (d .epoch) v (d .n))
   unfolding reportOf
   report-accepted h = yes _ h refl
 
@@ -29,14 +36,16 @@ module _ (d : Drive) (v : List ℕ) where
   unfolding reportOf
   report-refused h = no _ h refl
 
-  -- the code's numbers are those
-  pub told-is : {a : Answer} {m k h : ℕ} → accepts (reportAnswer d v) ≡ true → a ≡ reportAnswer d v → m ≡ movedIn (d .epoch) v (d .n)
-      → k ≡ flakesIn 64 v (d .n) → h ≡ shareOf m (d .n)
-      → _≡_ {A = Report} (record { answer = a; n = d .n; moved = m; left = d .n - m; flakes = k; share = h }) (reportOf d v)
-  told-is q ea em ek eh =
+  -- the code's counts are those
+  pub told-is : {a : Answer} {c : Counts} {h : ℕ} → accepts (reportAnswer d v) ≡ true → a ≡ reportAnswer d v → c ≡ countsIn 64 (d .epoch) v (d .n)
+      → h ≡ shareOf (d .n) c
+      → _≡_ {A = Report}
+      (record { answer = a; n = d .n; moved = c .moved; left = d .n - c .moved; flakes = c .flakes; share = h; done = c .done })
+      (reportOf d v)
+  told-is q ea ec eh =
       let is = report-is d v q in
       let l : Limits (shapeOf d) = limits (shapeOf d) (is .lent .limited) in
-      rw (eh, ek, em, ea, flakes-below (d .p) v (d .n) (l .narrow) (is .journals)) (sym (report-accepted q))
+      rw (eh, ec, ea, counts-below (d .p) (d .epoch) v (d .n) (l .narrow) (is .journals)) (sym (report-accepted q))
 
   pub refused-is : {a : Answer} → accepts (reportAnswer d v) ≡ false → a ≡ reportAnswer d v → refused a ≡ reportOf d v
   refused-is q e = rw e (sym (report-refused q))
@@ -46,7 +55,7 @@ module _ (d : Drive) (v : List ℕ) where
   report-sums = go (told (accepts (reportAnswer d v)))
     where
       go : (accepts (reportAnswer d v) ≡ true) ⊎ (accepts (reportAnswer d v) ≡ false) → reportOf d v .moved + reportOf d v .left ≡ reportOf d v .n
-      go (inl q) = rw (report-accepted q) (omega (arith, moved-le (d .epoch) v (d .n)))
+      go (inl q) = rw (report-accepted q) (omega (arith, stand .moved-few))
       go (inr q) = rw (report-refused q)
 
   -- no share is above 100.00
@@ -54,9 +63,7 @@ module _ (d : Drive) (v : List ℕ) where
   report-share = go (told (accepts (reportAnswer d v)))
     where
       go : (accepts (reportAnswer d v) ≡ true) ⊎ (accepts (reportAnswer d v) ≡ false) → reportOf d v .share ≤ 10000
-      go (inl q) =
-          let l : Limits (shapeOf d) = limits (shapeOf d) (report-is d v q .lent .limited) in
-          rw (report-accepted q) (share-le (movedIn (d .epoch) v (d .n)) (d .n) (l .some) (moved-le (d .epoch) v (d .n)))
+      go (inl q) = rw (report-accepted q) (share-le (d .n) counts)
       go (inr q) = rw (report-refused q) (omega arith)
 
   -- accepted: the share is 100.00 exactly if nothing is left
@@ -64,7 +71,16 @@ module _ (d : Drive) (v : List ℕ) where
       → (reportOf d v .share ≡ 10000 → reportOf d v .left ≡ 0) × (reportOf d v .left ≡ 0 → reportOf d v .share ≡ 10000)
   report-full q =
       let l : Limits (shapeOf d) = limits (shapeOf d) (report-is d v q .lent .limited) in
-      let m = movedIn (d .epoch) v (d .n) in
-      let le : m ≤ d .n = moved-le (d .epoch) v (d .n) in
-      rw (report-accepted q)
-      (λ e. omega (arith, share-told m (d .n) (l .some) le e), λ e. let full : m ≡ d .n = omega arith in rw full (share-full (d .n) (l .some)))
+      rw (report-accepted q) (
+        λ e. omega (arith, share-told (d .p) (d .n) counts (l .some) stand e),
+        λ e. share-full (d .p) (d .n) counts (l .some) stand (omega (arith, stand .moved-few)),
+      )
+
+  -- the flakes done are among those present, and all of them if nothing is left
+  pub report-done : (reportOf d v .done ≤ reportOf d v .flakes) × (reportOf d v .left ≡ 0 → reportOf d v .done ≡ reportOf d v .flakes)
+  report-done = go (told (accepts (reportAnswer d v)))
+    where
+      go : (accepts (reportAnswer d v) ≡ true) ⊎ (accepts (reportAnswer d v) ≡ false)
+          → (reportOf d v .done ≤ reportOf d v .flakes) × (reportOf d v .left ≡ 0 → reportOf d v .done ≡ reportOf d v .flakes)
+      go (inl q) = rw (report-accepted q) (stand .done-le, λ e. stand .done-all (omega (arith, stand .moved-few)))
+      go (inr q) = rw (report-refused q) (omega arith, λ e. refl)

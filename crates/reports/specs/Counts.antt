@@ -1,10 +1,13 @@
--- What a report counts, read from the records.
-use Prim.Native.Nat.{ℕ, zero, suc, _+_, _*_, _/_}
+-- What a report counts, read from the records, and the share.
+use Prim.Native.Nat.{ℕ, zero, suc, _+_, _*_, _/_, min}
 use mathlib.Core.Bool.{Bool}
 use mathlib.Core.List.{List}
-use lib.Dec.{eqb}
+use lib.Dec.{eqb, ltb}
+use Rattle.base.specs.Pick.{pick}
+use Rattle.records.specs.declared.Record.{Record}
 use Rattle.records.specs.Journal.{many, present}
 use Rattle.tree.specs.Path.{recordOf}
+use Rattle.reports.specs.declared.told.Counts.{Counts}
 
 -- "moved (epoch equal to the head's)"
 abbrev pub isMoved : ℕ → List ℕ → ℕ → Bool
@@ -19,6 +22,31 @@ unfoldable pub flakesIn : ℕ → List ℕ → ℕ → ℕ
 flakesIn p v zero = 0
 flakesIn p v (suc k) = flakesIn p v k + present p (recordOf v k .journal)
 
--- "share = moved × 10,000 / N rounded down": hundredths of a percent
-abbrev pub shareOf : ℕ → ℕ → ℕ
-shareOf moved n = moved * 10000 / n
+-- what one record counts for: its nugget if that has moved, its present flakes, and these once more if the nugget has moved
+unfoldable pub countOf : ℕ → ℕ → Record → Counts
+countOf p epoch r =
+    let flakes = present p (r .journal) in
+    record { moved = pick (eqb (r .epoch) epoch) 1 0; flakes = flakes; done = pick (eqb (r .epoch) epoch) flakes 0 }
+
+abbrev pub none : Counts
+none = record { moved = 0; flakes = 0; done = 0 }
+
+abbrev pub plus : Counts → Counts → Counts
+plus a b = record { moved = a .moved + b .moved; flakes = a .flakes + b .flakes; done = a .done + b .done }
+
+-- the counts of the first k records
+unfoldable pub countsIn : ℕ → ℕ → List ℕ → ℕ → Counts
+countsIn p epoch v zero = none
+countsIn p epoch v (suc k) = plus (countsIn p epoch v k) (countOf p epoch (recordOf v k))
+
+-- Document 02, Item 1: "present flakes in moved nuggets × 10,000 / all present flakes, rounded down; with no flake
+-- present the nugget share stands": hundredths of a percent
+unfoldable pub exactOf : ℕ → Counts → ℕ
+exactOf n c = pick (eqb (c .flakes) 0) (c .moved * 10000 / n) (c .done * 10000 / c .flakes)
+
+-- "while any nugget is left the figure is at most 99.99"; no figure is above 100.00
+abbrev pub capOf : ℕ → Counts → ℕ
+capOf n c = pick (ltb (c .moved) n) 9999 10000
+
+unfoldable pub shareOf : ℕ → Counts → ℕ
+shareOf n c = min (capOf n c) (exactOf n c)

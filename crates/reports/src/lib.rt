@@ -1,16 +1,18 @@
 // The calls that tell of an open drive and change nothing: its report, and the stored bytes of a flake.
 // It touches `drive` and `tree` for the tests, `records` for the counts, and `layout` and `answers`.
+mod counting;
 mod told;
 
 use answers::Answer;
 use drive::Drive;
+pub use told::Counts;
 pub use told::Report;
 ghost use mathlib.Core.Path.{_≡_};
 ghost use Prim.Native.Nat.{_≤_};
 ghost use lib.ListN.{length};
 ghost use denote.Ref.{ptr};
 ghost use Rattle.layout.specs.Parts.{recordAt};
-ghost use Rattle.reports.specs.Counts.{movedIn, flakesIn, shareOf};
+ghost use Rattle.reports.specs.Counts.{movedIn};
 ghost use Rattle.reports.specs.Report.{reportAnswer, reportOf};
 ghost use Rattle.reports.specs.Stored.{isFlake, storedAnswer, storedFlake, storedAt, onward};
 
@@ -31,29 +33,6 @@ pub fn moved_in(vol: &[u8], n: u32, epoch: u16) -> u32
     moved
 }
 
-// How many flakes the first n journals hold. No shape has more nuggets, so no sum of counts rolls over.
-pub fn flakes_in(vol: &[u8], n: u32) -> u32
-    requires { ⌜ (recordAt n ≤ length (now vol)) × (n ≤ 16384) ⌝ }
-    ensures { λ r. ⌜ r ≡ flakesIn 64 (now (vol .entry)) n ⌝ }
-{
-    let mut flakes = 0;
-    let mut i = 0;
-    while i < n {
-        let r = records::read(vol, layout::record_at(i));
-        flakes += records::count(r.journal);
-        i += 1;
-    }
-    flakes
-}
-
-// "share = moved × 10,000 / N rounded down"
-pub fn share_of(moved: u32, n: u32) -> u32
-    requires { ⌜ (1 ≤ n) × (n ≤ 16384) × (moved ≤ n) ⌝ }
-    ensures { λ r. ⌜ r ≡ shareOf moved n ⌝ }
-{
-    moved * 10000 / n
-}
-
 // What a report answers: 1, 2, 7 head, 7 whole.
 fn report_answer(d: Drive, vol: &[u8]) -> Answer
     ensures { λ r. ⌜ r ≡ reportAnswer d (now (vol .entry)) ⌝ }
@@ -71,16 +50,16 @@ pub fn report(d: Drive, vol: &[u8]) -> Report
 {
     let answer = report_answer(d, vol);
     if answers::accepted(answer) {
-        let moved = moved_in(vol, d.n, d.epoch);
-        let flakes = flakes_in(vol, d.n);
-        let share = share_of(moved, d.n);
+        let c = counting::counts_in(vol, d.n, d.epoch);
+        let share = counting::share_of(d.n, c);
         return Report {
             answer: answer,
             n: d.n,
-            moved: moved,
-            left: d.n - moved,
-            flakes: flakes,
+            moved: c.moved,
+            left: d.n - c.moved,
+            flakes: c.flakes,
             share: share,
+            done: c.done,
         };
     }
     Report {
@@ -90,6 +69,7 @@ pub fn report(d: Drive, vol: &[u8]) -> Report
         left: 0,
         flakes: 0,
         share: 0,
+        done: 0,
     }
 }
 

@@ -1,6 +1,6 @@
 use Rattle.reports.proofs.ReportLaws.{told-is, refused-is}
 use Rattle.reports.proofs.AnswerLaws.{report-is}
-use Rattle.reports.proofs.CountLaws.{moved-le}
+use Rattle.reports.proofs.CountLaws.{counts-stand}
 use Rattle.reports.specs.Report.{reportAnswer}
 use Rattle.drive.specs.Drive.{shapeOf}
 use Rattle.answers.specs.Numbers.{accepts}
@@ -19,43 +19,25 @@ report-answer-requires c κs = search needs
 accepted-requires : tie.Need-accepted-requires
 accepted-requires c κs = search needs
 
-moved-in-requires : tie.Need-moved-in-requires
-moved-in-requires c κs =
+counts-in-requires : tie.Need-counts-in-requires
+counts-in-requires c κs =
     let d = c .before .before .before .before .args .d in
     let a : accepts (reportAnswer d (c .before .before .before .before .args .vol .now)) ≡ true = ap accepts (sym (c .before .before .report-answer .ensures)) ∙ sym (c .before .accepted .ensures) ∙ c .if1 .taken in
     let is = report-is d (c .before .before .before .before .args .vol .now) a in
     let l : Limits (shapeOf d) = limits (shapeOf d) (is .lent .limited) in
-    omega (arith, parts-inside (shapeOf d), is .lent .size)
-
-flakes-in-requires : tie.Need-flakes-in-requires
-flakes-in-requires c κs =
-    let d = c .before .before .before .before .before .args .d in
-    let a : accepts (reportAnswer d (c .before .before .before .before .before .args .vol .now)) ≡ true = ap accepts (sym (c .before .before .before .report-answer .ensures)) ∙ sym (c .before .before .accepted .ensures) ∙ c .before .if1 .taken in
-    let is = report-is d (c .before .before .before .before .before .args .vol .now) a in
-    let l : Limits (shapeOf d) = limits (shapeOf d) (is .lent .limited) in
     (omega (arith, parts-inside (shapeOf d), is .lent .size), l .few)
 
 share-of-requires : tie.Need-share-of-requires
-share-of-requires c κs =
-    let d = c .before .before .before .before .before .before .args .d in
-    let a : accepts (reportAnswer d (c .before .before .before .before .before .before .args .vol .now)) ≡ true = ap accepts (sym (c .before .before .before .before .report-answer .ensures)) ∙ sym (c .before .before .before .accepted .ensures) ∙ c .before .before .if1 .taken in
-    let is = report-is d (c .before .before .before .before .before .before .args .vol .now) a in
-    let l : Limits (shapeOf d) = limits (shapeOf d) (is .lent .limited) in
-    (l .some, l .few, rw (c .before .moved-in .ensures) (moved-le (d .epoch) (c .before .before .before .before .before .before .args .vol .now) (d .n)))
+share-of-requires c κs = search needs
 
-sub-t8 : tie.Need-sub-t8
-sub-t8 c =
-    let d = c .before .before .before .before .before .before .before .before .args .d in
-    let a : accepts (reportAnswer d (c .before .before .before .before .before .before .before .before .args .vol .now)) ≡ true = ap accepts (sym (c .before .before .before .before .before .before .report-answer .ensures)) ∙ sym (c .before .before .before .before .before .accepted .ensures) ∙ c .before .before .before .before .if1 .taken in
-    let is = report-is d (c .before .before .before .before .before .before .before .before .args .vol .now) a in
-    let l : Limits (shapeOf d) = limits (shapeOf d) (is .lent .limited) in
-    rw (c .before .before .before .moved-in .ensures) (moved-le (d .epoch) (c .before .before .before .before .before .before .before .before .args .vol .now) (d .n))
+sub-t7 : tie.Need-sub-t7
+sub-t7 c = rw (c .before .before .before .counts-in .ensures) (counts-stand 64 (c .before .before .before .before .before .before .before .before .args .d .epoch) (c .before .before .before .before .before .before .before .before .args .vol .now) (c .before .before .before .before .before .before .before .before .args .d .n) .moved-few)
 
 returns : tie.Need-returns
 returns c =
-    let d = c .before .before .before .before .before .before .before .before .args .d in
-    let a : accepts (reportAnswer d (c .before .before .before .before .before .before .before .before .args .vol .now)) ≡ true = ap accepts (sym (c .before .before .before .before .before .before .report-answer .ensures)) ∙ sym (c .before .before .before .before .before .accepted .ensures) ∙ c .before .before .before .before .if1 .taken in
-    told-is d (c .before .before .before .before .before .before .before .before .args .vol .now) a (c .before .before .before .before .before .before .report-answer .ensures) (c .before .before .before .moved-in .ensures) (c .before .before .flakes-in .ensures) (c .before .share-of .ensures)
+    let k = c .before .before .before .before .before .before .before .before .args in
+    let a : accepts (reportAnswer (k .d) (k .vol .now)) ≡ true = ap accepts (sym (c .before .before .before .before .before .before .report-answer .ensures)) ∙ sym (c .before .before .before .before .before .accepted .ensures) ∙ c .before .before .before .before .if1 .taken in
+    told-is (k .d) (k .vol .now) a (c .before .before .before .before .before .before .report-answer .ensures) (c .before .before .before .counts-in .ensures) (c .before .before .share-of .ensures)
 
 returns-2 : tie.Need-returns-2
 returns-2 c = refused-is (c .before .before .before .before .args .d) (c .before .before .before .before .args .vol .now) (ap accepts (sym (c .before .before .report-answer .ensures)) ∙ sym (c .before .accepted .ensures) ∙ c .if1 .left) (c .before .before .report-answer .ensures)
@@ -66,9 +48,8 @@ report-spec =
     (tie.spec
     report-answer-requires
     accepted-requires
-    moved-in-requires
-    flakes-in-requires
+    counts-in-requires
     share-of-requires
-    sub-t8
+    sub-t7
     returns
     returns-2)
