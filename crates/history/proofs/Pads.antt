@@ -20,7 +20,7 @@ use Rattle.layout.specs.Lent.{Lent}
 use Rattle.layout.proofs.Limits.{limits, lent-small}
 use Rattle.records.specs.Listing.{Entry}
 use Rattle.keys.specs.Keys.{nuggetKey, tagKey, checkOf, sealOf}
-use Rattle.keys.specs.Pads.{Size, Stretch, Lies, Input, padOf, inputOf}
+use Rattle.keys.specs.Pads.{Size, Stretch, Lies, padOf, inputOf}
 use Rattle.keys.proofs.Stretches.{stretch-is, no-stretch-twice as stretches-apart}
 use Rattle.nodes.specs.Nodes.{nodeIn, leafOf, innerOf}
 use Rattle.nodes.specs.Made.{madeOf}
@@ -52,7 +52,7 @@ use Rattle.history.proofs.Sound.{Sound}
 use Rattle.history.proofs.Changed.{kept-changing}
 use Rattle.history.proofs.Steps.{step-keeps, step-sound, sound}
 use Rattle.history.proofs.Runs.{run-append}
-use Rattle.history.proofs.Counters.{baseOf, step-base}
+use Rattle.history.proofs.Counters.{step-base}
 use Rattle.history.proofs.Demands.{shape-kept, no-entry-twice}
 
 -- a flake and a keycount that there can be

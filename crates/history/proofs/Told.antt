@@ -12,8 +12,7 @@ use Rattle.base.specs.Pick.{pick}
 use Rattle.records.specs.Journal.{many, present}
 use Rattle.tree.specs.Path.{recordOf}
 use Rattle.drive.specs.declared.Drive.{Drive}
-use Rattle.reports.specs.Counts.{countOf, countsIn}
-use Rattle.reports.proofs.Exact.{report-exact}
+use Rattle.reports.proofs.Exact.{doneIn, report-exact}
 use Rattle.ledger.specs.Totals.{sum}
 use Rattle.changes.specs.Change.{advanced}
 use Rattle.history.specs.World.{World, sweep}
@@ -28,9 +27,9 @@ use Rattle.history.proofs.Table.{exactly}
 use Rattle.history.proofs.Demands.{flakes-sum}
 use Rattle.history.proofs.Moves.{sweep-tells, sweep-leaves, swept-own, swept-other}
 
--- the report's count of flakes done, nugget by nugget
-done-sum : (p e : ℕ) (v : List ℕ) (n : ℕ) → sum n (λ i. pick (eqb (recordOf v i .epoch) e) (present p (recordOf v i .journal)) 0) ≡ countsIn p e v n .done
-unfolding countsIn countOf sum
+-- the report's count of flakes done is the ledger's sum
+done-sum : (p e : ℕ) (v : List ℕ) (n : ℕ) → sum n (λ i. pick (eqb (recordOf v i .epoch) e) (present p (recordOf v i .journal)) 0) ≡ doneIn p e v n
+unfolding doneIn sum
 done-sum p e v zero = refl
 done-sum p e v (suc n) = rw (done-sum p e v n)
 

@@ -153,7 +153,7 @@ abbrev pub changeTo : List ℕ → World → List Call
 changeTo secret w = pick (changing w) (toFinish w) (begin secret ∷ toFinish (step w (begin secret)))
 
 -- From any point of a history with room in counter and epoch a change of the secret comes to its end: all its calls are
--- accepted, and then the drive is steady.
+-- accepted, and then the drive is steady; so by OldSecretFree the old secret is free.
 abbrev pub Completes : Type 0
 Completes =
     (start : Start) (calls : List Call) (secret : List ℕ)

@@ -1,5 +1,5 @@
 -- A turn of each counting loop, and how the counts stand to each other.
-use mathlib.Core.Path.{_≡_, refl, ap, sym, _∙_}
+use mathlib.Core.Path.{_≡_, refl, ap, _∙_}
 use mathlib.Core.Bool.{Bool, true, false}
 use mathlib.Core.List.{List}
 use Prim.Native.Nat.{ℕ, zero, suc, _+_, _*_, _^_, _<_, _≤_}
@@ -10,7 +10,6 @@ use lib.Pow.{pow-mono}
 use lib.Dec.{eqb}
 use borrow.Author.Tests.{eq-eqb, ne-eqb}
 use Rattle.base.specs.Pick.{pick}
-use Rattle.base.proofs.PickLaws.{yes, no}
 use Rattle.layout.specs.Parts.{recordAt}
 use Rattle.records.specs.Journal.{many, present}
 use Rattle.records.specs.Record.{recordIn}

@@ -1,5 +1,5 @@
 -- An accepted report field by field, read off the records; and where nothing is altered what stored flake answers and shows.
-use mathlib.Core.Path.{_≡_, refl, ap, _∙_}
+use mathlib.Core.Path.{_≡_, refl, ap, sym, _∙_}
 use mathlib.Core.Bool.{Bool, true, false, not}
 use mathlib.Core.List.{List}
 use Prim.Native.Nat.{ℕ, zero, suc, _+_, _*_, _-_, _/_, min}
@@ -14,14 +14,14 @@ use Rattle.answers.specs.declared.Answer.the-variants as A
 use Rattle.answers.specs.Numbers.{accepts}
 use Rattle.layout.specs.Parts.{lengthOf, flakeAt}
 use Rattle.layout.proofs.Limits.{limits}
-use Rattle.records.specs.Journal.{many}
+use Rattle.records.specs.Journal.{many, present}
 use Rattle.tree.specs.Path.{recordOf}
 use Rattle.drive.specs.declared.Drive.{Drive}
 use Rattle.drive.specs.Drive.{shapeOf}
 use Rattle.drive.specs.Opening.{openingOf}
 use Rattle.drive.proofs.OpeningLaws.{opening-told}
 use Rattle.reports.specs.declared.told.Report.{Report}
-use Rattle.reports.specs.Counts.{flakesIn, countsIn, shareOf}
+use Rattle.reports.specs.Counts.{flakesIn, countOf, countsIn, shareOf}
 use Rattle.reports.specs.Report.{reportAnswer, reportOf}
 use Rattle.reports.specs.Stored.{isFlake, storedAnswer, storedFlake}
 use Rattle.reports.proofs.AnswerLaws.{report-is}
@@ -43,20 +43,30 @@ many-rest (suc n) g = go (g n) (many-rest n g)
 pub many-not : (n : ℕ) (g : ℕ → Bool) → n - many n g ≡ many n (λ i. not (g i))
 many-not n g = omega (arith, many-rest n g)
 
+-- "present flakes in moved nuggets", nugget by nugget
+unfoldable pub doneIn : ℕ → ℕ → List ℕ → ℕ → ℕ
+doneIn p e v zero = 0
+doneIn p e v (suc n) = doneIn p e v n + pick (eqb (recordOf v n .epoch) e) (present p (recordOf v n .journal)) 0
+
+done-is : (p e : ℕ) (v : List ℕ) (n : ℕ) → doneIn p e v n ≡ countsIn p e v n .done
+unfolding countsIn countOf doneIn
+done-is p e v zero = refl
+done-is p e v (suc n) = rw (done-is p e v n)
+
 module _ (d : Drive) (v : List ℕ) where
   -- "Report gives N, nuggets moved (epoch equal to the head's), left, flakes present, and share"
-  pub record Told (r : Report) : Type 0 where
+  pub record Fields (r : Report) : Type 0 where
     pub answer-told : r .answer ≡ A.Accepted
     pub n-told : r .n ≡ d .n
     pub moved-told : r .moved ≡ many (d .n) (λ i. eqb (recordOf v i .epoch) (d .epoch))
     pub left-told : r .left ≡ many (d .n) (λ i. not (eqb (recordOf v i .epoch) (d .epoch)))
     pub flakes-told : r .flakes ≡ flakesIn (d .p) v (d .n)
-    pub done-told : r .done ≡ countsIn (d .p) (d .epoch) v (d .n) .done
+    pub done-told : r .done ≡ doneIn (d .p) (d .epoch) v (d .n)
     -- document 02, Item 1, without a flake and with some
     pub empty-told : r .flakes ≡ 0 → r .share ≡ r .moved * 10000 / r .n
     pub share-told : (r .flakes ≡ 0 → ⊥) → r .share ≡ min (pick (eqb (r .left) 0) 10000 9999) (r .done * 10000 / r .flakes)
 
-  pub report-exact : reportAnswer d v ≡ A.Accepted → Told (reportOf d v)
+  pub report-exact : reportAnswer d v ≡ A.Accepted → Fields (reportOf d v)
   unfolding shareOf
   report-exact e =
       let c = countsIn (d .p) (d .epoch) v (d .n) in
@@ -70,7 +80,7 @@ module _ (d : Drive) (v : List ℕ) where
         moved-told = moved;
         left-told = ap (λ (m : ℕ). d .n - m) moved ∙ many-not (d .n) (λ i. eqb (recordOf v i .epoch) (d .epoch));
         flakes-told = counts-flakes (d .p) (d .epoch) v (d .n);
-        done-told = refl;
+        done-told = sym (done-is (d .p) (d .epoch) v (d .n));
         empty-told = share-empty (d .p) (d .n) c some stand;
         share-told = λ ne. rw (cap-left (d .p) (d .n) c some stand, exact-flakes (d .n) c ne) refl;
       })

@@ -16,7 +16,7 @@ use Rattle.reports.specs.declared.told.Counts.{Counts}
 use Rattle.reports.specs.Counts.{countsIn, shareOf}
 use Rattle.reports.specs.Report.{reportAnswer, counted, refused, reportOf}
 use Rattle.reports.proofs.CountLaws.{Counted, counts-stand, counts-below}
-use Rattle.reports.proofs.ShareLaws.{share-le, share-full, share-told}
+use Rattle.reports.proofs.ShareLaws.{share-le, moved-full, full-moved}
 use Rattle.reports.proofs.AnswerLaws.{report-is}
 
 module _ (d : Drive) (v : List ℕ) where
@@ -72,8 +72,8 @@ module _ (d : Drive) (v : List ℕ) where
   report-full q =
       let l : Limits (shapeOf d) = limits (shapeOf d) (report-is d v q .lent .limited) in
       rw (report-accepted q) (
-        λ e. omega (arith, share-told (d .p) (d .n) counts (l .some) stand e),
-        λ e. share-full (d .p) (d .n) counts (l .some) stand (omega (arith, stand .moved-few)),
+        λ e. omega (arith, full-moved (d .p) (d .n) counts (l .some) stand e),
+        λ e. moved-full (d .p) (d .n) counts (l .some) stand (omega (arith, stand .moved-few)),
       )
 
   -- the flakes done are among those present, and all of them if nothing is left

@@ -1,9 +1,9 @@
 -- The share: at most 100.00, and that exactly if nothing is left.
-use mathlib.Core.Path.{_≡_, refl, ap, sym, _∙_}
+use mathlib.Core.Path.{_≡_, refl, sym, _∙_}
 use mathlib.Core.Bool.{true, false}
 use mathlib.Core.Logic.{_⊎_, inl, inr}
 use Prim.Native.Nat.{ℕ, _+_, _-_, _*_, _/_, _^_, _<_, _≤_, min}
-use native.Mathlib.Nat.{div-lt-iff-lt-mul, mul-div-cancel-left, min-le-left, min-le-right, min-eq-left, min-eq-right, div-zero}
+use native.Mathlib.Nat.{div-lt-iff-lt-mul, mul-div-cancel-left, min-le-left, min-eq-left, min-eq-right, div-zero}
 use native.Mathlib.Omega.{arith}
 use lib.Dec.{eqb, ltb}
 use borrow.Author.Tests.{eq-eqb, ne-eqb, eqb-true, eqb-false, lt-ltb, le-ltb, ltb-true, ltb-false}
@@ -78,11 +78,11 @@ module _ (p n : ℕ) (c : Counts) (some : 1 ≤ n) (h : Counted p n c) where
   unfolding shareOf
   share-exact e = rw (le-ltb (c .moved) n (omega arith)) (min-eq-right exact-le)
 
-  pub share-full : c .moved ≡ n → shareOf n c ≡ 10000
-  share-full e = share-exact e ∙ exact-full e
+  pub moved-full : c .moved ≡ n → shareOf n c ≡ 10000
+  moved-full e = share-exact e ∙ exact-full e
 
-  pub share-told : shareOf n c ≡ 10000 → c .moved ≡ n
-  share-told e = go (told (ltb (c .moved) n))
+  pub full-moved : shareOf n c ≡ 10000 → c .moved ≡ n
+  full-moved e = go (told (ltb (c .moved) n))
     where
       go : (ltb (c .moved) n ≡ true) ⊎ (ltb (c .moved) n ≡ false) → c .moved ≡ n
       go (inl q) = absurd (omega (arith, share-less n c (ltb-true (c .moved) n q)))

@@ -25,7 +25,7 @@ pub fn count_of(r: Record, epoch: u16) -> Counts
     }
 }
 
-fn sum(a: Counts, b: Counts) -> Counts
+fn plus(a: Counts, b: Counts) -> Counts
     requires { ⌜ (a .moved + b .moved < 2 ^ 32) × (a .flakes + b .flakes < 2 ^ 32) × (a .done + b .done < 2 ^ 32) ⌝ }
     ensures { λ c. ⌜ c ≡ plus a b ⌝ }
 {
@@ -49,7 +49,7 @@ pub fn counts_in(vol: &[u8], n: u32, epoch: u16) -> Counts
     let mut i = 0;
     while i < n {
         let r = records::read(vol, layout::record_at(i));
-        c = sum(c, count_of(r, epoch));
+        c = plus(c, count_of(r, epoch));
         i += 1;
     }
     c

@@ -4,6 +4,9 @@ mod counting;
 mod told;
 
 use answers::Answer;
+pub use counting::count_of;
+pub use counting::counts_in;
+pub use counting::share_of;
 use drive::Drive;
 pub use told::Counts;
 pub use told::Report;

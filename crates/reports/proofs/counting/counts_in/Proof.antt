@@ -25,8 +25,8 @@ read-requires c κs = search needs
 count-of-requires : tie.Need-count-of-requires Inv-loop μ-loop
 count-of-requires c κs = search needs
 
-sum-requires : tie.Need-sum-requires Inv-loop μ-loop
-sum-requires c κs = counts-fit (c .before .before .before .before .before .before .args .epoch) (c .before .before .before .before .before .before .args .vol .now) (c .before .before .before .before .loop .i) (c .before .read .result) (omega arith) (c .before .before .before .before .loop .inv .1) (c .count-of .ensures)
+plus-requires : tie.Need-plus-requires Inv-loop μ-loop
+plus-requires c κs = counts-fit (c .before .before .before .before .before .before .args .epoch) (c .before .before .before .before .before .before .args .vol .now) (c .before .before .before .before .loop .i) (c .before .read .result) (omega arith) (c .before .before .before .before .loop .inv .1) (c .count-of .ensures)
 
 add-i : tie.Need-add-i Inv-loop μ-loop
 add-i c = search needs
@@ -38,7 +38,7 @@ loop-again : tie.Need-loop-again Inv-loop μ-loop
 loop-again c =
     let a = c .before .before .before .before .before .before .before .args in (
       omega arith,
-      counts-more 64 (a .epoch) (a .vol .now) (c .before .before .before .before .before .loop .i) (c .before .before .before .before .before .loop .inv .1) (c .before .before .before .record-at .ensures) (c .before .before .read .ensures) (c .before .count-of .ensures) (c .sum .ensures),
+      counts-more 64 (a .epoch) (a .vol .now) (c .before .before .before .before .before .loop .i) (c .before .before .before .before .before .loop .inv .1) (c .before .before .before .record-at .ensures) (c .before .before .read .ensures) (c .before .count-of .ensures) (c .plus .ensures),
     )
 
 returns : tie.Need-returns Inv-loop μ-loop
@@ -54,7 +54,7 @@ counts-in-spec =
     record-at-requires
     read-requires
     count-of-requires
-    sum-requires
+    plus-requires
     add-i
     loop-less
     loop-again
