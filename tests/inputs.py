@@ -32,6 +32,8 @@ def around_the_sample(source, volume_flips):
     yield "the sample", good
     for n in (0, 1, 71, 72, 73, 175, 176, 177, len(good) - 1, sheet.MOST - 1, sheet.MOST, sheet.MOST + 1):
         yield f"{n} bytes", (good + bytes(sheet.MOST + 1))[:n]
+    for n in (sheet.MOST - 1, sheet.MOST, sheet.MOST + 1, sheet.MOST + 2):
+        yield f"{n} zero bytes", bytes(n)
     for byte in range(72):
         yield f"byte {byte} of the secrets and the counter", flipped(good, byte, source.randrange(8))
     for byte in range(104):

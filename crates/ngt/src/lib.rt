@@ -144,13 +144,13 @@ pub extern "C" fn ngt_stored_flake(
     answers::number(a)
 }
 
-fn image_after(changes: bool, d: Drive, given: [u8; 144]) -> [u8; 144]
-    ensures { λ r. ⌜ r ≡ imageAfter changes d given ⌝ }
+// "Where the drive comes back as given, no byte of the image is stored": it may lie on a page that can't be written then.
+fn keep(image: &mut [u8; 144], changes: bool, d: Drive)
+    ensures { λ _. ⌜ now (image .exit) ≡ imageAfter changes d (now (image .entry)) ⌝ }
 {
     if changes {
-        return packed::pack(d);
+        *image = packed::pack(d);
     }
-    given
 }
 
 // Begin, with a new secret.
@@ -164,12 +164,11 @@ pub extern "C" fn ngt_begin(
     ensures { λ r. ⌜ Begun (driveIn (now (image .entry))) (now (vol .entry)) (now (secret .entry))
         (now (image .entry)) r (now (vol .exit)) (now (image .exit)) (now (answer .exit)) ⌝ }
 {
-    let given = *image;
-    let d = opened(given);
+    let d = opened(*image);
     let done = rekeying::begin(d, vol, *secret);
     let a = done.answer;
     let next = done.drive;
-    *image = image_after(answers::accepted(a), next, given);
+    keep(image, answers::accepted(a), next);
     *answer = images::answer_image(a);
     answers::number(a)
 }
@@ -185,12 +184,11 @@ pub extern "C" fn ngt_sweep(
     ensures { λ r. ⌜ Swept (driveIn (now (image .entry))) (now (vol .entry)) nugget
         (now (image .entry)) r (now (vol .exit)) (now (image .exit)) (now (answer .exit)) ⌝ }
 {
-    let given = *image;
-    let d = opened(given);
+    let d = opened(*image);
     let done = rekeying::sweep(d, vol, nugget);
     let a = done.answer;
     let next = done.drive;
-    *image = image_after(answers::accepted(a), next, given);
+    keep(image, answers::accepted(a), next);
     *answer = images::answer_image(a);
     answers::number(a)
 }
@@ -201,12 +199,11 @@ pub extern "C" fn ngt_finish(image: &mut [u8; 144], vol: &mut [u8], answer: &mut
     ensures { λ r. ⌜ Finished (driveIn (now (image .entry))) (now (vol .entry))
         (now (image .entry)) r (now (vol .exit)) (now (image .exit)) (now (answer .exit)) ⌝ }
 {
-    let given = *image;
-    let d = opened(given);
+    let d = opened(*image);
     let done = rekeying::finish(d, vol);
     let a = done.answer;
     let next = done.drive;
-    *image = image_after(answers::accepted(a), next, given);
+    keep(image, answers::accepted(a), next);
     *answer = images::answer_image(a);
     answers::number(a)
 }
@@ -233,12 +230,11 @@ pub extern "C" fn ngt_write(
     ensures { λ r. ⌜ Written (driveIn (now (image .entry))) (now (vol .entry)) offset (now (bytes .entry))
         (now (image .entry)) r (now (vol .exit)) (now (image .exit)) (now (answer .exit)) ⌝ }
 {
-    let given = *image;
-    let d = opened(given);
+    let d = opened(*image);
     let done = writing::write(d, vol, offset, bytes);
     let a = done.answer;
     let next = done.drive;
-    *image = image_after(writes_by(a, bytes), next, given);
+    keep(image, writes_by(a, bytes), next);
     *answer = images::answer_image(a);
     answers::number(a)
 }

@@ -15,8 +15,8 @@ write-requires c κs = search needs
 writes-by-requires : tie.Need-writes-by-requires
 writes-by-requires c κs = search needs
 
-image-after-requires : tie.Need-image-after-requires
-image-after-requires c κs = search needs
+keep-requires : tie.Need-keep-requires
+keep-requires c κs = search needs
 
 answer-image-requires : tie.Need-answer-image-requires
 answer-image-requires c κs = search needs
@@ -29,10 +29,10 @@ same-length c = search needs
 
 returns : tie.Need-returns
 returns c =
-    let a = c .before .before .before .before .before .before .before .before .before .before .before .before .before .args in
-    let e = c .before .before .before .before .before .before .before .write .ensures in
+    let a = c .before .before .before .before .before .before .before .before .before .before .before .before .before .before .args in
+    let e = c .before .before .before .before .before .before .before .before .write .ensures in
     changed-by (λ (z : Drive). writeDone z (a .vol .now) (a .offset) (a .bytes .now)) (λ (z : Done). writes (z .answer) (a .bytes .now)) (λ (z : Drive). writeVolume z (a .vol .now) (a .offset) (a .bytes .now))
-    (c .before .before .before .before .before .before .before .before .before .opened .ensures) (e .0) (e .1) (c .before .before .before .writes-by .ensures) (c .before .before .image-after .ensures) (c .number .ensures) (c .before .answer-image .ensures)
+    (c .before .before .before .before .before .before .before .before .before .before .opened .ensures) (e .0) (e .1) (c .before .before .before .writes-by .ensures) (c .before .before .keep .ensures) (c .number .ensures) (c .before .answer-image .ensures)
 
 pub ngt-write-spec : {M : Type 1} → statement M
 ngt-write-spec =
@@ -41,7 +41,7 @@ ngt-write-spec =
     opened-requires
     write-requires
     writes-by-requires
-    image-after-requires
+    keep-requires
     answer-image-requires
     number-requires
     same-length

@@ -2,8 +2,8 @@ use Rattle.base.proofs.PickLaws.{yes, no}
 use Rattle.ngt.specs.Calls.{imageAfter}
 use mathlib.Core.Path.{refl, sym, _∙_}
 use borrow.Author.Needs.{needs}
-use Rattle.ngt.proofs.image_after.Statement.{statement}
-use Rattle.ngt.proofs.image_after.Tie as tie
+use Rattle.ngt.proofs.keep.Statement.{statement}
+use Rattle.ngt.proofs.keep.Tie as tie
 
 pack-requires : tie.Need-pack-requires
 pack-requires c κs = search needs
@@ -16,5 +16,5 @@ returns-2 : tie.Need-returns-2
 unfolding imageAfter
 returns-2 c = sym (no _ (c .if1 .left) refl)
 
-pub image-after-spec : {M : Type 1} → statement M
-image-after-spec = tie.close (tie.spec pack-requires returns returns-2)
+pub keep-spec : {M : Type 1} → statement M
+keep-spec = tie.close (tie.spec pack-requires returns returns-2)

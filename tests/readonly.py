@@ -1,0 +1,67 @@
+"""100,000 calls that may store nothing, on pages that can't be written and before pages that can't be touched.
+
+The specimens are made here by the second program: garbage, garbage under a right seal, and volumes with a history, whole,
+damaged and too short. `readonly.c` makes the calls, against the archive as it is shipped. NGT_SEED sets the seed.
+"""
+import os
+import pathlib
+import platform
+import random
+import subprocess
+import sys
+
+ROOT = pathlib.Path(__file__).resolve().parent.parent
+sys.path.insert(0, str(ROOT / "second"))
+import calls  # noqa: E402
+from checks import garbage  # noqa: E402
+from checks.make import SALT, flipped  # noqa: E402
+from layout import layout  # noqa: E402
+
+MADE = ROOT / "target" / "readonly"
+SEED = int(os.environ.get("NGT_SEED", "1"))
+SHAPES = ((1, 1, 64), (3, 2, 64), (2, 3, 128), (4, 64, 64), (5, 1, 256))
+EACH = 150
+
+
+def lived(source):
+    """A volume with a history, near the counter's top in every other case; the drive may be an earlier one."""
+    n, p, f = source.choice(SHAPES)
+    outside = source.choice((source.randrange(1000), garbage.TOP - source.randint(1, 4)))
+    result = calls.format(bytes(layout(n, p, f).length), n, p, f, SALT, source.randbytes(32), outside)
+    drive, volume, before = result.drive, result.volume, result.drive
+    for _ in range(source.randrange(8)):
+        o = source.randrange(n * p * f)
+        call = source.choice((lambda: calls.write(drive, volume, o, source.randbytes(min(n * p * f - o, 100))),
+                              lambda: calls.begin(drive, volume, source.randbytes(32)),
+                              lambda: calls.sweep(drive, volume, source.randrange(n)), lambda: calls.finish(drive, volume)))
+        result = call()
+        before, drive, volume = drive, result.drive, result.volume
+    if source.randrange(4) == 0:
+        volume = flipped(volume, source.randrange(len(volume)), source.randrange(8))
+    if source.randrange(8) == 0:
+        volume = source.choice((volume[:-1], volume + b"\0", volume[:104], volume[:71]))
+    return source.choice((drive, drive, drive, before)), volume
+
+
+def specimens():
+    for make in (garbage.wild, garbage.sealed, lived, lived):
+        for i in range(EACH):
+            source = random.Random(f"{SEED} {make.__name__} {i}")
+            drive, volume = make(source)
+            yield len(volume).to_bytes(4, "little") + drive.image() + volume
+
+
+def main():
+    MADE.mkdir(parents=True, exist_ok=True)
+    (MADE / "specimens").write_bytes(b"".join(specimens()))
+    subprocess.run(["rt", "staticlib", "ngt"], cwd=ROOT, check=True, capture_output=True)
+    native = platform.machine() == "x86_64"
+    compiler = ["gcc"] if native else ["x86_64-linux-gnu-gcc", "-static"]
+    words = ["-O2", "-Wall", "-Wextra", "-Werror", "-D_DEFAULT_SOURCE", "-std=c11", "-o", str(MADE / "readonly")]
+    subprocess.run([*compiler, *words, str(ROOT / "tests/readonly.c"), str(ROOT / "target/staticlib/libngt.a")], check=True)
+    sys.stdout.flush()
+    run = [] if native else ["qemu-x86_64"]
+    sys.exit(subprocess.run([*run, str(MADE / "readonly"), str(MADE / "specimens")]).returncode)
+
+
+main()
