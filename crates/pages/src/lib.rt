@@ -5,7 +5,7 @@ use drive::Drive;
 use records::Record;
 ghost use mathlib.Core.List.{[], _++_};
 ghost use Prim.Native.Nat.{_+_, _*_, _≤_};
-ghost use lib.ListN.{length};
+ghost use lib.ListN.{length, take};
 ghost use Rattle.base.specs.Pick.{pick};
 ghost use Rattle.records.specs.Journal.{bit};
 ghost use Rattle.line.specs.Decimal.{decimal};
@@ -131,8 +131,8 @@ fn put_drive(out: &mut [u8], at: usize, d: Drive, vol: &[u8], outside: u64) -> u
     put_old(&mut *out, b, d)
 }
 
-// The page in the first bytes of `out`; how many they are. A volume of 61,440 bytes has at most 378 nuggets.
-pub fn audit_page(input: &[u8], out: &mut [u8]) -> usize
+// The page of an input that has come whole. A volume of 61,440 bytes has at most 378 nuggets.
+fn put_page(input: &[u8], out: &mut [u8]) -> usize
     requires { ⌜ 114688 ≤ length (now out) ⌝ }
     ensures { λ k. ⌜ Put (now (out .entry)) 0 (auditPage (now (input .entry))) k (now (out .exit)) ⌝ }
 {
@@ -151,4 +151,23 @@ pub fn audit_page(input: &[u8], out: &mut [u8]) -> usize
         return put_drive(&mut *out, at, d, &input[72..], outside);
     }
     at
+}
+
+// The page of the first `read` bytes of the buffer. It has one byte more than "72 + 61,440": an input that fills it is over
+// 61,512 bytes, wherever it ends.
+fn put_read(buffer: &[u8], read: usize, out: &mut [u8]) -> usize
+    requires { ⌜ (61513 ≤ length (now buffer)) × (114688 ≤ length (now out)) ⌝ }
+    ensures { λ k. ⌜ Put (now (out .entry)) 0 (auditPage (take read (now (buffer .entry)))) k (now (out .exit)) ⌝ }
+{
+    if 61512 < read {
+        return line::refusal_line(out, Answer::Length);
+    }
+    put_page(&buffer[..read], out)
+}
+
+// The page for what was read into the buffer, in the first bytes of `out`; how many they are.
+pub fn audit_page(buffer: &[u8; 61513], read: usize, out: &mut [u8; 114688]) -> usize
+    ensures { λ k. ⌜ Put (now (out .entry)) 0 (auditPage (take read (now (buffer .entry)))) k (now (out .exit)) ⌝ }
+{
+    put_read(buffer, read, out)
 }

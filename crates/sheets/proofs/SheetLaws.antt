@@ -2,12 +2,14 @@
 use mathlib.Core.Path.{_≡_, sym, ap, _∙_}
 use mathlib.Core.Bool.{Bool, true, false}
 use mathlib.Core.List.{List}
-use Prim.Native.Nat.{ℕ, _-_, _≤_}
+use Prim.Native.Nat.{ℕ, _-_, _<_, _≤_}
 use native.Mathlib.Omega.{arith}
 use native.Mathlib.Nat.{le-refl}
-use lib.ListN.{length, take, drop, length-append, length-drop}
+use lib.ListN.{length, take, drop, length-append, length-take, length-drop}
 use lib.Seq.{take-all, length-sets, length-take-le}
+use borrow.Author.Tests.{le-leb, lt-leb}
 use Rattle.base.specs.Pick.{pick}
+use Rattle.base.proofs.PickLaws.{both-on}
 use Rattle.answers.specs.declared.Answer.{Answer}
 use Rattle.answers.specs.declared.Answer.the-variants as A
 use Rattle.answers.specs.Numbers.{numberOf, carriedOf, accepts}
@@ -23,6 +25,13 @@ use Rattle.sheets.specs.Sheet.{presentIn, oldIn, outsideIn, volumeIn, si
 -- the volume is all that follows
 pub volume-taken : (i : List ℕ) → take (length i - 72) (drop 72 i) ≡ volumeIn i
 volume-taken i = take-all (length i - 72) (drop 72 i) (rw (length-drop 72 i) (le-refl (length i - 72)))
+
+-- an input that fills a buffer of one byte more is too long
+pub over-long : (read : ℕ) (b : List ℕ) → 61513 ≤ length b → 61512 < read → sized (take read b) ≡ false
+unfolding sized
+over-long read b h k =
+    let long : 61513 ≤ length (take read b) = simp length-take (omega (arith, h, k)) in
+    both-on (le-leb 72 (length (take read b)) (omega (arith, long))) (lt-leb (length (take read b)) 61512 (omega (arith, long)))
 
 -- the mount of the input's pieces
 pub mounted-is : (i : List ℕ) {v p o : List ℕ} {k : ℕ} {r : Done} → v ≡ volumeIn i → p ≡ presentIn i → o ≡ oldIn i → k ≡ outsideIn i

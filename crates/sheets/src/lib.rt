@@ -5,7 +5,7 @@ use drive::Done;
 use reports::Report;
 ghost use mathlib.Core.Path.{_≡_};
 ghost use Prim.Native.Nat.{_≤_};
-ghost use lib.ListN.{length};
+ghost use lib.ListN.{length, take};
 ghost use Rattle.line.specs.Lines.{Put};
 ghost use Rattle.sheets.specs.Sheet.{reportText, mountedText, mountedBy, sheetLine};
 
@@ -46,8 +46,8 @@ pub fn mounted(input: &[u8]) -> Done
     opening::mount(&input[72..], present, old, outside)
 }
 
-// The line in the first bytes of `out`; how many they are.
-pub fn sheet_line(input: &[u8], out: &mut [u8]) -> usize
+// The line of an input that has come whole.
+fn put_line(input: &[u8], out: &mut [u8]) -> usize
     requires { ⌜ 128 ≤ length (now out) ⌝ }
     ensures { λ k. ⌜ Put (now (out .entry)) 0 (sheetLine (now (input .entry))) k (now (out .exit)) ⌝ }
 {
@@ -59,4 +59,23 @@ pub fn sheet_line(input: &[u8], out: &mut [u8]) -> usize
     }
     let m = mounted(input);
     put_mounted(out, m, &input[72..])
+}
+
+// The line of the first `read` bytes of the buffer. It has one byte more than "72 + 61,440": an input that fills it is over
+// 61,512 bytes, wherever it ends.
+fn put_read(buffer: &[u8], read: usize, out: &mut [u8]) -> usize
+    requires { ⌜ (61513 ≤ length (now buffer)) × (128 ≤ length (now out)) ⌝ }
+    ensures { λ k. ⌜ Put (now (out .entry)) 0 (sheetLine (take read (now (buffer .entry)))) k (now (out .exit)) ⌝ }
+{
+    if 61512 < read {
+        return line::refusal_line(out, Answer::Length);
+    }
+    put_line(&buffer[..read], out)
+}
+
+// The line for what was read into the buffer, in the first bytes of `out`; how many they are.
+pub fn sheet_line(buffer: &[u8; 61513], read: usize, out: &mut [u8; 128]) -> usize
+    ensures { λ k. ⌜ Put (now (out .entry)) 0 (sheetLine (take read (now (buffer .entry)))) k (now (out .exit)) ⌝ }
+{
+    put_read(buffer, read, out)
 }

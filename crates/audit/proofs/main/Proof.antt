@@ -10,23 +10,14 @@ slice-aggregate-read-full c = search needs
 read-full-requires : tie.Need-read-full-requires
 read-full-requires c κs = search needs
 
-array-share-prefix-input : tie.Need-array-share-prefix-input
-array-share-prefix-input c = search needs
-
-slice-aggregate-audit-page : tie.Need-slice-aggregate-audit-page
-slice-aggregate-audit-page c = search needs
-
-slice-aggregate-audit-page-2 : tie.Need-slice-aggregate-audit-page-2
-slice-aggregate-audit-page-2 c = search needs
-
 audit-page-requires : tie.Need-audit-page-requires
 audit-page-requires c κs = search needs
 
 array-share-prefix-out : tie.Need-array-share-prefix-out
-array-share-prefix-out c = page-fits _ (lit≤ tt) (c .before .audit-page .ensures) .0
+array-share-prefix-out c = page-fits _ (lit≤ tt) (c .audit-page .ensures) .0
 
 slice-aggregate-write-all : tie.Need-slice-aggregate-write-all
-slice-aggregate-write-all c = page-fits _ (lit≤ tt) (c .before .before .audit-page .ensures) .1
+slice-aggregate-write-all c = page-fits _ (lit≤ tt) (c .before .audit-page .ensures) .1
 
 write-all-requires : tie.Need-write-all-requires
 write-all-requires c κs = search needs
@@ -40,9 +31,6 @@ main-spec =
     (tie.spec
     slice-aggregate-read-full
     read-full-requires
-    array-share-prefix-input
-    slice-aggregate-audit-page
-    slice-aggregate-audit-page-2
     audit-page-requires
     array-share-prefix-out
     slice-aggregate-write-all

@@ -10,23 +10,14 @@ slice-aggregate-read-full c = search needs
 read-full-requires : tie.Need-read-full-requires
 read-full-requires c κs = search needs
 
-array-share-prefix-input : tie.Need-array-share-prefix-input
-array-share-prefix-input c = search needs
-
-slice-aggregate-sheet-line : tie.Need-slice-aggregate-sheet-line
-slice-aggregate-sheet-line c = search needs
-
-slice-aggregate-sheet-line-2 : tie.Need-slice-aggregate-sheet-line-2
-slice-aggregate-sheet-line-2 c = search needs
-
 sheet-line-requires : tie.Need-sheet-line-requires
 sheet-line-requires c κs = search needs
 
 array-share-prefix-out : tie.Need-array-share-prefix-out
-array-share-prefix-out c = line-fits _ (lit≤ tt) (c .before .sheet-line .ensures) .0
+array-share-prefix-out c = line-fits _ (lit≤ tt) (c .sheet-line .ensures) .0
 
 slice-aggregate-write-all : tie.Need-slice-aggregate-write-all
-slice-aggregate-write-all c = line-fits _ (lit≤ tt) (c .before .before .sheet-line .ensures) .1
+slice-aggregate-write-all c = line-fits _ (lit≤ tt) (c .before .sheet-line .ensures) .1
 
 write-all-requires : tie.Need-write-all-requires
 write-all-requires c κs = search needs
@@ -40,9 +31,6 @@ main-spec =
     (tie.spec
     slice-aggregate-read-full
     read-full-requires
-    array-share-prefix-input
-    slice-aggregate-sheet-line
-    slice-aggregate-sheet-line-2
     sheet-line-requires
     array-share-prefix-out
     slice-aggregate-write-all

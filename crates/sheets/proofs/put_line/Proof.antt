@@ -5,8 +5,8 @@ use Rattle.line.proofs.PutLaws.{put-as}
 use Rattle.base.proofs.PickLaws.{yes, no, both-on, both-off}
 use mathlib.Core.Path.{refl, sym, _∙_}
 use borrow.Author.Needs.{needs}
-use Rattle.sheets.proofs.sheet_line.Statement.{statement}
-use Rattle.sheets.proofs.sheet_line.Tie as tie
+use Rattle.sheets.proofs.put_line.Statement.{statement}
+use Rattle.sheets.proofs.put_line.Tie as tie
 
 refusal-line-requires : tie.Need-refusal-line-requires
 refusal-line-requires c κs = search needs
@@ -50,8 +50,8 @@ returns-3 : tie.Need-returns-3
 unfolding sheetLine sized
 returns-3 c = put-as _ _ (mounted-told (c .before .before .before .before .before .before .before .before .before .before .args .input .now) (c .before .before .before .before .before .mounted .ensures) (volume-taken (c .before .before .before .before .before .before .before .before .before .before .args .input .now)) ∙ sym (yes _ (both-on (le-leb _ _ (c .before .before .before .before .before .before .before .if1 .left)) (le-leb _ _ (c .before .before .before .before .before .before .if2 .left))) refl)) (c .before .before .put-mounted .ensures)
 
-pub sheet-line-spec : {M : Type 1} → statement M
-sheet-line-spec =
+pub put-line-spec : {M : Type 1} → statement M
+put-line-spec =
     tie.close
     (tie.spec
     refusal-line-requires

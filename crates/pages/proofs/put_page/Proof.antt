@@ -7,8 +7,8 @@ use borrow.Author.Tests.{le-leb, lt-leb}
 use native.Mathlib.Omega.{arith}
 use mathlib.Core.Path.{sym, _∙_}
 use borrow.Author.Needs.{needs}
-use Rattle.pages.proofs.audit_page.Statement.{statement}
-use Rattle.pages.proofs.audit_page.Tie as tie
+use Rattle.pages.proofs.put_page.Statement.{statement}
+use Rattle.pages.proofs.put_page.Tie as tie
 
 refusal-line-requires : tie.Need-refusal-line-requires
 refusal-line-requires c κs = search needs
@@ -78,8 +78,8 @@ returns-4 : tie.Need-returns-4
 unfolding sized
 returns-4 c = put-as _ _ (page-alone (c .before .before .before .before .before .before .before .before .before .before .before .before .args .input .now) (both-on (le-leb _ _ (c .before .before .before .before .before .before .before .before .before .if1 .left)) (le-leb _ _ (c .before .before .before .before .before .before .before .before .if2 .left))) (c .before .before .before .before .before .before .before .mounted .ensures) (volume-taken (c .before .before .before .before .before .before .before .before .before .before .before .before .args .input .now)) (sym (c .before .accepted .ensures) ∙ c .if3 .left)) (c .before .before .before .before .put-mounted .ensures)
 
-pub audit-page-spec : {M : Type 1} → statement M
-audit-page-spec =
+pub put-page-spec : {M : Type 1} → statement M
+put-page-spec =
     tie.close
     (tie.spec
     refusal-line-requires
