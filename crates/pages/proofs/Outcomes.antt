@@ -5,4 +5,4 @@ use Rattle.base.proofs.OutcomeLaws.{agree, _∥_}
 use Rattle.pages.proofs as fn
 
 pub audit-page : OneOutcome fn.audit_page.ended fn.audit_page.Reads.Post
-audit-page κs a x y u v p q = (agree (p .behind) (q .behind), refl ∥ agree (p .stored) (q .stored) ∥ refl)
+audit-page κs a x y u v p q = (agree (p .behind) (q .behind), refl ∥ refl ∥ agree (p .stored) (q .stored) ∥ refl)

@@ -11,4 +11,4 @@ pub mounted : OneOutcome fn.mounted.ended fn.mounted.Reads.Post
 mounted κs a x y u v p q = (agree p q, refl)
 
 pub sheet-line : OneOutcome fn.sheet_line.ended fn.sheet_line.Reads.Post
-sheet-line κs a x y u v p q = (agree (p .behind) (q .behind), refl ∥ agree (p .stored) (q .stored) ∥ refl)
+sheet-line κs a x y u v p q = (agree (p .behind) (q .behind), refl ∥ refl ∥ agree (p .stored) (q .stored) ∥ refl)
