@@ -1,0 +1,2 @@
+pub mod InvAes
+pub mod Tables
