@@ -1,0 +1,3 @@
+pub mod CounterLaws
+pub mod StreamLaws
+pub mod Outcomes
