@@ -52,6 +52,7 @@ counts "every crate is proved, every program writes its stdout, every edit is re
 counts "every edit is refused by a fact" python3 tests/first_errors.py
 counts "the second program holds against the documents" python3 second/check.py
 counts "the primitives agree with independent ones" python3 tests/primitives.py
+counts "AES-256 agrees with Debian's library" python3 tests/aes.py
 counts "keys, pads, tags, leaves, nodes, path and whole agree with the second program" python3 tests/parts.py
 counts "the calls agree with the second program through the C interface" python3 tests/calls.py
 counts "histories of calls agree with the second program to the byte" python3 tests/histories.py

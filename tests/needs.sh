@@ -5,6 +5,7 @@ command -v rt >/dev/null || { echo "the Rattle toolchain (rt) is not here"; exit
 missing=()
 command -v gcc >/dev/null || missing+=(gcc libc6-dev)
 command -v python3 >/dev/null || missing+=(python3)
+python3 -c 'import cryptography' 2>/dev/null || missing+=(python3-cryptography)
 if [ "$(uname -m)" != x86_64 ]; then
     command -v qemu-x86_64 >/dev/null || missing+=(qemu-user)
     command -v x86_64-linux-gnu-gcc >/dev/null || missing+=(gcc-x86-64-linux-gnu)

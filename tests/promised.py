@@ -9,7 +9,8 @@ import re
 import sys
 
 # Programs whose own functions have none, with the reason.
-PROGRAMS = {"vectors": "its functions print, and no contract can say what is written"}
+PRINTS = "its functions print, and no contract can say what is written"
+PROGRAMS = {"vectors": PRINTS, "vectors_aes": PRINTS}
 
 BASE = "use Rattle.base.specs.Outcome.{"
 CLAIM = "\nclaim P read same = AllOf (read w₀ .owes)\n"

@@ -1,0 +1,11 @@
+// A program: the published vectors of FIPS 197 and SP 800-38A, run through the proved crates.
+// It touches `aes`, `aes_back`, `ctr` and `words`, and the toolchain's `io` to print.
+mod blocks;
+mod counters;
+mod show;
+
+fn main() {
+    blocks::appendix_c();
+    counters::encrypted();
+    counters::decrypted();
+}
