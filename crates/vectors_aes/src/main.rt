@@ -1,5 +1,5 @@
-// A program: the published vectors of FIPS 197 and SP 800-38A, run through the proved crates.
-// It touches `aes`, `aes_back`, `ctr` and `words`, and the toolchain's `io` to print.
+// A program: the published vectors of FIPS 197 and SP 800-38A, run through the proved crates; specs/ has the first as a theorem.
+// It touches `aes`, `aes_back`, `ctr` and `words`, of `base` and `field` the definitions, and the toolchain's `io` to print.
 mod blocks;
 mod counters;
 mod show;

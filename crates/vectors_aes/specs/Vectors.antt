@@ -1,4 +1,4 @@
--- FIPS 197, C.3, computed from the definitions.
+-- FIPS 197, C.3, computed from the definitions, the S-box by its rule. It stands here and not in `aes` since it takes as long as all of that crate.
 use mathlib.Core.Path.{_≡_, refl}
 use mathlib.Core.List.{List, [], _∷_}
 use Prim.Native.Nat.{ℕ}
