@@ -48,6 +48,7 @@ holds "what it needs is here" tests/needs.sh
 holds "every crate is listed" every_crate_is_listed
 holds "every file has its layout" rt fmt --check
 counts "every public function has its theorem of one outcome" python3 tests/promised.py
+counts "what a function asks of its caller is on the page" python3 tests/required.py
 counts "every crate is proved, every program writes its stdout, every edit is refused" rt ci
 counts "every edit is refused by a fact" python3 tests/first_errors.py
 counts "the second program holds against the documents" python3 second/check.py
