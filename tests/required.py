@@ -13,7 +13,7 @@ PAGE = "## Functions that ask something of their caller\n"
 def asking():
     """(crate, function) of each public function with a `requires`."""
     for source in sorted(pathlib.Path("crates").glob("*/src/**/*.rt")):
-        for found in re.finditer(r'^\s*pub (?:extern "C" )?fn (\w+)(.*?)^\s*\{', source.read_text(), re.M | re.S):
+        for found in re.finditer(r'^ *pub (?:extern "C" )?fn (\w+)(.*?)(?:\{|^ *\{)\n', source.read_text(), re.M | re.S):
             if "requires" in found.group(2):
                 yield source.parts[1], found.group(1)
 
