@@ -4,7 +4,8 @@
  * of them overlap. Each returns the answer's number, 0 if the call is accepted, and always stores the answer's image.
  *
  * The drive's image, 144 bytes: 0-3 N; 4-7 P; 8-11 F; 12 state (0 steady, 1 changing); 13 zero; 14-15 epoch; 16-17 the epoch
- * being left; 18-23 zero; 24-39 salt; 40-47 counter; 48-79 node 1; 80-111 present secret; 112-143 old secret.
+ * being left; 18-23 zero; 24-39 salt; 40-47 counter; 48-79 node 1; 80-111 present secret; 112-143 old secret. Bytes 13 and
+ * 18-23 aren't looked at, nor are 16-17 and the old secret of a steady one. Another state than 0 or 1 is answered 1.
  * The answer's image, 16 bytes: 0-3 number; 4-7 kind of place (0 none, 1 head, 2 record, 3 node, 4 flake); 8-11 first value
  * (record, node, nugget of a flake; for answer 11 how many are left); 12-15 second value (the flake).
  * All numbers are little-endian. */
@@ -16,17 +17,20 @@
 extern "C" {
 #endif
 
+/* A refused format stores no byte of the volume. Both store the whole image of the drive, refused or not: a refusal's is all
+ * zeros, and every call on it is answered 1. */
 uint32_t ngt_format(uint8_t *vol, size_t vol_len, uint32_t n, uint32_t p, uint32_t f, const uint8_t salt[16],
                     const uint8_t secret[32], uint64_t outside, uint8_t drive[144], uint8_t answer[16]);
 uint32_t ngt_mount(const uint8_t *vol, size_t vol_len, const uint8_t present[32], const uint8_t old[32],
                    uint64_t outside, uint8_t drive[144], uint8_t answer[16]);
 
-/* The buffer is filled only if the call is accepted. */
+/* The buffer is filled only if the call is accepted; a refusal stores no byte of it. */
 uint32_t ngt_read(const uint8_t drive[144], const uint8_t *vol, size_t vol_len, uint64_t offset,
                   uint8_t *buf, size_t buf_len, uint8_t answer[16]);
 
-/* These change volume and drive where they stand, if the call is accepted; a refusal leaves both to the byte, and so does an
- * accepted write of no bytes. A change stores the whole image anew, so bytes of it that mean nothing are zeros then. */
+/* These change volume and drive where they stand, if the call is accepted. A refusal stores no byte of either, and neither does
+ * an accepted write of no bytes: both may then lie on pages that can't be written. A change stores the whole image anew, so
+ * bytes of it that mean nothing are zeros then. */
 uint32_t ngt_write(uint8_t drive[144], uint8_t *vol, size_t vol_len, uint64_t offset, const uint8_t *bytes, size_t bytes_len,
                    uint8_t answer[16]);
 uint32_t ngt_begin(uint8_t drive[144], uint8_t *vol, size_t vol_len, const uint8_t secret[32], uint8_t answer[16]);
