@@ -1,13 +1,14 @@
 /* The drive for hosts in C: link libngt.a, which `rt staticlib ngt` makes.
  *
  * No function has a precondition but that each pointer is to as many bytes as its type or its length says, and that no two
- * of them overlap. Each returns the answer's number, 0 if the call is accepted, and always stores the answer's image.
+ * of them overlap; a pointer whose length is 0 may be null. Each returns the answer's number, 0 if the call is accepted, and always stores the answer's image.
  *
  * The drive's image, 144 bytes: 0-3 N; 4-7 P; 8-11 F; 12 state (0 steady, 1 changing); 13 zero; 14-15 epoch; 16-17 the epoch
  * being left; 18-23 zero; 24-39 salt; 40-47 counter; 48-79 node 1; 80-111 present secret; 112-143 old secret. Bytes 13 and
  * 18-23 aren't looked at, nor are 16-17 and the old secret of a steady one. Another state than 0 or 1 is answered 1.
  * The answer's image, 16 bytes: 0-3 number; 4-7 kind of place (0 none, 1 head, 2 record, 3 node, 4 flake); 8-11 first value
- * (record, node, nugget of a flake; for answer 11 how many are left); 12-15 second value (the flake).
+ * (record, node, nugget of a flake; for answer 11 how many are left); 12-15 second value (the flake). What isn't carried is
+ * zero. After each accepted change the outside counter to keep is bytes 40-47 of the drive's image.
  * All numbers are little-endian. */
 #ifndef NGT_H
 #define NGT_H
@@ -17,7 +18,7 @@
 extern "C" {
 #endif
 
-/* A refused format stores no byte of the volume. Both store the whole image of the drive, refused or not: a refusal's is all
+/* When steady a mount doesn't look at old. A refused format stores no byte of the volume. Both store the whole image of the drive, refused or not: a refusal's is all
  * zeros, and every call on it is answered 1. */
 uint32_t ngt_format(uint8_t *vol, size_t vol_len, uint32_t n, uint32_t p, uint32_t f, const uint8_t salt[16],
                     const uint8_t secret[32], uint64_t outside, uint8_t drive[144], uint8_t answer[16]);
@@ -36,8 +37,7 @@ uint32_t ngt_write(uint8_t drive[144], uint8_t *vol, size_t vol_len, uint64_t of
 uint32_t ngt_begin(uint8_t drive[144], uint8_t *vol, size_t vol_len, const uint8_t secret[32], uint8_t answer[16]);
 uint32_t ngt_sweep(uint8_t drive[144], uint8_t *vol, size_t vol_len, uint32_t nugget, uint8_t answer[16]);
 
-/* Only an accepted finish is leave to destroy the old secret. Until then every mount asks for it, even with no nugget left; a
- * share of 100.00 is not leave. */
+/* Only an accepted finish is leave to destroy the old secret. Until then every mount asks for it, even with no nugget left. */
 uint32_t ngt_finish(uint8_t drive[144], uint8_t *vol, size_t vol_len, uint8_t answer[16]);
 
 /* report: N, moved, left, flakes, share in hundredths of a percent, 4 bytes each; all zero if refused. The share is by present
@@ -45,7 +45,8 @@ uint32_t ngt_finish(uint8_t drive[144], uint8_t *vol, size_t vol_len, uint8_t an
  * is 100.00, is not leave to destroy the old secret: only an accepted ngt_finish is. */
 uint32_t ngt_report(const uint8_t drive[144], const uint8_t *vol, size_t vol_len, uint8_t report[20], uint8_t answer[16]);
 
-/* span: where the part begins in the volume and its length, 8 bytes each; both zero if refused. */
+/* span: where the part begins in the volume and its length, 8 bytes each; both zero if refused. It tests the image, the
+ * volume's length and the numbers alone (1, 2, 8), and checks no tag. */
 uint32_t ngt_stored_flake(const uint8_t drive[144], const uint8_t *vol, size_t vol_len, uint32_t nugget, uint32_t flake,
                           uint8_t span[16], uint8_t answer[16]);
 
