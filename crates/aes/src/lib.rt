@@ -204,15 +204,15 @@ fn key_words(key: [u8; 32]) -> [u32; 60]
     w
 }
 
-// 5.2: KEYEXPANSION.
-pub fn expand(key: [u8; 32]) -> [u32; 60]
+// 5.2: KEYEXPANSION; `t` is `table()`.
+pub fn expand(t: &[u32; 256], key: [u8; 32]) -> [u32; 60]
+    requires { ⌜ now t ≡ roundTable ⌝ }
     ensures { λ r. ⌜ r ≡ keyExpansion key ⌝ }
 {
-    let t = table();
     let mut w = key_words(key);
     let mut n = 0;
     while n < 52 {
-        let x = temp_at(&t, n + 8, w[n + 7]);
+        let x = temp_at(t, n + 8, w[n + 7]);
         w[n + 8] = w[n] ^ x;
         n += 1;
     }

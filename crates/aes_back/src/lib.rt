@@ -118,16 +118,15 @@ fn modified_at(f: &[u32; 256], t: &[u32; 256], i: usize, x: u32) -> u32
     aes::looked_up(t, y, y, y, y)
 }
 
-// 5.3.5: KEYEXPANSIONEIC.
-pub fn expand(key: [u8; 32]) -> [u32; 60]
+// 5.3.5: KEYEXPANSIONEIC; `f` is `aes::table()`, and `t` is `table()`.
+pub fn expand(f: &[u32; 256], t: &[u32; 256], key: [u8; 32]) -> [u32; 60]
+    requires { ⌜ (now f ≡ roundTable) × (now t ≡ invRoundTable) ⌝ }
     ensures { λ r. ⌜ r ≡ keyExpansionEic key ⌝ }
 {
-    let f = aes::table();
-    let t = table();
-    let mut w = aes::expand(key);
+    let mut w = aes::expand(f, key);
     let mut i = 0;
     while i < 60 {
-        let x = modified_at(&f, &t, i, w[i]);
+        let x = modified_at(f, t, i, w[i]);
         w[i] = x;
         i += 1;
     }

@@ -11,7 +11,7 @@ pub extern "C" fn ngt_aes256_encrypt(block: &mut [u8; 16], key: &[u8; 32])
     ensures { λ _. ⌜ now (block .exit) ≡ aes256 (now (key .entry)) (now (block .entry)) ⌝ }
 {
     let t = aes::table();
-    let w = aes::expand(*key);
+    let w = aes::expand(&t, *key);
     *block = aes::encrypt(&t, &w, *block);
 }
 
@@ -20,9 +20,10 @@ pub extern "C" fn ngt_aes256_encrypt(block: &mut [u8; 16], key: &[u8; 32])
 pub extern "C" fn ngt_aes256_decrypt(block: &mut [u8; 16], key: &[u8; 32])
     ensures { λ _. ⌜ now (block .exit) ≡ invAes256 (now (key .entry)) (now (block .entry)) ⌝ }
 {
+    let f = aes::table();
     let t = aes_back::table();
     let b = aes_back::inv_sbox();
-    let dw = aes_back::expand(*key);
+    let dw = aes_back::expand(&f, &t, *key);
     *block = aes_back::decrypt(&t, &b, &dw, *block);
 }
 

@@ -1,4 +1,4 @@
--- Counter blocks: sixteen bytes, and no two pairs of numbers have one block.
+-- Counter blocks: from numbers to words, and no two pairs of numbers have one block.
 use mathlib.Core.Path.{_≡_, refl, ap, ap₂, sym, _∙_}
 use mathlib.Core.List.{List, [], _∷_, _++_}
 use Prim.Native.Nat.{ℕ, zero, suc, _+_, _*_, _/_, _%_, _^_, _<_}
@@ -7,8 +7,10 @@ use native.Mathlib.Omega.{arith}
 use lib.Arith.{mod-mul}
 use lib.Dec.{lit<}
 use lib.ListN.{length, getD, drop, take}
-use Rattle.words.specs.Le.{Bytes}
-use Rattle.words.proofs.LeLaws.{bytes-append}
+use Rattle.words.specs.Le.{num, le, Bytes, serialised}
+use Rattle.words.proofs.LeLaws.{le-num, bytes-append}
+use Rattle.aes.specs.Code.{bytesOf}
+use Rattle.aes.proofs.WordLaws.{four-bytes}
 use Rattle.aes.proofs.StateLaws.{State}
 use Rattle.ctr.specs.Ctr.{be, counterBlock}
 
@@ -18,20 +20,44 @@ be-bytes zero x i = lit< tt
 be-bytes (suc k) x zero = let q = x / 256 ^ k in let h : q % 256 < 256 = omega arith in h
 be-bytes (suc k) x (suc i) = be-bytes k x i
 
--- eight bytes as the code has them
-eight : (x : ℕ) → x / 72057594037927936 % 256 ∷ x / 281474976710656 % 256 ∷ x / 1099511627776 % 256 ∷ x / 4294967296 % 256 ∷ x / 16777216 % 256 ∷ x / 65536 % 256 ∷ x / 256 % 256 ∷ x % 256 ∷ []
-    ≡ be 8 x
-unfolding be
-eight x =
-    let low : x % 256 ≡ x / 1 % 256 = omega arith in
-    λ i. x / 72057594037927936 % 256 ∷ x / 281474976710656 % 256 ∷ x / 1099511627776 % 256 ∷ x / 4294967296 % 256 ∷ x / 16777216 % 256 ∷ x / 65536 % 256 ∷ x / 256 % 256 ∷ low i ∷ []
+-- a word turned, byte by byte
+turned-of : (p q r s : ℕ) → p < 256 → q < 256 → r < 256 → s < 256 → le 4 (p * 16777216 + q * 65536 + r * 256 + s) ≡ s ∷ r ∷ q ∷ p ∷ []
+unfolding num
+turned-of p q r s hp hq hr hs =
+    let l : List ℕ = s ∷ r ∷ q ∷ p ∷ [] in
+    let e : p * 16777216 + q * 65536 + r * 256 + s ≡ num l = omega arith in
+    ap (le 4) e ∙ le-num l (four-bytes s r q p hs hr hq hp)
 
-pub counter-code : (k n : ℕ)
-    → k / 72057594037927936 % 256 ∷ k / 281474976710656 % 256 ∷ k / 1099511627776 % 256 ∷ k / 4294967296 % 256 ∷ k / 16777216 % 256 ∷ k / 65536 % 256 ∷ k / 256 % 256 ∷ k % 256
-    ∷ n / 72057594037927936 % 256 ∷ n / 281474976710656 % 256 ∷ n / 1099511627776 % 256 ∷ n / 4294967296 % 256 ∷ n / 16777216 % 256 ∷ n / 65536 % 256 ∷ n / 256 % 256 ∷ n % 256 ∷ []
-    ≡ counterBlock k n
-unfolding counterBlock
-counter-code k n = ap₂ (λ (x y : List ℕ). x ++ y) (eight k) (eight n)
+pub turned-is : (x : ℕ) → x < 2 ^ 32
+    → le 4 (x % 256 * 16777216 + x / 256 % 256 * 65536 + x / 65536 % 256 * 256 + x / 16777216) ≡ be 4 x
+unfolding be
+turned-is x h =
+    let top : x / 16777216 ≡ x / 16777216 % 256 = omega arith in
+    let low : x % 256 ≡ x / 1 % 256 = omega arith in
+    turned-of (x % 256) (x / 256 % 256) (x / 65536 % 256) (x / 16777216) (omega arith) (omega arith) (omega arith) (omega arith)
+    ∙ (λ i. top i ∷ x / 65536 % 256 ∷ x / 256 % 256 ∷ low i ∷ [])
+
+-- eight bytes are two words
+halves : (k : ℕ) → be 4 (k / 4294967296) ++ be 4 (k % 4294967296) ≡ be 8 k
+unfolding be
+halves k =
+    let e0 : k / 4294967296 / 16777216 % 256 ≡ k / 256 ^ 7 % 256 = omega arith in
+    let e1 : k / 4294967296 / 65536 % 256 ≡ k / 256 ^ 6 % 256 = omega arith in
+    let e2 : k / 4294967296 / 256 % 256 ≡ k / 256 ^ 5 % 256 = omega arith in
+    let e3 : k / 4294967296 / 1 % 256 ≡ k / 256 ^ 4 % 256 = omega arith in
+    let e4 : k % 4294967296 / 16777216 % 256 ≡ k / 256 ^ 3 % 256 = omega arith in
+    let e5 : k % 4294967296 / 65536 % 256 ≡ k / 256 ^ 2 % 256 = omega arith in
+    let e6 : k % 4294967296 / 256 % 256 ≡ k / 256 % 256 = omega arith in
+    let e7 : k % 4294967296 / 1 % 256 ≡ k / 1 % 256 = omega arith in
+    λ i. e0 i ∷ e1 i ∷ e2 i ∷ e3 i ∷ e4 i ∷ e5 i ∷ e6 i ∷ e7 i ∷ []
+
+abbrev app : List ℕ → List ℕ → List ℕ
+app x y = x ++ y
+
+pub counter-is : (k n a b c d : ℕ) → le 4 a ≡ be 4 (k / 4294967296) → le 4 b ≡ be 4 (k % 4294967296) → le 4 c ≡ be 4 (n / 4294967296)
+    → le 4 d ≡ be 4 (n % 4294967296) → bytesOf (record { a = a; b = b; c = c; d = d }) ≡ counterBlock k n
+unfolding bytesOf serialised counterBlock be le
+counter-is k n a b c d ea eb ec ed = ap₂ app ea (ap₂ app eb (ap₂ app ec (ap₂ app ed refl))) ∙ ap₂ app (halves k) (halves n)
 
 counter-long : (k n : ℕ) → length (be 8 k ++ be 8 n) ≡ 16
 unfolding be

@@ -2,33 +2,31 @@
 // It touches `words` and `aes`, and of `base`, `streams` and `field` the definitions alone.
 ghost use mathlib.Core.Path.{_≡_};
 ghost use Prim.Native.Nat.{_-_, _<_, min};
+ghost use Rattle.words.specs.Le.{le};
 ghost use Rattle.aes.specs.Tables.{roundTable};
-ghost use Rattle.ctr.specs.Ctr.{counterBlock, outputBlocks, laidUnder, counterMode};
+ghost use Rattle.ctr.specs.Ctr.{be, counterBlock, outputBlocks, laidUnder, counterMode};
 
-// Item 8: the keycount, then the number of the block, each most significant byte first.
+// The bytes of a word the other way round.
+fn turned(x: u32) -> u32
+    ensures { λ r. ⌜ le 4 r ≡ be 4 x ⌝ }
+{
+    x % 256 * 16777216 + x / 256 % 256 * 65536 + x / 65536 % 256 * 256 + x / 16777216
+}
+
+// Item 8: the keycount, then the number of the block, each most significant byte first; by words, so that `aes` loads what was stored.
 pub fn counter_block(keycount: u64, number: u64) -> [u8; 16]
     ensures { λ r. ⌜ r ≡ counterBlock keycount number ⌝ }
 {
-    let k = keycount;
-    let n = number;
-    [
-        (k / 0x100_0000_0000_0000 % 256) as u8,
-        (k / 0x1_0000_0000_0000 % 256) as u8,
-        (k / 0x100_0000_0000 % 256) as u8,
-        (k / 0x1_0000_0000 % 256) as u8,
-        (k / 0x100_0000 % 256) as u8,
-        (k / 0x1_0000 % 256) as u8,
-        (k / 0x100 % 256) as u8,
-        (k % 256) as u8,
-        (n / 0x100_0000_0000_0000 % 256) as u8,
-        (n / 0x1_0000_0000_0000 % 256) as u8,
-        (n / 0x100_0000_0000 % 256) as u8,
-        (n / 0x1_0000_0000 % 256) as u8,
-        (n / 0x100_0000 % 256) as u8,
-        (n / 0x1_0000 % 256) as u8,
-        (n / 0x100 % 256) as u8,
-        (n % 256) as u8,
-    ]
+    let a = turned((keycount / 4294967296) as u32);
+    let b = turned((keycount % 4294967296) as u32);
+    let c = turned((number / 4294967296) as u32);
+    let d = turned((number % 4294967296) as u32);
+    aes::bytes(aes::Columns {
+        a: a,
+        b: b,
+        c: c,
+        d: d,
+    })
 }
 
 // Four output blocks.
@@ -78,6 +76,6 @@ pub fn lay(d: &mut [u8], key: [u8; 32], keycount: u64, number: u64)
     ensures { λ _. ⌜ now (d .exit) ≡ counterMode key keycount number (now (d .entry)) ⌝ }
 {
     let t = aes::table();
-    let w = aes::expand(key);
+    let w = aes::expand(&t, key);
     lay_under(d, &t, &w, keycount, number);
 }

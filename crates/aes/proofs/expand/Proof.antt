@@ -14,9 +14,6 @@ Inv-loop t w₀ n₀ w n = (n ≤ 52) × (length w ≡ 60) × Grown w₀ w n
 abbrev μ-loop : tie.MeasureT-loop
 μ-loop t w₀ n₀ w n = 52 - n
 
-table-requires : tie.Need-table-requires Inv-loop μ-loop
-table-requires c κs = search needs
-
 key-words-requires : tie.Need-key-words-requires Inv-loop μ-loop
 key-words-requires c κs = search needs
 
@@ -61,11 +58,11 @@ loop-less c = search needs
 
 loop-again : tie.Need-loop-again Inv-loop μ-loop
 loop-again c =
-    let s = c .before .before .before .loop in
+    let s = c .before .before .loop in
     (omega arith, simp length-set (s .inv .1), grown-more (s .w) (s .n) (s .inv .2) (omega arith) (c .temp-at .ensures))
 
 returns : tie.Need-returns Inv-loop μ-loop
-returns c = grown-all (c .before .before .before .before .args .key) (c .before .loop .n) (c .before .loop .inv .2) (omega arith) (c .before .before .key-words .ensures)
+returns c = grown-all (c .before .before .before .args .key) (c .before .loop .n) (c .before .loop .inv .2) (omega arith) (c .before .before .key-words .ensures)
 
 pub expand-spec : {M : Type 1} → statement M
 expand-spec =
@@ -73,7 +70,6 @@ expand-spec =
     (tie.spec
     Inv-loop
     μ-loop
-    table-requires
     key-words-requires
     loop-holds
     add-temp-at

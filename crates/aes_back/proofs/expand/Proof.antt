@@ -17,12 +17,6 @@ Inv-loop f t w₀ i₀ w i = (i ≤ 60) × (length w ≡ 60) × (length w₀ ≡
 abbrev μ-loop : tie.MeasureT-loop
 μ-loop f t w₀ i₀ w i = 60 - i
 
-table-requires : tie.Need-table-requires Inv-loop μ-loop
-table-requires c κs = search needs
-
-table-requires-2 : tie.Need-table-requires-2 Inv-loop μ-loop
-table-requires-2 c κs = search needs
-
 expand-requires : tie.Need-expand-requires Inv-loop μ-loop
 expand-requires c κs = search needs
 
@@ -52,7 +46,7 @@ loop-less c = search needs
 
 loop-again : tie.Need-loop-again Inv-loop μ-loop
 loop-again c =
-    let s = c .before .before .before .before .loop in (
+    let s = c .before .before .loop in (
       omega arith,
       simp length-set (s .inv .1),
       s .inv .2,
@@ -70,8 +64,6 @@ expand-spec =
     (tie.spec
     Inv-loop
     μ-loop
-    table-requires
-    table-requires-2
     expand-requires
     loop-holds
     mul-modified-at

@@ -18,7 +18,7 @@ encrypt-requires c κs = search needs
 
 returns : tie.Need-returns
 unfolding aes256
-returns c = c .encrypt .ensures ∙ ap (λ (w : List ℕ). cipher w (c .before .before .before .before .before .before .before .args .block .now)) (c .before .before .before .before .expand .ensures)
+returns c = c .encrypt .ensures ∙ ap (λ (w : List ℕ). cipher w (c .before .before .before .before .before .before .before .before .args .block .now)) (c .before .before .before .before .expand .ensures)
 
 pub ngt-aes256-encrypt-spec : {M : Type 1} → statement M
 ngt-aes256-encrypt-spec =

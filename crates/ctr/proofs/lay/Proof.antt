@@ -22,7 +22,7 @@ same-length c = search needs
 returns : tie.Need-returns
 unfolding counterMode
 returns c =
-    let a = c .before .before .before .before .before .before .before .before .before .args in
+    let a = c .before .before .before .before .before .before .before .before .before .before .args in
     c .before .before .lay-under .ensures ∙ ap (λ (w : List ℕ). laidUnder w (a .keycount) (a .number) (a .d .now)) (c .before .before .before .before .before .before .expand .ensures)
 
 pub lay-spec : {M : Type 1} → statement M
