@@ -1,7 +1,8 @@
 /* The drive for hosts in C: link libngt.a, which `rt staticlib ngt` makes.
  *
  * No function has a precondition but that each pointer is to as many bytes as its type or its length says, and that no two
- * of them overlap; a pointer whose length is 0 may be null. Each returns the answer's number, 0 if the call is accepted, and always stores the answer's image.
+ * of them overlap; a pointer whose length is 0 may be null. Each returns the answer's number, 0 if the call is accepted, and
+ * always stores the answer's image.
  *
  * The drive's image, 144 bytes: 0-3 N; 4-7 P; 8-11 F; 12 state (0 steady, 1 changing); 13 zero; 14-15 epoch; 16-17 the epoch
  * being left; 18-23 zero; 24-39 salt; 40-47 counter; 48-79 node 1; 80-111 present secret; 112-143 old secret. Bytes 13 and
@@ -18,8 +19,8 @@
 extern "C" {
 #endif
 
-/* When steady a mount doesn't look at old. A refused format stores no byte of the volume. Both store the whole image of the drive, refused or not: a refusal's is all
- * zeros, and every call on it is answered 1. */
+/* When steady a mount doesn't look at old. A refused format stores no byte of the volume. Both store the whole image of the
+ * drive, refused or not: a refusal's is all zeros, and every call on it is answered 1. */
 uint32_t ngt_format(uint8_t *vol, size_t vol_len, uint32_t n, uint32_t p, uint32_t f, const uint8_t salt[16],
                     const uint8_t secret[32], uint64_t outside, uint8_t drive[144], uint8_t answer[16]);
 uint32_t ngt_mount(const uint8_t *vol, size_t vol_len, const uint8_t present[32], const uint8_t old[32],
