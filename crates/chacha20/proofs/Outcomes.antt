@@ -13,5 +13,5 @@ block κs a x y u v p q = (agree p q, refl)
 pub lay : OneOutcome fn.lay.ended fn.lay.Reads.Post
 lay κs a x y u v p q = (refl, agree p q ∥ refl)
 
-pub lanes-sixteen-blocks : OneOutcome fn.lanes.sixteen_blocks.ended fn.lanes.sixteen_blocks.Reads.Post
-lanes-sixteen-blocks κs a x y u v p q = (refl, agree p q ∥ refl)
+pub lanes-eight-blocks : OneOutcome fn.lanes.eight_blocks.ended fn.lanes.eight_blocks.Reads.Post
+lanes-eight-blocks κs a x y u v p q = (agree p q, refl)

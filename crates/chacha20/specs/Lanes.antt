@@ -1,7 +1,7 @@
--- Sixteen states that lie word by word: word k of the state in lane j is at 16 * k + j.
+-- Eight states that lie word by word: word k of the state in lane j is at 8 * k + j.
 use mathlib.Core.Path.{_≡_}
 use mathlib.Core.List.{List, [], _++_}
-use Prim.Native.Nat.{ℕ, zero, suc, _+_, _*_, _/_, _<_}
+use Prim.Native.Nat.{ℕ, zero, suc, _+_, _*_, _/_, _%_, _<_}
 use lib.ListN.{length, getD, set}
 use Rattle.base.specs.Lists.{tab}
 use Rattle.words.specs.Word.{add32}
@@ -10,12 +10,19 @@ use Rattle.chacha20.specs.ChaCha20.{added, blockFrom}
 
 -- the state in lane j
 unfoldable pub lane : List ℕ → ℕ → List ℕ
-lane w j = tab 16 (λ k. getD w (16 * k + j) 0)
+lane w j = tab 16 (λ k. getD w (8 * k + j) 0)
+
+-- v has s and t in lanes l and 4 + l, and in the others what w has
+pub record Put (l : ℕ) (s t w v : List ℕ) : Type 0 where
+  pub long : length v ≡ length w
+  pub low : lane v l ≡ s
+  pub high : lane v (4 + l) ≡ t
+  pub others : (j : ℕ) → j < 8 → (j % 4 ≡ l → ⊥) → lane v j ≡ lane w j
 
 -- lane by lane
 pub record Each (f : List ℕ → List ℕ) (w v : List ℕ) : Type 0 where
   pub long : length v ≡ length w
-  pub at : (j : ℕ) → j < 16 → lane v j ≡ f (lane w j)
+  pub at : (j : ℕ) → j < 8 → lane v j ≡ f (lane w j)
 
 -- the state of block j after that of s
 unfoldable pub later : List ℕ → ℕ → List ℕ
@@ -23,21 +30,20 @@ later s j = set s 12 (add32 (getD s 12 0) j)
 
 -- s in every lane
 unfoldable pub repeated : List ℕ → List ℕ
-repeated s = tab 256 (λ n. getD s (n / 16) 0)
+repeated s = tab 128 (λ n. getD s (n / 8) 0)
 
--- the block counters of sixteen lanes, from c on
+-- the block counters of eight lanes, from c on
 unfoldable pub counters : ℕ → List ℕ
-counters c = tab 16 (λ j. add32 c j)
+counters c = tab 8 (λ j. add32 c j)
 
--- lane by lane the states of sixteen blocks, from that of s on
+-- lane by lane the states of eight blocks, from that of s on
 pub record Spread (s w : List ℕ) : Type 0 where
-  pub long : length w ≡ 256
-  pub at : (j : ℕ) → j < 16 → lane w j ≡ later s j
+  pub at : (j : ℕ) → j < 8 → lane w j ≡ later s j
 
--- the blocks of lanes 0 to n - 1: the sums of what stands in w and the states from s on
+-- the blocks of lanes 0 to n - 1: the sums of what stands in w and in s
 unfoldable pub laneBlocks : List ℕ → List ℕ → ℕ → List ℕ
 laneBlocks w s zero = []
-laneBlocks w s (suc n) = laneBlocks w s n ++ serialised (added (lane w n) (later s n))
+laneBlocks w s (suc n) = laneBlocks w s n ++ serialised (added (lane w n) (lane s n))
 
 -- n blocks from the counter of s on
 unfoldable pub blocksFrom : List ℕ → ℕ → List ℕ

@@ -1,130 +1,168 @@
-// Sixteen states that lie word by word: word k of the state in lane j is at 16 * k + j, so that one step of many states is one
-// instruction. `quarter_lanes` is laid into its caller and its loop becomes vectors, as wide as the processor has them
-// (`bench/README.md`).
+// Eight states that lie word by word: word k of the state in lane j is at 8 * k + j, so that one step of four states is one
+// instruction. Each function of the double round has one caller: the compiler then lays them into one loop and makes vectors
+// of it (`bench/README.md`).
 ghost use mathlib.Core.Path.{_≡_};
 ghost use Prim.Native.Nat.{_+_, _*_, _<_};
 ghost use lib.ListN.{length};
 ghost use lib.Seq.{sets};
 ghost use Rattle.words.specs.Le.{serialised};
-ghost use Rattle.chacha20.specs.ChaCha20.{quarterAt, doubleRound, twentyRounds, added};
-ghost use Rattle.chacha20.specs.Lanes.{lane, Each, repeated, counters, Spread, later, laneBlocks, blocksFrom};
+ghost use Rattle.chacha20.specs.ChaCha20.{doubleRound, twentyRounds, added};
+ghost use Rattle.chacha20.specs.Lanes.{lane, Put, Each, repeated, counters, Spread, laneBlocks, blocksFrom};
 
-// 2.2 in every lane: the quarter round on the words at four places.
-fn quarter_lanes(w: &mut [u32; 256], a: usize, b: usize, c: usize, d: usize)
-    requires { ⌜ (a < 16) × (b < 16) × (c < 16) × (d < 16) × (length (now w) ≡ 256) ⌝ }
-    ensures { λ _. ⌜ Each (quarterAt a b c d) (now (w .entry)) (now (w .exit)) ⌝ }
+// Two states.
+struct Two {
+    s: [u32; 16],
+    t: [u32; 16],
+}
+
+// The states in lanes l and 4 + l.
+fn pair(w: &[u32; 128], l: usize) -> Two
+    requires { ⌜ l < 4 ⌝ }
+    ensures { λ r. ⌜ (r .s ≡ lane (now (w .entry)) l) × (r .t ≡ lane (now (w .entry)) (4 + l)) ⌝ }
+{
+    let mut s = [0u32; 16];
+    let mut t = [0u32; 16];
+    let mut i = 0;
+    while i < 16 {
+        s[i] = w[8 * i + l];
+        t[i] = w[8 * i + (4 + l)];
+        i += 1;
+    }
+    Two { s: s, t: t }
+}
+
+// The two states laid into lanes l and 4 + l.
+fn put(w: &mut [u32; 128], l: usize, x: Two)
+    requires { ⌜ (l < 4) × (length (now w) ≡ 128) ⌝ }
+    ensures { λ _. ⌜ Put l (x .s) (x .t) (now (w .entry)) (now (w .exit)) ⌝ }
+{
+    let s = x.s;
+    let t = x.t;
+    let mut i = 0;
+    while i < 16 {
+        w[8 * i + l] = s[i];
+        w[8 * i + (4 + l)] = t[i];
+        i += 1;
+    }
+}
+
+// 2.3 on two states: the columns of both, then the diagonals of both, so that neither waits for the other.
+fn double_two(x: Two) -> Two
+    ensures { λ r. ⌜ (r .s ≡ doubleRound (x .s)) × (r .t ≡ doubleRound (x .t)) ⌝ }
+{
+    let s = x.s;
+    let t = x.t;
+    let q0 = crate::quarter_round(s[0], s[4], s[8], s[12]);
+    let q1 = crate::quarter_round(s[1], s[5], s[9], s[13]);
+    let q2 = crate::quarter_round(s[2], s[6], s[10], s[14]);
+    let q3 = crate::quarter_round(s[3], s[7], s[11], s[15]);
+    let u0 = crate::quarter_round(t[0], t[4], t[8], t[12]);
+    let u1 = crate::quarter_round(t[1], t[5], t[9], t[13]);
+    let u2 = crate::quarter_round(t[2], t[6], t[10], t[14]);
+    let u3 = crate::quarter_round(t[3], t[7], t[11], t[15]);
+    let p0 = crate::quarter_round(q0.a, q1.b, q2.c, q3.d);
+    let p1 = crate::quarter_round(q1.a, q2.b, q3.c, q0.d);
+    let p2 = crate::quarter_round(q2.a, q3.b, q0.c, q1.d);
+    let p3 = crate::quarter_round(q3.a, q0.b, q1.c, q2.d);
+    let v0 = crate::quarter_round(u0.a, u1.b, u2.c, u3.d);
+    let v1 = crate::quarter_round(u1.a, u2.b, u3.c, u0.d);
+    let v2 = crate::quarter_round(u2.a, u3.b, u0.c, u1.d);
+    let v3 = crate::quarter_round(u3.a, u0.b, u1.c, u2.d);
+    Two {
+        s: crate::from_diagonals(p0, p1, p2, p3),
+        t: crate::from_diagonals(v0, v1, v2, v3),
+    }
+}
+
+fn wide_round(w: &mut [u32; 128])
+    requires { ⌜ length (now w) ≡ 128 ⌝ }
+    ensures { λ _. ⌜ Each doubleRound (now (w .entry)) (now (w .exit)) ⌝ }
 {
     let mut l = 0;
-    while l < 16 {
-        let q = crate::quarter_round(w[16 * a + l], w[16 * b + l], w[16 * c + l], w[16 * d + l]);
-        w[16 * a + l] = q.a;
-        w[16 * b + l] = q.b;
-        w[16 * c + l] = q.c;
-        w[16 * d + l] = q.d;
+    while l < 4 {
+        let x = pair(&*w, l);
+        let y = double_two(x);
+        put(&mut *w, l, y);
         l += 1;
     }
 }
 
-// 2.3.1 in every lane.
-fn double_lanes(w: &mut [u32; 256])
-    requires { ⌜ length (now w) ≡ 256 ⌝ }
-    ensures { λ _. ⌜ Each doubleRound (now (w .entry)) (now (w .exit)) ⌝ }
+fn wide_rounds(x: [u32; 128]) -> [u32; 128]
+    ensures { λ r. ⌜ Each twentyRounds x r ⌝ }
 {
-    quarter_lanes(&mut *w, 0, 4, 8, 12);
-    quarter_lanes(&mut *w, 1, 5, 9, 13);
-    quarter_lanes(&mut *w, 2, 6, 10, 14);
-    quarter_lanes(&mut *w, 3, 7, 11, 15);
-    quarter_lanes(&mut *w, 0, 5, 10, 15);
-    quarter_lanes(&mut *w, 1, 6, 11, 12);
-    quarter_lanes(&mut *w, 2, 7, 8, 13);
-    quarter_lanes(&mut *w, 3, 4, 9, 14);
-}
-
-fn twenty_lanes(w: &mut [u32; 256])
-    requires { ⌜ length (now w) ≡ 256 ⌝ }
-    ensures { λ _. ⌜ Each twentyRounds (now (w .entry)) (now (w .exit)) ⌝ }
-{
+    let mut w = x;
     let mut i: usize = 0;
     while i < 10 {
-        double_lanes(&mut *w);
+        wide_round(&mut w);
         i += 1;
     }
+    w
 }
 
 // The state in every lane.
-fn repeat(w: &mut [u32; 256], s: [u32; 16])
-    requires { ⌜ length (now w) ≡ 256 ⌝ }
-    ensures { λ _. ⌜ now (w .exit) ≡ repeated s ⌝ }
+fn repeat(s: [u32; 16]) -> [u32; 128]
+    ensures { λ r. ⌜ r ≡ repeated s ⌝ }
 {
+    let mut w = [0u32; 128];
     let mut i = 0;
-    while i < 256 {
-        w[i] = s[i / 16];
+    while i < 128 {
+        w[i] = s[i / 8];
         i += 1;
     }
+    w
 }
 
-// The block counters of the sixteen lanes, from c on.
-fn count(w: &mut [u32; 256], c: u32)
-    requires { ⌜ length (now w) ≡ 256 ⌝ }
-    ensures { λ _. ⌜ now (w .exit) ≡ sets (now (w .entry)) 192 (counters c) ⌝ }
+// The block counters of the eight lanes, from c on.
+fn count(x: [u32; 128], c: u32) -> [u32; 128]
+    ensures { λ r. ⌜ r ≡ sets x 96 (counters c) ⌝ }
 {
+    let mut w = x;
     let mut k: u32 = 0;
-    while k < 16 {
-        w[192 + (k as usize)] = std::num::wrapping_add_u32(c, k);
+    while k < 8 {
+        w[96 + (k as usize)] = std::num::wrapping_add_u32(c, k);
         k += 1;
     }
+    w
 }
 
-// The states of sixteen blocks.
-fn spread(w: &mut [u32; 256], s: [u32; 16])
-    requires { ⌜ length (now w) ≡ 256 ⌝ }
-    ensures { λ _. ⌜ Spread s (now (w .exit)) ⌝ }
+// The states of eight blocks.
+fn spread(s: [u32; 16]) -> [u32; 128]
+    ensures { λ r. ⌜ Spread s r ⌝ }
 {
-    repeat(&mut *w, s);
-    count(&mut *w, s[12]);
+    let w = repeat(s);
+    count(w, s[12])
 }
 
-// The state of the block l after that of s.
-fn later_state(s: [u32; 16], l: u32) -> [u32; 16]
-    ensures { λ r. ⌜ r ≡ later s l ⌝ }
-{
-    let mut r = s;
-    r[12] = std::num::wrapping_add_u32(s[12], l);
-    r
-}
-
-// The block of lane l, whose start state is s, where it comes among the sixteen.
-fn store_lane(r: &mut [u8], w: &[u32; 256], s: &[u32; 16], l: usize)
-    requires { ⌜ (l < 16) × (length (now r) ≡ 1024) ⌝ }
-    ensures { λ _. ⌜ now (r .exit) ≡ sets (now (r .entry)) (64 * l) (serialised (added (lane (now (w .entry)) l) (now (s .entry)))) ⌝ }
+// The block of lane l, where it comes among the eight.
+fn store_lane(r: &mut [u8], w: &[u32; 128], s: &[u32; 128], l: usize)
+    requires { ⌜ (l < 8) × (length (now r) ≡ 512) ⌝ }
+    ensures { λ _. ⌜ now (r .exit) ≡ sets (now (r .entry)) (64 * l) (serialised (added (lane (now (w .entry)) l) (lane (now (s .entry)) l))) ⌝ }
 {
     let mut i = 0;
     while i < 16 {
-        let x = std::num::wrapping_add_u32(w[16 * i + l], s[i]);
+        let x = std::num::wrapping_add_u32(w[8 * i + l], s[8 * i + l]);
         words::store32(&mut *r, 64 * l + 4 * i, x);
         i += 1;
     }
 }
 
-fn store_lanes(r: &mut [u8], w: &[u32; 256], s: [u32; 16])
-    requires { ⌜ length (now r) ≡ 1024 ⌝ }
-    ensures { λ _. ⌜ now (r .exit) ≡ laneBlocks (now (w .entry)) s 16 ⌝ }
+fn wide_summed(w: [u32; 128], s: [u32; 128]) -> [u8; 512]
+    ensures { λ r. ⌜ r ≡ laneBlocks w s 8 ⌝ }
 {
-    let mut l: u32 = 0;
-    while l < 16 {
-        let t = later_state(s, l);
-        store_lane(&mut *r, w, &t, l as usize);
+    let mut r = [0u8; 512];
+    let mut l = 0;
+    while l < 8 {
+        store_lane(&mut r, &w, &s, l);
         l += 1;
     }
+    r
 }
 
-// Sixteen blocks from the state's counter on.
-pub fn sixteen_blocks(r: &mut [u8], s: [u32; 16])
-    requires { ⌜ length (now r) ≡ 1024 ⌝ }
-    ensures { λ _. ⌜ now (r .exit) ≡ blocksFrom s 16 ⌝ }
+// Eight blocks from the state's counter on.
+pub fn eight_blocks(s: [u32; 16]) -> [u8; 512]
+    ensures { λ r. ⌜ r ≡ blocksFrom s 8 ⌝ }
 {
-    let mut w = [0u32; 256];
-    spread(&mut w, s);
-    twenty_lanes(&mut w);
-    store_lanes(&mut *r, &w, s);
+    let w = spread(s);
+    let x = wide_rounds(w);
+    wide_summed(x, w)
 }

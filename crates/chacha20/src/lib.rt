@@ -158,17 +158,17 @@ pub fn block(key: [u8; 32], nonce: [u8; 12], counter: u32) -> [u8; 64]
     block_from(s)
 }
 
-// How many bytes the keystream's next n bytes are laid over: all n, or what is left.
-fn room(at: usize, len: usize, n: usize) -> usize
+// How many bytes the block at `at` is laid over: 64, or what is left.
+fn room(at: usize, len: usize) -> usize
     requires { ⌜ at < len ⌝ }
-    ensures { λ r. ⌜ r ≡ min n (len - at) ⌝ }
+    ensures { λ r. ⌜ r ≡ min 64 (len - at) ⌝ }
 {
     let left = len - at;
-    if left < n { left } else { n }
+    if left < 64 { left } else { 64 }
 }
 
 // 2.4, one block at a time.
-fn lay_blocks(d: &mut [u8], key: [u8; 32], nonce: [u8; 12], counter: u32)
+fn lay_rest(d: &mut [u8], key: [u8; 32], nonce: [u8; 12], counter: u32)
     ensures { λ _. ⌜ now (d .exit) ≡ encrypted key nonce counter (now (d .entry)) ⌝ }
 {
     let mut s = start_state(key, nonce, counter);
@@ -176,40 +176,28 @@ fn lay_blocks(d: &mut [u8], key: [u8; 32], nonce: [u8; 12], counter: u32)
     let mut at = 0;
     while at < d.len() {
         let k = block_from(s);
-        let e = at + room(at, d.len(), 64);
+        let e = at + room(at, d.len());
         words::xor(&mut d[at..e], &k);
         c = std::num::wrapping_add_u32(c, 1);
         s[12] = c;
-        at = e;
+        at += 64;
     }
 }
 
-// 2.4, sixteen blocks at a time while half of them are needed.
-fn lay_lanes(d: &mut [u8], key: [u8; 32], nonce: [u8; 12], counter: u32)
-    ensures { λ _. ⌜ now (d .exit) ≡ encrypted key nonce counter (now (d .entry)) ⌝ }
-{
-    let mut s = start_state(key, nonce, counter);
-    let mut k = [0u8; 1024];
-    let mut c = counter;
-    let mut at = 0;
-    while 512 <= d.len() - at {
-        lanes::sixteen_blocks(&mut k, s);
-        let e = at + room(at, d.len(), 1024);
-        words::xor(&mut d[at..e], &k);
-        c = std::num::wrapping_add_u32(c, 16);
-        s[12] = c;
-        at = e;
-    }
-    lay_blocks(&mut d[at..], key, nonce, c);
-}
-
-// 2.4: the keystream from block `counter` on laid over `d`.
+// 2.4: the keystream from block `counter` on laid over `d`; eight blocks at a time while they last.
 pub fn lay(d: &mut [u8], key: [u8; 32], nonce: [u8; 12], counter: u32)
     ensures { λ _. ⌜ now (d .exit) ≡ encrypted key nonce counter (now (d .entry)) ⌝ }
 {
-    if d.len() < 512 {
-        lay_blocks(d, key, nonce, counter);
-    } else {
-        lay_lanes(d, key, nonce, counter);
+    let mut s = start_state(key, nonce, counter);
+    let mut c = counter;
+    let mut at = 0;
+    while 512 <= d.len() - at {
+        let k = lanes::eight_blocks(s);
+        let e = at + 512;
+        words::xor(&mut d[at..e], &k);
+        c = std::num::wrapping_add_u32(c, 8);
+        s[12] = c;
+        at = e;
     }
+    lay_rest(&mut d[at..], key, nonce, c);
 }

@@ -11,10 +11,10 @@ use Rattle.chacha20.proofs.lanes.count.Statement.{statement}
 use Rattle.chacha20.proofs.lanes.count.Tie as tie
 
 abbrev Inv-loop : tie.InvT-loop
-Inv-loop w₀ c k₀ w k = (k ≤ 16) × (w ≡ sets w₀ 192 (tab k (λ j. add32 c j)))
+Inv-loop c w₀ k₀ w k = (k ≤ 8) × (w ≡ sets w₀ 96 (tab k (λ j. add32 c j)))
 
 abbrev μ-loop : tie.MeasureT-loop
-μ-loop w₀ c k₀ w k = 16 - k
+μ-loop c w₀ k₀ w k = 8 - k
 
 loop-holds : tie.Need-loop-holds Inv-loop μ-loop
 unfolding tab
@@ -32,8 +32,8 @@ add-w c = search needs
 mul-w : tie.Need-mul-w Inv-loop μ-loop
 mul-w c = search needs
 
-element-write-w : tie.Need-element-write-w Inv-loop μ-loop
-element-write-w c = search needs
+array-write-w : tie.Need-array-write-w Inv-loop μ-loop
+array-write-w c = search needs
 
 add-k : tie.Need-add-k Inv-loop μ-loop
 add-k c = search needs
@@ -47,7 +47,7 @@ loop-again c = (omega arith, tab-sets-more _ _ _ _ (c .before .before .loop .inv
 returns : tie.Need-returns Inv-loop μ-loop
 unfolding counters
 returns c =
-    let e : c .before .loop .k ≡ 16 = omega arith in
+    let e : c .before .loop .k ≡ 8 = omega arith in
     c .before .loop .inv .1 ∙ rw e
 
 pub count-spec : {M : Type 1} → statement M
@@ -61,7 +61,7 @@ count-spec =
     cast-w
     add-w
     mul-w
-    element-write-w
+    array-write-w
     add-k
     loop-less
     loop-again

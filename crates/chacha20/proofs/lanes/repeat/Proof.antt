@@ -11,10 +11,10 @@ use Rattle.chacha20.proofs.lanes.repeat.Statement.{statement}
 use Rattle.chacha20.proofs.lanes.repeat.Tie as tie
 
 abbrev Inv-loop : tie.InvT-loop
-Inv-loop w₀ s i₀ w i = (i ≤ 256) × (w ≡ tab i (λ n. getD s (n / 16) 0) ++ drop i w₀)
+Inv-loop s w₀ i₀ w i = (i ≤ 128) × (w ≡ tab i (λ n. getD s (n / 8) 0) ++ drop i w₀)
 
 abbrev μ-loop : tie.MeasureT-loop
-μ-loop w₀ s i₀ w i = 256 - i
+μ-loop s w₀ i₀ w i = 128 - i
 
 loop-holds : tie.Need-loop-holds Inv-loop μ-loop
 loop-holds c = (omega arith, tab-none _ _)
@@ -28,8 +28,8 @@ array-read-w c = search needs
 mul-w-2 : tie.Need-mul-w-2 Inv-loop μ-loop
 mul-w-2 c = search needs
 
-element-write-w : tie.Need-element-write-w Inv-loop μ-loop
-element-write-w c = search needs
+array-write-w : tie.Need-array-write-w Inv-loop μ-loop
+array-write-w c = search needs
 
 add-i : tie.Need-add-i Inv-loop μ-loop
 add-i c = search needs
@@ -42,7 +42,7 @@ loop-again c = (omega arith, tab-more _ _ _ (c .before .loop .inv .1) refl (omeg
 
 returns : tie.Need-returns Inv-loop μ-loop
 unfolding repeated
-returns c = tab-all _ _ _ 256 (c .before .loop .inv .1) (omega arith) (omega arith)
+returns c = tab-all _ _ _ 128 (c .before .loop .inv .1) (omega arith) (omega arith)
 
 pub repeat-spec : {M : Type 1} → statement M
 repeat-spec =
@@ -54,7 +54,7 @@ repeat-spec =
     mul-w
     array-read-w
     mul-w-2
-    element-write-w
+    array-write-w
     add-i
     loop-less
     loop-again

@@ -1,8 +1,7 @@
 use borrow.Author.Needs.{needs}
-use mathlib.Core.Path.{_≡_, ap, _∙_}
 use lib.ListN.{length}
-use Rattle.chacha20.proofs.LaneLaws.{spread-all, length-repeated}
-use borrow.Author.Needs.{needs}
+use mathlib.Core.Path.{_≡_}
+use Rattle.chacha20.proofs.LaneLaws.{spread-all}
 use Rattle.chacha20.proofs.lanes.spread.Statement.{statement}
 use Rattle.chacha20.proofs.lanes.spread.Tie as tie
 
@@ -12,14 +11,15 @@ repeat-requires c κs = search needs
 array-read-count : tie.Need-array-read-count
 array-read-count c = search needs
 
-sixteen : (c : tie.Start) → length (c .args .t2) ≡ 16
+count-requires : tie.Need-count-requires
+count-requires c κs = search needs
+
+sixteen : (c : tie.Start) → length (c .args .t1) ≡ 16
 sixteen c = search needs
 
-count-requires : tie.Need-count-requires
-count-requires c κs = ap length (c .before .repeat .ensures) ∙ length-repeated _ (sixteen (c .before .before .before))
-
 returns : tie.Need-returns
-returns c = spread-all _ (sixteen (c .before .before .before .before)) (c .before .before .repeat .ensures) (c .count .ensures)
+returns c =
+    spread-all _ (sixteen (c .before .before)) (c .before .repeat .ensures) (c .count .ensures)
 
 pub spread-spec : {M : Type 1} → statement M
 spread-spec = tie.close (tie.spec repeat-requires array-read-count count-requires returns)

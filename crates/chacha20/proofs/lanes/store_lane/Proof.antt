@@ -36,6 +36,12 @@ element-copy-out-wrapping-add-u32 c = search needs
 mul-wrapping-add-u32-3 : tie.Need-mul-wrapping-add-u32-3 Inv-loop μ-loop
 mul-wrapping-add-u32-3 c = search needs
 
+add-wrapping-add-u32-2 : tie.Need-add-wrapping-add-u32-2 Inv-loop μ-loop
+add-wrapping-add-u32-2 c = search needs
+
+mul-wrapping-add-u32-4 : tie.Need-mul-wrapping-add-u32-4 Inv-loop μ-loop
+mul-wrapping-add-u32-4 c = search needs
+
 element-copy-out-wrapping-add-u32-2 : tie.Need-element-copy-out-wrapping-add-u32-2 Inv-loop μ-loop
 element-copy-out-wrapping-add-u32-2 c = search needs
 
@@ -88,6 +94,8 @@ store-lane-spec =
     mul-wrapping-add-u32-2
     element-copy-out-wrapping-add-u32
     mul-wrapping-add-u32-3
+    add-wrapping-add-u32-2
+    mul-wrapping-add-u32-4
     element-copy-out-wrapping-add-u32-2
     wrapping-add-u32-requires
     mul-store32
