@@ -11,9 +11,8 @@ use Rattle.base.specs.Pick.{pick}
 use Rattle.base.specs.Lists.{same}
 use Rattle.base.proofs.PickLaws.{yes, no, told, clash, both-right}
 use Rattle.records.specs.Journal.{bit}
-use Rattle.records.specs.Record.{epochFits, noneFrom, wellFormed}
-use Rattle.drive.specs.Drive.{isChanging}
-use Rattle.tree.specs.Path.{recordOf}
+use Rattle.records.specs.Record.{epochFits, noneFrom, wellFormed, recordOf}
+use Rattle.drive.specs.Drive.{shapeOf, isChanging}
 use Rattle.nuggets.specs.Nugget.{secretFor}
 use Rattle.pages.specs.Words.{t-old, t-needed, t-free}
 use Rattle.auditor.specs.Reading.{toldOf, times}
@@ -31,9 +30,9 @@ use Rattle.answered.specs.Answered.{Fits, pageFor, secretBy, TellsPad, P
 use Rattle.answered.proofs.Input.{page-holds}
 
 module _ (w : World) (x : Sound w) where
-  epoch-fits : (n : ℕ) → n < w .drive .n → epochFits (w .drive .epoch) (isChanging (w .drive .state)) (recordOf (w .vol) n .epoch) ≡ true
+  epoch-fits : (n : ℕ) → n < w .drive .n → epochFits (w .drive .epoch) (isChanging (w .drive .state)) (recordOf (shapeOf (w .drive)) (w .vol) n .epoch) ≡ true
   unfolding wellFormed
-  epoch-fits n h = both-right (noneFrom (w .drive .p) (recordOf (w .vol) n .journal)) _ (x .inv .formed n h)
+  epoch-fits n h = both-right (noneFrom (w .drive .p) (recordOf (shapeOf (w .drive)) (w .vol) n .journal)) _ (x .inv .formed n h)
 
   -- the secrets that the user holds are the drive's; when steady no word names the old one
   by-word : (e : ℕ) → epochFits (w .drive .epoch) (isChanging (w .drive .state)) e ≡ true → secretBy w (keyWord (w .drive) e) ≡ secretNamed (w .drive) (keyWord (w .drive) e)
@@ -45,11 +44,11 @@ module _ (w : World) (x : Sound w) where
       go (inl is) = rw is (sym (kept-changing (w .drive .state) (w .old) (old-word (w .drive) e fits is)) ∙ x .handed .kept)
       go (inr not) = rw not (sym (x .present))
 
-  tells : (any : List ℕ) (n f : ℕ) → Fits w any → n < w .drive .n → f < w .drive .p → bit (recordOf (w .vol) n .journal) f ≡ true → LastPad w n f
+  tells : (any : List ℕ) (n f : ℕ) → Fits w any → n < w .drive .n → f < w .drive .p → bit (recordOf (shapeOf (w .drive)) (w .vol) n .journal) f ≡ true → LastPad w n f
       → TellsPad (pageFor w any) w n f
   tells any n f fits h g on l =
       let a = page-holds w x any fits in
-      let e = recordOf (w .vol) n .epoch in
+      let e = recordOf (shapeOf (w .drive)) (w .vol) n .epoch in
       record {
         last = l;
         listed = a .flakes n f h g ∙ yes _ on refl;
@@ -66,10 +65,10 @@ module _ (w : World) (x : Sound w) where
         go (inl e) = absurd (omega (arith, shown, page-holds w x any fits .noOthers n f h (leb-true (w .drive .p) f e)))
         go (inr e) = leb-false (w .drive .p) f e
 
-    present : bit (recordOf (w .vol) n .journal) f ≡ true
-    present = go (told (bit (recordOf (w .vol) n .journal) f))
+    present : bit (recordOf (shapeOf (w .drive)) (w .vol) n .journal) f ≡ true
+    present = go (told (bit (recordOf (shapeOf (w .drive)) (w .vol) n .journal) f))
       where
-        go : (bit (recordOf (w .vol) n .journal) f ≡ true) ⊎ (bit (recordOf (w .vol) n .journal) f ≡ false) → bit (recordOf (w .vol) n .journal) f ≡ true
+        go : (bit (recordOf (shapeOf (w .drive)) (w .vol) n .journal) f ≡ true) ⊎ (bit (recordOf (shapeOf (w .drive)) (w .vol) n .journal) f ≡ false) → bit (recordOf (shapeOf (w .drive)) (w .vol) n .journal) f ≡ true
         go (inl e) = e
         go (inr e) = absurd (omega (arith, shown, page-holds w x any fits .flakes n f h inside ∙ no _ e refl))
 

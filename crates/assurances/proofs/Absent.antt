@@ -8,6 +8,7 @@ use native.Mathlib.Omega.{arith}
 use lib.Bits.{bitAnd}
 use lib.ListN.{length}
 use lib.Seq.{sets, length-sets}
+use Rattle.records.proofs.RecordLaws.{record-told}
 use Rattle.base.specs.Pick.{pick}
 use Rattle.base.specs.Lists.{part, same}
 use Rattle.base.proofs.PickLaws.{clash, both-left}
@@ -15,7 +16,7 @@ use Rattle.answers.specs.declared.Answer.the-variants as A
 use Rattle.answers.specs.declared.Place.the-variants as P
 use Rattle.answers.specs.Numbers.{accepts}
 use Rattle.layout.specs.declared.Shape.{Shape}
-use Rattle.layout.specs.Shape.{leaves, heightOf}
+use Rattle.layout.specs.Shape.{leaves, heightOf, widthOf}
 use Rattle.layout.specs.Lent.{Lent}
 use Rattle.layout.specs.Parts.{flakesAt, recordAt, tagAt, nodeAt, flakeAt}
 use Rattle.layout.proofs.Places.{record-inside, tag-inside, node-inside, parts-inside}
@@ -28,7 +29,8 @@ use Rattle.nodes.specs.Nodes.{innerOf}
 use Rattle.nodes.specs.Made.{madeOf, goodNode}
 use Rattle.nodes.proofs.Bounds.{tags-inside}
 use Rattle.nodes.proofs.MadeLaws.{leaf-alike, made-by, made-inner, made-bottom, bottom-leaf, bottom-zero}
-use Rattle.tree.specs.Path.{recordOf, goodRecord, climbed, pathOf, Rises}
+use Rattle.tree.specs.Path.{goodRecord, climbed, pathOf, Rises}
+use Rattle.records.specs.Record.{recordOf}
 use Rattle.tree.proofs.Heights.{rises-some, rises-half, rises-leaf}
 use Rattle.drive.specs.declared.Drive.{Drive}
 use Rattle.drive.specs.Drive.{shapeOf, zeros}
@@ -37,7 +39,6 @@ use Rattle.nuggets.specs.declared.Nugget.{Nugget}
 use Rattle.nuggets.specs.Nugget.{keyFor, nuggetOf, contentsIn, contentsOf}
 use Rattle.nuggets.specs.Tests.{goodFlake, passes, flakesUp, flakesIn, pathFor, nuggetRead}
 use Rattle.changes.proofs.CellLaws.{part-apart, Other, flakes-apart}
-use Rattle.changes.proofs.PadsLaws.{record-told}
 use Rattle.changes.proofs.Exact.{yes-same}
 use Rattle.assurances.specs.Unseen.{ButAbsent, AbsentUnseen, AbsentBytes}
 use Rattle.assurances.proofs.SameReads.{read-alike, buffer-alike}
@@ -90,24 +91,24 @@ module _ (d : Drive) (v w : List ℕ) (x : ButAbsent d v w) where
   unfolding keyFor
   nugget-same n h = rw (x .records n h) refl
 
-  flake-same : (n f : ℕ) → n < d .n → f < d .p → bit (recordOf v n .journal) f ≡ true → goodFlake s w (nuggetOf d v n) f ≡ goodFlake s v (nuggetOf d v n) f
+  flake-same : (n f : ℕ) → n < d .n → f < d .p → bit (recordOf (shapeOf d) v n .journal) f ≡ true → goodFlake s w (nuggetOf d v n) f ≡ goodFlake s v (nuggetOf d v n) f
   unfolding goodFlake
   flake-same n f h l on = rw (x .tags n f h l on, x .flakes n f h l on) refl
 
   tests : Lent s v → (n t : ℕ) → n < d .n → nuggetRead d w n t ≡ nuggetRead d v n t
   unfolding nuggetRead flakesIn
   tests l n t h =
-      let mask = bitAnd (recordOf v n .journal) t in
+      let mask = bitAnd (recordOf (shapeOf d) v n .journal) t in
       rw (path-same l n h, nugget-same n h, x .records n h)
       (yes-same (accepts (pathFor d v n)) _
       (λ p. up-same s v w (nuggetOf d v n) mask (d .p) 0
-      (λ i a on. flake-same n i h (omega arith) (both-left (bit (recordOf v n .journal) i) (bit t i) (sym (bit-and (recordOf v n .journal) t i) ∙ on)))))
+      (λ i a on. flake-same n i h (omega arith) (both-left (bit (recordOf (shapeOf d) v n .journal) i) (bit t i) (sym (bit-and (recordOf (shapeOf d) v n .journal) t i) ∙ on)))))
 
   bytes : (n f : ℕ) → n < d .n → f < d .p → contentsOf d w n f ≡ contentsOf d v n f
   unfolding contentsIn
   bytes n f h l =
       ap (λ (g : Nugget). contentsIn s w g f) (nugget-same n h)
-      ∙ yes-same (bit (recordOf v n .journal) f) (zeros (d .f)) (λ on. ap (under (nuggetOf d v n .key) (recordOf v n .keycount) f (d .f)) (x .flakes n f h l on))
+      ∙ yes-same (bit (recordOf (shapeOf d) v n .journal) f) (zeros (d .f)) (λ on. ap (under (nuggetOf d v n .key) (recordOf (shapeOf d) v n .keycount) f (d .f)) (x .flakes n f h l on))
 
 pub absent-unseen : AbsentUnseen
 absent-unseen d v w o buffer x = (
@@ -115,7 +116,7 @@ absent-unseen d v w o buffer x = (
   buffer-alike d (d .old) v w (opens d v w x) (tests d v w x) (λ l n f h k p. bytes d v w x n f h k) o buffer,
 )
 
-module _ (d : Drive) (v : List ℕ) (n f : ℕ) (other : List ℕ) (h : n < d .n) (few : f < d .p) (off : bit (recordOf v n .journal) f ≡ false) (long : length other ≡ d .f) where
+module _ (d : Drive) (v : List ℕ) (n f : ℕ) (other : List ℕ) (h : n < d .n) (few : f < d .p) (off : bit (recordOf (shapeOf d) v n .journal) f ≡ false) (long : length other ≡ d .f) where
   abbrev w : List ℕ
   w = sets v (flakeAt (shapeOf d) n f) other
 
@@ -123,8 +124,8 @@ module _ (d : Drive) (v : List ℕ) (n f : ℕ) (other : List ℕ) (h : n < d .n
   before : (at k : ℕ) → at + k ≤ flakesAt (shapeOf d) → part at k w ≡ part at k v
   before at k low = part-apart at k v (flakeAt (shapeOf d) n f) (d .f) other long (inl (omega (arith, low)))
 
-  far : (m g : ℕ) → bit (recordOf v m .journal) g ≡ true → Other m g n f
-  far m g on p q = clash on (ap₂ (λ (i j : ℕ). bit (recordOf v i .journal) j) p q ∙ off)
+  far : (m g : ℕ) → bit (recordOf (shapeOf d) v m .journal) g ≡ true → Other m g n f
+  far m g on p q = clash on (ap₂ (λ (i j : ℕ). bit (recordOf (shapeOf d) v i .journal) j) p q ∙ off)
 
   but-absent : ButAbsent d v w
   but-absent =
@@ -133,12 +134,12 @@ module _ (d : Drive) (v : List ℕ) (n f : ℕ) (other : List ℕ) (h : n < d .n
       record {
         long = length-sets v (flakeAt s n f) other;
         head = before 0 104 (omega arith);
-        records = λ m a. record-told (recordAt m) w v (before (recordAt m) 18 (omega (arith, record-inside s m a, inside)));
+        records = λ m a. record-told (shapeOf d) (recordAt (shapeOf d) m) w v (before (recordAt (shapeOf d) m) (widthOf (shapeOf d)) (omega (arith, record-inside s m a, inside)));
         nodes = λ i a b. before (nodeAt s i) 32 (node-inside s i a b .1);
         made = λ m a.
             leaf-alike s w v m
             (record {
-              records = before (recordAt m) 18 (omega (arith, record-inside s m a, inside));
+              records = before (recordAt (shapeOf d) m) (widthOf (shapeOf d)) (omega (arith, record-inside s m a, inside));
               tags = before (tagAt s m 0) (16 * d .p) (omega (arith, tags-inside s m a, inside));
             });
         flakes = λ m g a b on. part-apart (flakeAt s m g) (d .f) v (flakeAt s n f) (d .f) other long (flakes-apart s m g n f b few (far m g on));

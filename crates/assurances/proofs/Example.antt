@@ -12,14 +12,14 @@ use Rattle.base.proofs.TabLaws.{tab-ext}
 use Rattle.answers.specs.declared.Answer.the-variants as A
 use Rattle.answers.specs.Numbers.{accepts}
 use Rattle.layout.specs.declared.Shape.{Shape}
-use Rattle.layout.specs.Shape.{shape, inLimits, heightOf, heightFrom}
+use Rattle.layout.specs.Shape.{shape, sized, known, widthOf, inLimits, heightOf, heightFrom}
 use Rattle.layout.specs.Parts.{lengthOf}
 use Rattle.drive.specs.declared.Drive.{Drive}
 use Rattle.drive.specs.Drive.{shapeOf, zeros, counterTop}
 use Rattle.drive.specs.Opening.{openingOf}
 use Rattle.drive.proofs.OpeningLaws.{blank-form, blank-limits}
 use Rattle.opening.specs.Format.{formatAnswer, freshDrive}
-use Rattle.tree.specs.Path.{recordOf}
+use Rattle.records.specs.Record.{recordOf}
 use Rattle.reading.specs.Read.{readAnswer, readBuffer}
 use Rattle.reports.specs.Report.{reportAnswer}
 use Rattle.reports.specs.Stored.{storedAnswer}
@@ -174,7 +174,7 @@ module _ (w : World) (x : At w (columns false 1 1 (secretOf 0))) where
       only i l = omega arith
 
       moved : hasMoved w₃ 0 ≡ true
-      moved = eq-eqb (recordOf (w₃ .vol) 0 .epoch) (w₃ .drive .epoch) (swept-own w₂ (x₂ .sounds) 0 ok₃ ∙ epoch-is w₂ k₂ x₂ ∙ sym (epoch-is w₃ k₃ x₃))
+      moved = eq-eqb (recordOf (shapeOf (w₃ .drive)) (w₃ .vol) 0 .epoch) (w₃ .drive .epoch) (swept-own w₂ (x₂ .sounds) 0 ok₃ ∙ epoch-is w₂ k₂ x₂ ∙ sym (epoch-is w₃ k₃ x₃))
 
   ok₄ : answerTo w₃ finish ≡ A.Accepted
   ok₄ = finish-accepted w₃ (x₃ .sounds) (low w₃ k₃ x₃ (omega arith)) (state-is w₃ k₃ x₃) none-left
@@ -210,7 +210,7 @@ abbrev small : Shape
 small = shape 1 2 64
 
 format-accepts : formatAnswer small 0 (zeros (lengthOf small)) ≡ A.Accepted
-unfolding formatAnswer inLimits heightOf heightFrom
+unfolding formatAnswer inLimits sized known widthOf heightOf heightFrom
 format-accepts = refl
 
 fresh : Start

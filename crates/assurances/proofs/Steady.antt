@@ -24,7 +24,7 @@ use Rattle.records.specs.Rule.{enciphered, rekeys, atTop}
 use Rattle.records.proofs.BitLaws.{bit-empty}
 use Rattle.records.proofs.RuleLaws.{formed-epoch}
 use Rattle.nodes.specs.Nodes.{nodeIn}
-use Rattle.tree.specs.Path.{recordOf}
+use Rattle.records.specs.Record.{recordOf}
 use Rattle.tree.proofs.PathLaws.{path-belongs}
 use Rattle.drive.specs.declared.Drive.{Drive}
 use Rattle.drive.specs.declared.State.{State}
@@ -75,16 +75,16 @@ module _ (d : Drive) (any v : List ℕ) (steady : isChanging (d .state) ≡ fals
   unfolding keyFor secretFor
   nugget-same l n h p =
       let b = path-belongs (shapeOf d) (d .epoch) (isChanging (d .state)) v n l h (accepted-is (pathFor d v n) p) in
-      let q = eq-eqb (recordOf v n .epoch) (d .epoch) (go (formed-epoch (d .p) (d .epoch) (isChanging (d .state)) (recordOf v n) (b .well-formed))) in
+      let q = eq-eqb (recordOf (shapeOf d) v n .epoch) (d .epoch) (go (formed-epoch (d .p) (d .epoch) (isChanging (d .state)) (recordOf (shapeOf d) v n) (b .well-formed))) in
       rw q refl
     where
-      go : (recordOf v n .epoch ≡ d .epoch) ⊎ ((isChanging (d .state) ≡ true) × (recordOf v n .epoch + 1 ≡ d .epoch)) → recordOf v n .epoch ≡ d .epoch
+      go : (recordOf (shapeOf d) v n .epoch ≡ d .epoch) ⊎ ((isChanging (d .state) ≡ true) × (recordOf (shapeOf d) v n .epoch + 1 ≡ d .epoch)) → recordOf (shapeOf d) v n .epoch ≡ d .epoch
       go (inl z) = z
       go (inr z) = absurd (clash (z .0) steady)
 
   pub tests : Lent (shapeOf d) v → (n t : ℕ) → n < d .n → nuggetRead (withOld d any) v n t ≡ nuggetRead d v n t
   unfolding nuggetRead
-  tests l n t h = yes-same (accepts (pathFor d v n)) _ (λ p. ap (λ (g : Nugget). flakesIn (shapeOf d) v g (bitAnd (recordOf v n .journal) t)) (nugget-same l n h p))
+  tests l n t h = yes-same (accepts (pathFor d v n)) _ (λ p. ap (λ (g : Nugget). flakesIn (shapeOf d) v g (bitAnd (recordOf (shapeOf d) v n .journal) t)) (nugget-same l n h p))
 
   pub bytes : Lent (shapeOf d) v → (n f : ℕ) → n < d .n → f < d .p → accepts (pathFor d v n) ≡ true → contentsOf (withOld d any) v n f ≡ contentsOf d v n f
   bytes l n f h k p = ap (λ (g : Nugget). contentsIn (shapeOf d) v g f) (nugget-same l n h p)
@@ -94,7 +94,7 @@ module _ (d : Drive) (any v : List ℕ) (steady : isChanging (d .state) ≡ fals
   change-same l n way h =
       no-same (idles way) _
       (λ busy. yes-same (accepts (pathFor d v n)) _
-      (λ p. ap (λ (g : Nugget). pick (atTop way (recordOf v n)) A.KeycountTop (pick (rekeys way) (flakesIn (shapeOf d) v g (recordOf v n .journal)) A.Accepted)) (nugget-same l n h p)))
+      (λ p. ap (λ (g : Nugget). pick (atTop way (recordOf (shapeOf d) v n)) A.KeycountTop (pick (rekeys way) (flakesIn (shapeOf d) v g (recordOf (shapeOf d) v n .journal)) A.Accepted)) (nugget-same l n h p)))
 
   tested-same : Lent (shapeOf d) v → (way : ℕ → Way) (n : ℕ) → n ≤ d .n → testedTo e v way n ≡ testedTo d v way n
   unfolding testedTo
@@ -130,20 +130,20 @@ module _ (d : Drive) (any v : List ℕ) (steady : isChanging (d .state) ≡ fals
         let t₃ : accepts (pick (eqb (d .counter) counterTop) A.CounterTop (testedTo d v ways (d .n))) ≡ true = rw (ne-eqb (length given) 0 (λ z. omega (arith, z, some))) at (t₂ .1) in
         spared (eqb (d .counter) counterTop) A.CounterTop _ refl t₃ .1
 
-    new-same : (n f : ℕ) → n < d .n → f < d .p → chosen ways (recordOf v) n f ≡ true → newContents e v o given n f ≡ newContents d v o given n f
+    new-same : (n f : ℕ) → n < d .n → f < d .p → chosen ways (recordOf (shapeOf d) v) n f ≡ true → newContents e v o given n f ≡ newContents d v o given n f
     unfolding nuggetChange
     new-same n f h l on =
-        let passed-on = rw (busy (ways n) (recordOf v n) f on) at (tested-each d v ways (d .n) n h all-tested) in
+        let passed-on = rw (busy (ways n) (recordOf (shapeOf d) v n) f on) at (tested-each d v ways (d .n) n h all-tested) in
         ap (λ (was : List ℕ). written (shapeOf d) o given n f was) (bytes lent n f h l (both-stages (pathFor d v n) _ passed-on .0))
 
     work-same : writeWork e v o given ≡ writeWork d v o given
     unfolding worked
     work-same =
-        ap (λ (z : List ℕ). tendedTo (shapeOf d) ways (d .n) (markedTo (d .epoch) ways v (d .n) z))
+        ap (λ (z : List ℕ). tendedTo (shapeOf d) ways (d .n) (markedTo (shapeOf d) (d .epoch) ways v (d .n) z))
         (laid-alike (shapeOf d) (d .salt) (newContents e v o given) (newContents d v o given) (padsFor d v ways) v
-        (each-map (Below (chosen ways (recordOf v)) (d .n) (d .p)) (λ x. newContents e v o given (x .nugget) (x .flake) ≡ newContents d v o given (x .nugget) (x .flake)) (padsFor d v ways)
+        (each-map (Below (chosen ways (recordOf (shapeOf d) v)) (d .n) (d .p)) (λ x. newContents e v o given (x .nugget) (x .flake) ≡ newContents d v o given (x .nugget) (x .flake)) (padsFor d v ways)
         (λ x b. new-same (x .nugget) (x .flake) (b .under) (b .few) (b .holds))
-        (each-to (d .p) ways (recordOf v) (d .present) (d .n))))
+        (each-to (d .p) ways (recordOf (shapeOf d) v) (d .present) (d .n))))
 
     pub written-same : writtenDrive (withOld d any) v o given ≡ writtenDrive d v o given
     unfolding advanced

@@ -8,6 +8,7 @@ use native.Mathlib.Omega.{arith}
 use lib.Dec.{eqb}
 use borrow.Author.Tests.{eqb-true, eqb-false}
 use Rattle.base.proofs.PickLaws.{no, told}
+use Rattle.drive.specs.Drive.{shapeOf}
 use Rattle.drive.specs.declared.Drive.{Drive}
 use Rattle.line.specs.Decimal.{decimal}
 use Rattle.line.specs.Texts.{t-nuggets, t-moved, t-left, t-flakes, t-share}
@@ -15,7 +16,7 @@ use Rattle.line.specs.Lines.{newline, shareText, reportLine}
 use Rattle.pages.specs.Page.{nuggetText, nuggetLine, nuggetLines}
 use Rattle.auditor.specs.Reading.{upTo, past, linesFrom, lineAt}
 use Rattle.auditor.proofs.ReadLaws.{free, free-append, up-to, up-to-free, past-free, past-to, decimal-free, far-newline}
-use Rattle.tree.specs.Path.{recordOf}
+use Rattle.records.specs.Record.{recordOf}
 
 -- a text that ends in its only newline
 abbrev pub Line : List ℕ → Type 0
@@ -68,33 +69,33 @@ unfolding linesFrom
 from-next zero t = refl
 from-next (suc k) t = from-next k (past 10 t)
 
-module _ (d : Drive) (v : List ℕ) (count : ℕ) (plain : (k : ℕ) → k < count → free 10 (nuggetText d (recordOf v k) k) ≡ true) where
+module _ (d : Drive) (v : List ℕ) (count : ℕ) (plain : (k : ℕ) → k < count → free 10 (nuggetText d (recordOf (shapeOf d) v k) k) ≡ true) where
   -- all lines of the first k nuggets passed
   pub lines-through : (k : ℕ) (rest : List ℕ) → k ≤ count → linesFrom k (nuggetLines d v k ++ rest) ≡ rest
   unfolding nuggetLines linesFrom
   lines-through zero rest h = refl
   lines-through (suc k) rest h =
-      let line = nuggetLine d (recordOf v k) k in
+      let line = nuggetLine d (recordOf (shapeOf d) v k) k in
       let before : linesFrom k ((nuggetLines d v k ++ line) ++ rest) ≡ line ++ rest = rw (append-assoc (nuggetLines d v k) line rest) (lines-through k (line ++ rest) (omega arith)) in
-      from-next k ((nuggetLines d v k ++ line) ++ rest) ∙ ap (past 10) before ∙ line-ends (nuggetText d (recordOf v k) k) rest (plain k (omega arith))
+      from-next k ((nuggetLines d v k ++ line) ++ rest) ∙ ap (past 10) before ∙ line-ends (nuggetText d (recordOf (shapeOf d) v k) k) rest (plain k (omega arith))
 
   -- the line of nugget n, with what stands before and behind it
-  lines-split : (n k : ℕ) (rest : List ℕ) → n < k → (more : List ℕ) × (nuggetLines d v k ++ rest ≡ nuggetLines d v n ++ (nuggetLine d (recordOf v n) n ++ more))
+  lines-split : (n k : ℕ) (rest : List ℕ) → n < k → (more : List ℕ) × (nuggetLines d v k ++ rest ≡ nuggetLines d v n ++ (nuggetLine d (recordOf (shapeOf d) v n) n ++ more))
   unfolding nuggetLines
   lines-split n zero rest h = absurd (omega arith)
-  lines-split n (suc k) rest h = go (told (eqb n k)) (λ l. lines-split n k (nuggetLine d (recordOf v k) k ++ rest) l)
+  lines-split n (suc k) rest h = go (told (eqb n k)) (λ l. lines-split n k (nuggetLine d (recordOf (shapeOf d) v k) k ++ rest) l)
     where
       go : (eqb n k ≡ true) ⊎ (eqb n k ≡ false)
-          → (n < k → (more : List ℕ) × (nuggetLines d v k ++ (nuggetLine d (recordOf v k) k ++ rest) ≡ nuggetLines d v n ++ (nuggetLine d (recordOf v n) n ++ more)))
-          → (more : List ℕ) × ((nuggetLines d v k ++ nuggetLine d (recordOf v k) k) ++ rest ≡ nuggetLines d v n ++ (nuggetLine d (recordOf v n) n ++ more))
+          → (n < k → (more : List ℕ) × (nuggetLines d v k ++ (nuggetLine d (recordOf (shapeOf d) v k) k ++ rest) ≡ nuggetLines d v n ++ (nuggetLine d (recordOf (shapeOf d) v n) n ++ more)))
+          → (more : List ℕ) × ((nuggetLines d v k ++ nuggetLine d (recordOf (shapeOf d) v k) k) ++ rest ≡ nuggetLines d v n ++ (nuggetLine d (recordOf (shapeOf d) v n) n ++ more))
       go (inl e) again =
-          (rest, rw (eqb-true n k e) (append-assoc (nuggetLines d v k) (nuggetLine d (recordOf v k) k) rest))
+          (rest, rw (eqb-true n k e) (append-assoc (nuggetLines d v k) (nuggetLine d (recordOf (shapeOf d) v k) k) rest))
       go (inr e) again =
           let s = again (omega (arith, eqb-false n k e)) in
-          (s .0, append-assoc (nuggetLines d v k) (nuggetLine d (recordOf v k) k) rest ∙ s .1)
+          (s .0, append-assoc (nuggetLines d v k) (nuggetLine d (recordOf (shapeOf d) v k) k) rest ∙ s .1)
 
-  pub nugget-line : (n : ℕ) (rest : List ℕ) → n < count → lineAt n (nuggetLines d v count ++ rest) ≡ nuggetText d (recordOf v n) n
+  pub nugget-line : (n : ℕ) (rest : List ℕ) → n < count → lineAt n (nuggetLines d v count ++ rest) ≡ nuggetText d (recordOf (shapeOf d) v n) n
   nugget-line n rest h =
       let s = lines-split n count rest h in
-      let line = nuggetLine d (recordOf v n) n in
-      ap (λ (t : List ℕ). lineAt n t) (s .1) ∙ ap (upTo 10) (lines-through n (line ++ s .0) (omega arith)) ∙ line-text (nuggetText d (recordOf v n) n) (s .0) (plain n h)
+      let line = nuggetLine d (recordOf (shapeOf d) v n) n in
+      ap (λ (t : List ℕ). lineAt n t) (s .1) ∙ ap (upTo 10) (lines-through n (line ++ s .0) (omega arith)) ∙ line-text (nuggetText d (recordOf (shapeOf d) v n) n) (s .0) (plain n h)

@@ -18,7 +18,7 @@ use Rattle.answers.specs.Numbers.{accepts}
 use Rattle.layout.specs.Parts.{recordAt}
 use Rattle.layout.proofs.Limits.{Limits, limits}
 use Rattle.layout.proofs.Places.{record-inside, parts-inside}
-use Rattle.records.specs.Record.{epochFits, noneFrom, wellFormed}
+use Rattle.records.specs.Record.{epochFits, noneFrom, wellFormed, recordOf}
 use Rattle.records.proofs.RecordLaws.{read-widths}
 use Rattle.layout.specs.Lent.{Lent}
 use Rattle.tree.proofs.WholeLaws.{whole-formed}
@@ -41,16 +41,15 @@ use Rattle.auditor.proofs.ListLaws.{times-present, times-above}
 use Rattle.auditor.proofs.LineLaws.{LineTold, line-told, counter-told, counter-free, old-told, old-line-free}
 use Rattle.auditor.proofs.PageLines.{Line, report-is-line, line-ends, line-text, last-ends, last-text, from-next, lines-through, nugget-line}
 use Rattle.auditor.proofs.KeyLaws.{key-word, secret-named}
-use Rattle.tree.specs.Path.{recordOf}
 
 -- keycount and epoch of each record within their widths
 abbrev pub Narrow : Drive → List ℕ → Type 0
-Narrow d v = (n : ℕ) → n < d .n → (recordOf v n .keycount < 2 ^ 64) × (recordOf v n .epoch < 2 ^ 16)
+Narrow d v = (n : ℕ) → n < d .n → (recordOf (shapeOf d) v n .keycount < 2 ^ 64) × (recordOf (shapeOf d) v n .epoch < 2 ^ 16)
 
 -- those of bytes are
 narrow-bytes : (d : Drive) (v : List ℕ) → Lent (shapeOf d) v → Bytes v → Narrow d v
 narrow-bytes d v lent bytes n h =
-    let w = read-widths v (recordAt n) bytes (omega (arith, lent .size, record-inside (shapeOf d) n h, parts-inside (shapeOf d))) in
+    let w = read-widths (shapeOf d) v (recordAt (shapeOf d) n) bytes (omega (arith, lent .size, record-inside (shapeOf d) n h, parts-inside (shapeOf d))) in
     (w .keycountWidth, w .epochWidth)
 
 -- a drive whose volume is what it has to be
@@ -58,14 +57,14 @@ module _ (d : Drive) (v : List ℕ) (lent : Lent (shapeOf d) v) (narrow : Narrow
   limited : Limits (shapeOf d)
   limited = limits (shapeOf d) (lent .limited)
 
-  fits : (n : ℕ) → n < d .n → epochFits (d .epoch) (isChanging (d .state)) (recordOf v n .epoch) ≡ true
+  fits : (n : ℕ) → n < d .n → epochFits (d .epoch) (isChanging (d .state)) (recordOf (shapeOf d) v n .epoch) ≡ true
   unfolding wellFormed
-  fits n h = both-right (noneFrom (d .p) (recordOf v n .journal)) _ (whole-formed (shapeOf d) (d .epoch) (isChanging (d .state)) v whole n h)
+  fits n h = both-right (noneFrom (d .p) (recordOf (shapeOf d) v n .journal)) _ (whole-formed (shapeOf d) (d .epoch) (isChanging (d .state)) v whole n h)
 
-  line : (n : ℕ) → n < d .n → LineTold d (recordOf v n) n
+  line : (n : ℕ) → n < d .n → LineTold d (recordOf (shapeOf d) v n) n
   line n h =
       let w = narrow n h in
-      line-told d (recordOf v n) n (omega (arith, limited .few)) (lt-of-lt-of-le (w .1) (lit≤ tt)) (lt-of-lt-of-le (w .0) (lit≤ tt)) (omega (arith, limited .narrow))
+      line-told d (recordOf (shapeOf d) v n) n (omega (arith, limited .few)) (lt-of-lt-of-le (w .1) (lit≤ tt)) (lt-of-lt-of-le (w .0) (lit≤ tt)) (omega (arith, limited .narrow))
 
   module _ (outside : ℕ) (first : List ℕ) (is-line : Line first) where
     abbrev page : List ℕ
@@ -83,7 +82,7 @@ module _ (d : Drive) (v : List ℕ) (lent : Lent (shapeOf d) v) (narrow : Narrow
     first-line = is-line (driveText d v outside) .1
 
     -- nugget n's line is the one behind those before it
-    nugget-text : (n : ℕ) → n < d .n → lineAt (suc n) page ≡ nuggetText d (recordOf v n) n
+    nugget-text : (n : ℕ) → n < d .n → lineAt (suc n) page ≡ nuggetText d (recordOf (shapeOf d) v n) n
     unfolding linesFrom
     nugget-text n h = ap (λ (t : List ℕ). lineAt n t) rest-is ∙ nugget-line d v (d .n) (λ k l. line k l .newlines) n ending h
 
@@ -109,17 +108,17 @@ module _ (d : Drive) (v : List ℕ) (lent : Lent (shapeOf d) v) (narrow : Narrow
         → Answers page d v outside
     unfolding keyFor
     answered small counter is =
-        let named : (n : ℕ) → n < d .n → toldOf page n .key ≡ keyWord d (recordOf v n .epoch) = λ n h. ap (λ (l : List ℕ). lineRead l .key) (nugget-text n h) ∙ line n h .key ∙ key-word d (recordOf v n .epoch) (fits n h) in
-        let flakes : (n : ℕ) → n < d .n → toldOf page n .flakes ≡ presentFlakes (d .p) (recordOf v n .journal) = λ n h. ap (λ (l : List ℕ). lineRead l .flakes) (nugget-text n h) ∙ line n h .flakes in
+        let named : (n : ℕ) → n < d .n → toldOf page n .key ≡ keyWord d (recordOf (shapeOf d) v n .epoch) = λ n h. ap (λ (l : List ℕ). lineRead l .key) (nugget-text n h) ∙ line n h .key ∙ key-word d (recordOf (shapeOf d) v n .epoch) (fits n h) in
+        let flakes : (n : ℕ) → n < d .n → toldOf page n .flakes ≡ presentFlakes (d .p) (recordOf (shapeOf d) v n .journal) = λ n h. ap (λ (l : List ℕ). lineRead l .flakes) (nugget-text n h) ∙ line n h .flakes in
         record {
           sheet = first-line ∙ is;
           nugget = λ n h. ap (λ (l : List ℕ). lineRead l .nugget) (nugget-text n h) ∙ line n h .nugget;
           epoch = λ n h. ap (λ (l : List ℕ). lineRead l .epoch) (nugget-text n h) ∙ line n h .epoch;
           keycount = λ n h. ap (λ (l : List ℕ). lineRead l .keycount) (nugget-text n h) ∙ line n h .keycount;
-          flakes = λ n f h l. ap (times f) (flakes n h) ∙ times-present (d .p) (recordOf v n .journal) f l;
-          noOthers = λ n f h l. ap (times f) (flakes n h) ∙ times-above (d .p) (recordOf v n .journal) f l;
+          flakes = λ n f h l. ap (times f) (flakes n h) ∙ times-present (d .p) (recordOf (shapeOf d) v n .journal) f l;
+          noOthers = λ n f h l. ap (times f) (flakes n h) ∙ times-above (d .p) (recordOf (shapeOf d) v n .journal) f l;
           word = named;
-          key = λ n h. ap (λ (s : List ℕ). nuggetKey s (d .salt) n) (secret-named d (recordOf v n .epoch) (fits n h) ∙ ap (secretNamed d) (sym (named n h)));
+          key = λ n h. ap (λ (s : List ℕ). nuggetKey s (d .salt) n) (secret-named d (recordOf (shapeOf d) v n .epoch) (fits n h) ∙ ap (secretNamed d) (sym (named n h)));
           counter = ap (λ (l : List ℕ). value (fieldAt 0 l)) counter-line ∙ counter-told outside small;
           held = counter;
           old = ap (fieldAt 0) old-line ∙ old-told d;

@@ -8,13 +8,13 @@ use Rattle.base.specs.Lists.{same}
 use Rattle.records.specs.Journal.{bit}
 use Rattle.keys.specs.Keys.{nuggetKey}
 use Rattle.drive.specs.declared.Drive.{Drive}
-use Rattle.drive.specs.Drive.{isChanging}
+use Rattle.drive.specs.Drive.{shapeOf, isChanging}
 use Rattle.nuggets.specs.Nugget.{keyFor}
 use Rattle.reports.specs.Report.{reportOf}
 use Rattle.line.specs.Lines.{newline, reportLine}
 use Rattle.pages.specs.Words.{t-new, t-old, t-present, t-needed, t-free}
 use Rattle.auditor.specs.Reading.{linesFrom, lineAt, toldOf, counterTold, oldTold, times}
-use Rattle.tree.specs.Path.{recordOf}
+use Rattle.records.specs.Record.{recordOf}
 
 -- "One less means: under the old secret": `old` exactly if the epoch is one less than the head's. Else it is `new`, in a steady drive `present`.
 unfoldable pub keyWord : Drive → ℕ → List ℕ
@@ -30,13 +30,13 @@ pub record Answers (page : List ℕ) (d : Drive) (v : List ℕ) (outside : ℕ) 
   pub sheet : let r = reportOf d v in lineAt 0 page ++ newline ≡ reportLine (r .n) (r .moved) (r .left) (r .flakes) (r .share)
   -- then each nugget in turn: its number, its epoch and its keycount
   pub nugget : (n : ℕ) → n < d .n → toldOf page n .nugget ≡ n
-  pub epoch : (n : ℕ) → n < d .n → toldOf page n .epoch ≡ recordOf v n .epoch
-  pub keycount : (n : ℕ) → n < d .n → toldOf page n .keycount ≡ recordOf v n .keycount
+  pub epoch : (n : ℕ) → n < d .n → toldOf page n .epoch ≡ recordOf (shapeOf d) v n .epoch
+  pub keycount : (n : ℕ) → n < d .n → toldOf page n .keycount ≡ recordOf (shapeOf d) v n .keycount
   -- "which flakes": a flake is listed exactly once if its bit is set, and else not at all
-  pub flakes : (n f : ℕ) → n < d .n → f < d .p → times f (toldOf page n .flakes) ≡ pick (bit (recordOf v n .journal) f) 1 0
+  pub flakes : (n f : ℕ) → n < d .n → f < d .p → times f (toldOf page n .flakes) ≡ pick (bit (recordOf (shapeOf d) v n .journal) f) 1 0
   pub noOthers : (n f : ℕ) → n < d .n → d .p ≤ f → times f (toldOf page n .flakes) ≡ 0
   -- "under which key": the word is that of the record's epoch, and the nugget's key is made from the secret that the word names
-  pub word : (n : ℕ) → n < d .n → toldOf page n .key ≡ keyWord d (recordOf v n .epoch)
+  pub word : (n : ℕ) → n < d .n → toldOf page n .key ≡ keyWord d (recordOf (shapeOf d) v n .epoch)
   pub key : (n : ℕ) → n < d .n → keyFor d v n ≡ nuggetKey (secretNamed d (toldOf page n .key)) (d .salt) n
   -- then the outside counter, which is the head's
   pub counter : counterTold page (d .n) ≡ outside

@@ -163,7 +163,7 @@ mount-carried v present old outside bytes wide old-wide = carried _ (mount-fits 
 worked-lent : (d : Drive) (v : List ℕ) (way : ℕ → Way) (new : ℕ → ℕ → List ℕ) → Lent (shapeOf d) v → Lent (shapeOf d) (worked d v way new)
 unfolding worked
 worked-lent d v way new l =
-    tends-lent (shapeOf d) way (d .n) _ (marks-lent (d .epoch) way v (shapeOf d) (d .n) _ (laid-lent (shapeOf d) (d .salt) new (padsFor d v way) v l)) (omega arith)
+    tends-lent (shapeOf d) way (d .n) _ (marks-lent (shapeOf d) (d .epoch) way v (d .n) _ (laid-lent (shapeOf d) (d .salt) new (padsFor d v way) v l)) (omega arith)
 
 advanced-fits : (d : Drive) (v : List ℕ) (way : ℕ → Way) (new : ℕ → ℕ → List ℕ) → Lent (shapeOf d) v → (d .counter ≡ counterTop → ⊥) → DriveFits d
     → DriveFits (advanced d (worked d v way new))

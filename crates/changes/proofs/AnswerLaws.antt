@@ -15,7 +15,7 @@ use Rattle.answers.specs.Numbers.{accepts}
 use Rattle.answers.proofs.StageLaws.{passed, both-stages, spared, accepted-is}
 use Rattle.records.specs.declared.Way.{Way}
 use Rattle.records.specs.Rule.{sweepWay, rekeys, atTop}
-use Rattle.tree.specs.Path.{recordOf}
+use Rattle.records.specs.Record.{recordOf}
 use Rattle.tree.specs.Whole.{wholeOf}
 use Rattle.drive.specs.declared.Drive.{Drive}
 use Rattle.drive.specs.Drive.{shapeOf, isChanging, counterTop}
@@ -59,8 +59,8 @@ pub record Moves (d : Drive) (v : List ℕ) (n : ℕ) : Type 0 where
   pub inside : n < d .n
   pub path : pathFor d v n ≡ A.Accepted
   pub counterRoom : d .counter ≡ counterTop → ⊥
-  pub keycountRoom : atTop sweepWay (recordOf v n) ≡ false
-  pub flakes : flakesOf d v n (recordOf v n .journal) ≡ A.Accepted
+  pub keycountRoom : atTop sweepWay (recordOf (shapeOf d) v n) ≡ false
+  pub flakes : flakesOf d v n (recordOf (shapeOf d) v n .journal) ≡ A.Accepted
 
 pub sweep-told : (d : Drive) (v : List ℕ) (n : ℕ) → accepts (sweepAnswer d v n) ≡ true → Moves d v n
 unfolding sweepAnswer
@@ -69,9 +69,9 @@ sweep-told d v n e =
     let changing = passed (isChanging (d .state)) _ A.State refl (opened .1) in
     let below = passed (ltb n (d .n)) _ A.PastEnd refl (changing .1) in
     let path = both-stages (pathFor d v n) _ (below .1) in
-    let left = spared (eqb (recordOf v n .epoch) (d .epoch)) A.Moved _ refl (path .1) in
+    let left = spared (eqb (recordOf (shapeOf d) v n .epoch) (d .epoch)) A.Moved _ refl (path .1) in
     let counter = spared (eqb (d .counter) counterTop) A.CounterTop _ refl (left .1) in
-    let keycount = spared (atTop sweepWay (recordOf v n)) A.KeycountTop _ refl (counter .1) in
+    let keycount = spared (atTop sweepWay (recordOf (shapeOf d) v n)) A.KeycountTop _ refl (counter .1) in
     record {
       opens = accepted-is (openingOf d v) (opened .0);
       lent = opening-lent d v (opened .0);
@@ -79,7 +79,7 @@ sweep-told d v n e =
       path = accepted-is (pathFor d v n) (path .0);
       counterRoom = eqb-false (d .counter) counterTop (counter .0);
       keycountRoom = keycount .0;
-      flakes = accepted-is (flakesOf d v n (recordOf v n .journal)) (keycount .1);
+      flakes = accepted-is (flakesOf d v n (recordOf (shapeOf d) v n .journal)) (keycount .1);
     }
 
 pub record Finishes (d : Drive) (v : List ℕ) : Type 0 where
@@ -88,7 +88,7 @@ pub record Finishes (d : Drive) (v : List ℕ) : Type 0 where
   pub whole : wholeOf (shapeOf d) (d .epoch) (isChanging (d .state)) v ≡ A.Accepted
   pub counterRoom : d .counter ≡ counterTop → ⊥
   -- "finish with nuggets left" is refused
-  pub allMoved : movedIn (d .epoch) v (d .n) ≡ d .n
+  pub allMoved : movedIn (shapeOf d) (d .epoch) v (d .n) ≡ d .n
 
 pub finish-told : (d : Drive) (v : List ℕ) → accepts (finishAnswer d v) ≡ true → Finishes d v
 unfolding finishAnswer
@@ -103,19 +103,19 @@ finish-told d v e =
       lent = opening-lent d v (opened .0);
       whole = accepted-is (wholeOf (shapeOf d) (d .epoch) (isChanging (d .state)) v) (whole .0);
       counterRoom = eqb-false (d .counter) counterTop (counter .0);
-      allMoved = omega (arith, ltb-false 0 (leftIn d v) (none .0), moved-le (d .epoch) v (d .n));
+      allMoved = omega (arith, ltb-false 0 (leftIn d v) (none .0), moved-le (shapeOf d) (d .epoch) v (d .n));
     }
 
 -- of a nugget that a change touches: "path; 14; flakes, ascending"; "a rekey tests all of J"
 pub record Tests (d : Drive) (v : List ℕ) (n : ℕ) (way : Way) : Type 0 where
   pub path : pathFor d v n ≡ A.Accepted
-  pub flakes : rekeys way ≡ true → flakesOf d v n (recordOf v n .journal) ≡ A.Accepted
+  pub flakes : rekeys way ≡ true → flakesOf d v n (recordOf (shapeOf d) v n .journal) ≡ A.Accepted
 
 change-told : (d : Drive) (v : List ℕ) (n : ℕ) (way : Way) → idles way ≡ false → accepts (nuggetChange d v n way) ≡ true → Tests d v n way
 unfolding nuggetChange
 change-told d v n way some e =
     let stages = both-stages (pathFor d v n) _ (rw some at e) in
-    let room = spared (atTop way (recordOf v n)) A.KeycountTop _ refl (stages .1) in
+    let room = spared (atTop way (recordOf (shapeOf d) v n)) A.KeycountTop _ refl (stages .1) in
     record { path = accepted-is (pathFor d v n) (stages .0); flakes = λ r. accepted-is _ (rw r at (room .1)) }
 
 -- "All others start 1, 2, 7 head": an empty write too
@@ -127,7 +127,7 @@ write-opens d v o len e = accepted-is (openingOf d v) (both-stages (openingOf d 
 pub record Granted (d : Drive) (v : List ℕ) (o len : ℕ) : Type 0 where
   pub lent : Lent (shapeOf d) v
   pub inRange : o + len ≤ capacity (shapeOf d)
-  pub room : (n : ℕ) → n < d .n → atTop (writeWay d v o len n) (recordOf v n) ≡ false
+  pub room : (n : ℕ) → n < d .n → atTop (writeWay d v o len n) (recordOf (shapeOf d) v n) ≡ false
   pub counterRoom : d .counter ≡ counterTop → ⊥
   pub tests : (n : ℕ) → n < d .n → idles (writeWay d v o len n) ≡ false → Tests d v n (writeWay d v o len n)
 

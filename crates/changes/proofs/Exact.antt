@@ -18,7 +18,7 @@ use Rattle.records.specs.declared.Way.{Way}
 use Rattle.records.specs.declared.Way.the-variants.{Idle, Add, Rekey}
 use Rattle.records.specs.Journal.{many}
 use Rattle.records.specs.Rule.{rekeys, atTop, sweepWay}
-use Rattle.tree.specs.Path.{recordOf}
+use Rattle.records.specs.Record.{recordOf}
 use Rattle.tree.specs.Whole.{wholeOf}
 use Rattle.drive.specs.declared.Drive.{Drive}
 use Rattle.drive.specs.declared.State.{State}
@@ -38,10 +38,10 @@ pub record Clean (d : Drive) (v : List ℕ) : Type 0 where
   pub opens : openingOf d v ≡ A.Accepted
   pub paths : (n : ℕ) → n < d .n → pathFor d v n ≡ A.Accepted
   pub whole : wholeOf (shapeOf d) (d .epoch) (isChanging (d .state)) v ≡ A.Accepted
-  pub flakes : (n : ℕ) → n < d .n → flakesOf d v n (recordOf v n .journal) ≡ A.Accepted
+  pub flakes : (n : ℕ) → n < d .n → flakesOf d v n (recordOf (shapeOf d) v n .journal) ≡ A.Accepted
   -- no keycount is above the counter, nor that above its top
   pub counted : d .counter ≤ counterTop
-  pub below : (n : ℕ) → n < d .n → recordOf v n .keycount ≤ d .counter
+  pub below : (n : ℕ) → n < d .n → recordOf (shapeOf d) v n .keycount ≤ d .counter
 
 -- behind a test, where it holds and where it doesn't
 pub yes-same : (b : Bool) {A : Type 0} {x y : A} (r : A) → (b ≡ true → x ≡ y) → pick b x r ≡ pick b y r
@@ -58,12 +58,12 @@ taken false p q = q
 
 module _ (d : Drive) (v : List ℕ) (x : Clean d v) where
   -- "14" isn't due while 13 isn't
-  room : eqb (d .counter) counterTop ≡ false → (way : Way) (n : ℕ) → n < d .n → atTop way (recordOf v n) ≡ false
+  room : eqb (d .counter) counterTop ≡ false → (way : Way) (n : ℕ) → n < d .n → atTop way (recordOf (shapeOf d) v n) ≡ false
   unfolding atTop
   room low Idle n h = refl
   room low (Add t) n h = refl
   room low (Rekey t) n h =
-      ne-eqb (recordOf v n .keycount) (2 ^ 64 - 1) (λ e. eqb-false (d .counter) counterTop low (omega (arith, e, x .below n h, x .counted)))
+      ne-eqb (recordOf (shapeOf d) v n .keycount) (2 ^ 64 - 1) (λ e. eqb-false (d .counter) counterTop low (omega (arith, e, x .below n h, x .counted)))
 
   nugget-taken : eqb (d .counter) counterTop ≡ false → (n : ℕ) (way : Way) → n < d .n → nuggetChange d v n way ≡ A.Accepted
   unfolding nuggetChange andThen
@@ -91,7 +91,7 @@ module _ (d : Drive) (v : List ℕ) (x : Clean d v) where
 
   pub sweep-exact : (n : ℕ) → sweepAnswer d v n
       ≡ pick (isChanging (d .state))
-      (pick (ltb n (d .n)) (pick (eqb (recordOf v n .epoch) (d .epoch)) A.Moved (pick (eqb (d .counter) (2 ^ 64 - 1)) A.CounterTop A.Accepted)) A.PastEnd)
+      (pick (ltb n (d .n)) (pick (eqb (recordOf (shapeOf d) v n .epoch) (d .epoch)) A.Moved (pick (eqb (d .counter) (2 ^ 64 - 1)) A.CounterTop A.Accepted)) A.PastEnd)
       A.State
   unfolding sweepAnswer andThen
   sweep-exact n =
@@ -99,15 +99,15 @@ module _ (d : Drive) (v : List ℕ) (x : Clean d v) where
       (yes-same (isChanging (d .state)) _
       (λ changing. yes-same (ltb n (d .n)) _
       (λ h. yes _ (ap accepts (x .paths n (ltb-true n (d .n) h)))
-      (no-same (eqb (recordOf v n .epoch) (d .epoch)) _
+      (no-same (eqb (recordOf (shapeOf d) v n .epoch) (d .epoch)) _
       (λ left. no-same (eqb (d .counter) counterTop) _
       (λ low. no _ (room low sweepWay n (ltb-true n (d .n) h)) (x .flakes n (ltb-true n (d .n) h))))))))
 
   -- those left, counted one by one
-  pub left-counted : leftIn d v ≡ many (d .n) (λ i. not (eqb (recordOf v i .epoch) (d .epoch)))
-  left-counted = many-not (d .n) (isMoved (d .epoch) v)
+  pub left-counted : leftIn d v ≡ many (d .n) (λ i. not (eqb (recordOf (shapeOf d) v i .epoch) (d .epoch)))
+  left-counted = many-not (d .n) (isMoved (shapeOf d) (d .epoch) v)
 
-  pub finish-exact : let left = many (d .n) (λ i. not (eqb (recordOf v i .epoch) (d .epoch))) in
+  pub finish-exact : let left = many (d .n) (λ i. not (eqb (recordOf (shapeOf d) v i .epoch) (d .epoch))) in
       finishAnswer d v
       ≡ pick (isChanging (d .state)) (pick (ltb 0 left) (A.Left left) (pick (eqb (d .counter) (2 ^ 64 - 1)) A.CounterTop A.Accepted)) A.State
   unfolding finishAnswer andThen

@@ -8,12 +8,13 @@ use Rattle.base.specs.Lists.{part}
 use Rattle.base.proofs.PartLaws.{part-part}
 use Rattle.words.specs.Le.{num}
 use Rattle.layout.specs.declared.Shape.{Shape}
-use Rattle.layout.specs.Shape.{leaves}
+use Rattle.layout.specs.Shape.{leaves, widthOf}
 use Rattle.layout.specs.Parts.{recordAt, tagsAt, tagAt, flakeAt, nodeAt}
 use Rattle.layout.proofs.Places.{record-inside}
 use Rattle.records.specs.declared.Record.{Record}
 use Rattle.records.specs.declared.Way.{Way}
-use Rattle.records.specs.Record.{recordIn}
+use Rattle.records.specs.Record.{recordIn, recordOf}
+use Rattle.records.proofs.RecordLaws.{record-told}
 use Rattle.records.specs.Listing.{Entry, padsOf, padsTo}
 use Rattle.nodes.specs.Nodes.{nodeIn}
 use Rattle.keys.specs.Pads.{under}
@@ -22,20 +23,6 @@ use Rattle.changes.specs.Laid.{laid}
 use Rattle.changes.proofs.Each.{Each, each-map, Of, each-pads, chosen, Below, each-to}
 use Rattle.changes.proofs.CellLaws.{Other}
 use Rattle.changes.proofs.LaidLaws.{laid-leaves, Long, Clear, Stands, clear-below, clear-node, clear-flake, clear-tag}
-use Rattle.tree.specs.Path.{recordOf}
-
--- a record is told by its 18 bytes
-pub record-told : (at : ℕ) (v w : List ℕ) → part at 18 v ≡ part at 18 w → recordIn at v ≡ recordIn at w
-unfolding recordIn
-record-told at v w e =
-    let k : num (part at 8 v) ≡ num (part at 8 w) = ap num (piece 0 8 (omega arith) at (omega arith)) in
-    let j : num (part (at + 8) 8 v) ≡ num (part (at + 8) 8 w) = ap num (piece 8 8 (omega arith) (at + 8) (omega arith)) in
-    let h : num (part (at + 16) 2 v) ≡ num (part (at + 16) 2 w) = ap num (piece 16 2 (omega arith) (at + 16) (omega arith)) in
-    λ i. record { keycount = k i; journal = j i; epoch = h i }
-  where
-    piece : (a n : ℕ) → a + n ≤ 18 → (b : ℕ) → at + a ≡ b → part b n v ≡ part b n w
-    piece a n h b q =
-        ap (λ (x : ℕ). part x n v) (sym q) ∙ sym (part-part a n at 18 v h) ∙ ap (λ (x : List ℕ). part a n x) e ∙ part-part a n at 18 w h ∙ ap (λ (x : ℕ). part x n w) q
 
 pub to-stands : (s : Shape) (way : ℕ → Way) (records : ℕ → Record) (x : List ℕ) (m : ℕ) → m ≤ s .n → Each (Stands s) (padsTo (s .p) way records x m)
 to-stands s way records x m h =
@@ -70,8 +57,8 @@ module _ (s : Shape) (salt : List ℕ) (new : ℕ → ℕ → List ℕ) (long : 
   pub laid-below : (at m : ℕ) (es : List Entry) (v : List ℕ) → Each (Stands s) es → at + m ≤ tagsAt s → part at m (laid s salt new es v) ≡ part at m v
   laid-below at m es v x h = laid-leaves s salt new long at m es v (each-map (Stands s) (Clear s at m) es (clear-below s at m h) x)
 
-  pub laid-record : (n : ℕ) (es : List Entry) (v : List ℕ) → Each (Stands s) es → n < s .n → recordOf (laid s salt new es v) n ≡ recordOf v n
-  laid-record n es v x h = record-told (recordAt n) (laid s salt new es v) v (laid-below (recordAt n) 18 es v x (record-inside s n h))
+  pub laid-record : (n : ℕ) (es : List Entry) (v : List ℕ) → Each (Stands s) es → n < s .n → recordOf s (laid s salt new es v) n ≡ recordOf s v n
+  laid-record n es v x h = record-told s (recordAt s n) (laid s salt new es v) v (laid-below (recordAt s n) (widthOf s) es v x (record-inside s n h))
 
   pub laid-node : (i : ℕ) (es : List Entry) (v : List ℕ) → Each (Stands s) es → 1 ≤ i → i < 2 * leaves (s .n) → nodeIn s (laid s salt new es v) i ≡ nodeIn s v i
   laid-node i es v x a b = laid-leaves s salt new long (nodeAt s i) 32 es v (each-map (Stands s) (Clear s (nodeAt s i) 32) es (clear-node s i a b) x)

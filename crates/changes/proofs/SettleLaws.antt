@@ -6,8 +6,10 @@ use Prim.Native.Nat.{ℕ, _*_, _≤_}
 use native.Mathlib.Omega.{arith}
 use lib.ListN.{length}
 use lib.Seq.{length-sets}
+use Rattle.records.proofs.RecordLaws.{record-told}
 use Rattle.base.specs.Lists.{part}
 use Rattle.base.proofs.PartLaws.{part-sets, part-sets-above}
+use Rattle.layout.specs.Shape.{widthOf}
 use Rattle.layout.specs.declared.Shape.{Shape}
 use Rattle.layout.specs.Lent.{Lent}
 use Rattle.layout.specs.Parts.{recordAt, tagAt, flakeAt, nodeAt}
@@ -19,9 +21,8 @@ use Rattle.tree.proofs.ChangeLaws.{changed-but}
 use Rattle.drive.specs.declared.Drive.{Drive}
 use Rattle.drive.specs.Head.{headOf}
 use Rattle.changes.specs.Change.{settled}
-use Rattle.changes.proofs.PadsLaws.{record-told}
 use Rattle.changes.proofs.PutLaws.{Same}
-use Rattle.tree.specs.Path.{recordOf}
+use Rattle.records.specs.Record.{recordOf}
 
 module _ (s : Shape) (d : Drive) (w : List ℕ) (long : length (headOf d) ≡ 104) where
   pub settled-lent : Lent s w → Lent s (settled d w)
@@ -36,8 +37,8 @@ module _ (s : Shape) (d : Drive) (w : List ℕ) (long : length (headOf d) ≡ 10
   unfolding settled
   settled-behind at k h = part-sets-above at k w 0 (headOf d) (omega (arith, long, h))
 
-  pub settled-record : (n : ℕ) → recordOf (settled d w) n ≡ recordOf w n
-  settled-record n = record-told (recordAt n) (settled d w) w (settled-behind (recordAt n) 18 (omega arith))
+  pub settled-record : (n : ℕ) → recordOf s (settled d w) n ≡ recordOf s w n
+  settled-record n = record-told s (recordAt s n) (settled d w) w (settled-behind (recordAt s n) (widthOf s) (omega arith))
 
   pub settled-same : (n f : ℕ) → Same s n f w (settled d w)
   settled-same n f =
@@ -51,6 +52,6 @@ module _ (s : Shape) (d : Drive) (w : List ℕ) (long : length (headOf d) ≡ 10
       let u = settled d w in
       let beside : Beside s (λ m. ⊥) w u = record {
         nodes = λ i a b. sym (settled-node i a);
-        others = λ m h ne. record { records = sym (settled-behind (recordAt m) 18 (omega arith)); tags = sym (settled-behind (tagAt s m 0) (16 * s .p) (omega arith)) };
+        others = λ m h ne. record { records = sym (settled-behind (recordAt s m) (widthOf s) (omega arith)); tags = sym (settled-behind (tagAt s m 0) (16 * s .p) (omega arith)) };
       } in
       none-left s u (but-more s u (λ m. ⊥ ⊎ ⊥) (λ m. ⊥) (λ m h x. ⊎-elim (λ z. z) (λ z. z) x) (changed-but s w u (λ m. ⊥) (λ m. ⊥) beside (all-but s w (λ m. ⊥) g)))

@@ -34,7 +34,7 @@ use Rattle.nuggets.specs.Touched.{meets, touchedOf}
 use Rattle.nuggets.proofs.TouchLaws.{touched-none}
 use Rattle.changes.specs.Change.{idles, nuggetChange, testedTo, marked, markedTo, tended, tendedTo}
 use Rattle.changes.specs.Write.{writeWay}
-use Rattle.tree.specs.Path.{recordOf}
+use Rattle.records.specs.Record.{recordOf}
 
 -- a step by step account that stands still from a on
 pub still : {A : Type 0} (f : ℕ → A) (a k : ℕ) → ((m : ℕ) → a ≤ m → m < a + k → f (suc m) ≡ f m) → f (a + k) ≡ f a
@@ -91,10 +91,10 @@ idles-way r t head = go (eqb t 0) (both (shareNone (r .journal) t) (eqb (r .epoc
 
 module _ (d : Drive) (v : List ℕ) (o len : ℕ) (l : Limits (shapeOf d)) where
   pub idle-below : (n : ℕ) → n < spotAt (shapeOf d) o .nugget → writeWay d v o len n ≡ Idle
-  idle-below n h = way-idle (recordOf v n) (touchedOf (shapeOf d) o len n) (d .epoch) (none-below (shapeOf d) o len n l h)
+  idle-below n h = way-idle (recordOf (shapeOf d) v n) (touchedOf (shapeOf d) o len n) (d .epoch) (none-below (shapeOf d) o len n l h)
 
   pub idle-above : (n : ℕ) → 0 < len → spotAt (shapeOf d) (o + (len - 1)) .nugget < n → writeWay d v o len n ≡ Idle
-  idle-above n some h = way-idle (recordOf v n) (touchedOf (shapeOf d) o len n) (d .epoch) (none-above (shapeOf d) o len n l some h)
+  idle-above n some h = way-idle (recordOf (shapeOf d) v n) (touchedOf (shapeOf d) o len n) (d .epoch) (none-above (shapeOf d) o len n l some h)
 
 -- an idle nugget accepts, lists nothing and is left
 module _ (way : ℕ → Way) (n : ℕ) (e : way n ≡ Idle) where
@@ -110,9 +110,9 @@ module _ (way : ℕ → Way) (n : ℕ) (e : way n ≡ Idle) where
   unfolding padsTo
   pads-idle-to p records s = rw (e, pads-idle p n (records n) s) (append-nil (padsTo p way records s n))
 
-  pub marked-idle : (head : ℕ) (v w : List ℕ) → markedTo head way v (suc n) w ≡ markedTo head way v n w
+  pub marked-idle : (s : Shape) (head : ℕ) (v w : List ℕ) → markedTo s head way v (suc n) w ≡ markedTo s head way v n w
   unfolding markedTo marked
-  marked-idle head v w = rw e refl
+  marked-idle s head v w = rw e refl
 
   pub tended-idle : (s : Shape) (w : List ℕ) → tendedTo s way (suc n) w ≡ tendedTo s way n w
   unfolding tendedTo tended
@@ -151,7 +151,7 @@ module _ (d : Drive) (v : List ℕ) (way : ℕ → Way) where
 
 -- what an accepted nugget says: its path, its keycount, and its flakes where it is rekeyed
 module _ (d : Drive) (v : List ℕ) (n : ℕ) where
-  pub change-room : (way : Way) → accepts (nuggetChange d v n way) ≡ true → atTop way (recordOf v n) ≡ false
+  pub change-room : (way : Way) → accepts (nuggetChange d v n way) ≡ true → atTop way (recordOf (shapeOf d) v n) ≡ false
   unfolding nuggetChange atTop
   change-room Idle e = refl
   change-room (Add t) e = refl

@@ -30,7 +30,7 @@ use Rattle.changes.proofs.Each.{Each, each-map}
 use Rattle.changes.proofs.LaidLaws.{Stands}
 use Rattle.changes.proofs.PadsLaws.{to-stands, laid-record}
 use Rattle.changes.proofs.SpanLaws.{still-to, pads-idle-to, marked-idle, tended-idle}
-use Rattle.tree.specs.Path.{recordOf}
+use Rattle.records.specs.Record.{recordOf}
 
 pub way-own : (n : ℕ) → sweepWays n n ≡ sweepWay
 way-own n = yes _ (eq-eqb n n refl) refl
@@ -50,10 +50,10 @@ module _ (n k : ℕ) (h : n < k) where
       let (behind, before) = alone (padsTo p (sweepWays n) records s) n k h (λ m q. pads-idle-to (sweepWays n) m (way-other n m q) p records s) in
       behind ∙ rw (before, way-own n)
 
-  pub sweep-marks : (head : ℕ) (v w : List ℕ) → markedTo head (sweepWays n) v k w ≡ marked head sweepWay (recordOf v n) n w
+  pub sweep-marks : (s : Shape) (head : ℕ) (v w : List ℕ) → markedTo s head (sweepWays n) v k w ≡ marked s head sweepWay (recordOf s v n) n w
   unfolding markedTo
-  sweep-marks head v w =
-      let (behind, before) = alone (λ m. markedTo head (sweepWays n) v m w) n k h (λ m q. marked-idle (sweepWays n) m (way-other n m q) head v w) in
+  sweep-marks s head v w =
+      let (behind, before) = alone (λ m. markedTo s head (sweepWays n) v m w) n k h (λ m q. marked-idle (sweepWays n) m (way-other n m q) s head v w) in
       behind ∙ rw (before, way-own n)
 
   pub sweep-tends : (s : Shape) (w : List ℕ) → tendedTo s (sweepWays n) k w ≡ tended s sweepWay n w
@@ -88,27 +88,27 @@ laid-alike s salt a b (e ∷ es) v x = rw (x .0) (laid-alike s salt a b es _ (x 
 
 module _ (d : Drive) (v : List ℕ) (n : ℕ) (l : Lent (shapeOf d) v) (h : n < d .n) where
   -- the nugget's own flakes and tags, laid as a write of no bytes lays them
-  pub sweep-lays : laid (shapeOf d) (d .salt) (newContents d v 0 []) (padsBy (d .p) sweepWay n (recordOf v n) (d .present)) v
+  pub sweep-lays : laid (shapeOf d) (d .salt) (newContents d v 0 []) (padsBy (d .p) sweepWay n (recordOf (shapeOf d) v n) (d .present)) v
       ≡ laid (shapeOf d) (d .salt) (contentsOf d v) (padsFor d v (sweepWays n)) v
   sweep-lays =
       let s = shapeOf d in
-      let own : padsFor d v (sweepWays n) ≡ padsBy (d .p) sweepWay n (recordOf v n) (d .present) = sweep-pads n (d .n) h (d .p) (recordOf v) (d .present) in
+      let own : padsFor d v (sweepWays n) ≡ padsBy (d .p) sweepWay n (recordOf (shapeOf d) v n) (d .present) = sweep-pads n (d .n) h (d .p) (recordOf (shapeOf d) v) (d .present) in
       ap (λ (es : List Entry). laid s (d .salt) (newContents d v 0 []) es v) (sym own)
       ∙ laid-alike s (d .salt) (newContents d v 0 []) (contentsOf d v) (padsFor d v (sweepWays n)) v
       (each-map (Stands s) (λ e. newContents d v 0 [] (e .nugget) (e .flake) ≡ contentsOf d v (e .nugget) (e .flake)) (padsFor d v (sweepWays n))
-      (λ e o. kept-contents d v l (e .nugget) (e .flake) (o .nugget) (o .flake)) (to-stands s (sweepWays n) (recordOf v) (d .present) (d .n) (omega arith)))
+      (λ e o. kept-contents d v l (e .nugget) (e .flake) (o .nugget) (o .flake)) (to-stands s (sweepWays n) (recordOf (shapeOf d) v) (d .present) (d .n) (omega arith)))
 
-  module _ {x : List ℕ} (e : x ≡ laid (shapeOf d) (d .salt) (newContents d v 0 []) (padsBy (d .p) sweepWay n (recordOf v n) (d .present)) v) where
+  module _ {x : List ℕ} (e : x ≡ laid (shapeOf d) (d .salt) (newContents d v 0 []) (padsBy (d .p) sweepWay n (recordOf (shapeOf d) v n) (d .present)) v) where
     -- its record stands through that
-    pub sweep-record : recordOf x n ≡ recordOf v n
+    pub sweep-record : recordOf (shapeOf d) x n ≡ recordOf (shapeOf d) v n
     sweep-record =
         let s = shapeOf d in
-        ap (λ (u : List ℕ). recordOf u n) (e ∙ sweep-lays)
+        ap (λ (u : List ℕ). recordOf (shapeOf d) u n) (e ∙ sweep-lays)
         ∙ laid-record s (d .salt) (contentsOf d v) (λ m f a b. length-contents s v (nuggetOf d v m) f l a b) n (padsFor d v (sweepWays n)) v
-        (to-stands s (sweepWays n) (recordOf v) (d .present) (d .n) (omega arith)) h
+        (to-stands s (sweepWays n) (recordOf (shapeOf d) v) (d .present) (d .n) (omega arith)) h
 
     -- its record, and its leaf and path, are all that is left to store before the head
-    pub sweep-works : {y z : List ℕ} {s : Shape} → y ≡ marked (d .epoch) sweepWay (recordOf x n) n x → s ≡ shapeOf d → z ≡ tended s sweepWay n y → z ≡ sweepWork d v n
+    pub sweep-works : {y z : List ℕ} {s : Shape} → y ≡ marked (shapeOf d) (d .epoch) sweepWay (recordOf (shapeOf d) x n) n x → s ≡ shapeOf d → z ≡ tended s sweepWay n y → z ≡ sweepWork d v n
     unfolding worked
     sweep-works {y} p r q =
         let w = laid (shapeOf d) (d .salt) (contentsOf d v) (padsFor d v (sweepWays n)) v in
@@ -116,7 +116,7 @@ module _ (d : Drive) (v : List ℕ) (n : ℕ) (l : Lent (shapeOf d) v) (h : n < 
         ∙ ap (λ (s : Shape). tended s sweepWay n y) r
         ∙ ap (λ (u : List ℕ). tended (shapeOf d) sweepWay n u)
         (p
-        ∙ ap (λ (r : Record). marked (d .epoch) sweepWay r n x) sweep-record
-        ∙ ap (λ (u : List ℕ). marked (d .epoch) sweepWay (recordOf v n) n u) (e ∙ sweep-lays)
-        ∙ sym (sweep-marks n (d .n) h (d .epoch) v w))
-        ∙ sym (sweep-tends n (d .n) h (shapeOf d) (markedTo (d .epoch) (sweepWays n) v (d .n) w))
+        ∙ ap (λ (r : Record). marked (shapeOf d) (d .epoch) sweepWay r n x) sweep-record
+        ∙ ap (λ (u : List ℕ). marked (shapeOf d) (d .epoch) sweepWay (recordOf (shapeOf d) v n) n u) (e ∙ sweep-lays)
+        ∙ sym (sweep-marks n (d .n) h (shapeOf d) (d .epoch) v w))
+        ∙ sym (sweep-tends n (d .n) h (shapeOf d) (markedTo (shapeOf d) (d .epoch) (sweepWays n) v (d .n) w))

@@ -7,9 +7,11 @@ use Prim.Native.Nat.{ℕ, _+_, _-_, _*_, _<_, _≤_}
 use native.Mathlib.Omega.{arith}
 use lib.ListN.{drop}
 use lib.Seq.{drop-drop}
+use Rattle.records.proofs.RecordLaws.{record-told}
 use Rattle.base.specs.Lists.{part}
 use Rattle.base.proofs.PickLaws.{told, clash}
 use Rattle.base.proofs.PartLaws.{part-below}
+use Rattle.layout.specs.Shape.{widthOf}
 use Rattle.layout.specs.declared.Shape.{Shape}
 use Rattle.layout.specs.Lent.{Lent}
 use Rattle.layout.specs.Parts.{recordAt, treeAt, flakesAt, tagAt, flakeAt, nodeAt}
@@ -17,7 +19,7 @@ use Rattle.layout.proofs.Places.{apart, record-inside, tag-inside, node-inside,
 use Rattle.records.specs.declared.Record.{Record}
 use Rattle.records.specs.declared.Way.{Way}
 use Rattle.records.specs.declared.Way.the-variants.{Idle, Add, Rekey}
-use Rattle.records.specs.Record.{Widths}
+use Rattle.records.specs.Record.{Widths, recordOf}
 use Rattle.records.specs.Journal.{bit}
 use Rattle.records.specs.Rule.{enciphered, keycountAfter, turned}
 use Rattle.records.specs.Listing.{Entry}
@@ -36,11 +38,10 @@ use Rattle.changes.specs.Change.{idles, padsFor, markedTo, worked}
 use Rattle.changes.proofs.Each.{each-map, chosen, Below, each-to}
 use Rattle.changes.proofs.CellLaws.{ordered}
 use Rattle.changes.proofs.LaidLaws.{laid-lent, laid-leaves, Long, Clear}
-use Rattle.changes.proofs.PadsLaws.{record-told, to-stands, laid-below, laid-record, laid-node}
+use Rattle.changes.proofs.PadsLaws.{to-stands, laid-below, laid-record, laid-node}
 use Rattle.changes.proofs.PutLaws.{Same, Under, same-trans, under-same, to-kept, to-put}
 use Rattle.changes.proofs.MarkLaws.{marks-lent, marks-above, marks-idle, marks-put}
 use Rattle.changes.proofs.TendLaws.{LeftFrom, tends-outside, tends-lent, tends-good}
-use Rattle.tree.specs.Path.{recordOf}
 
 -- parts behind the tree
 part-behind : (at n m : ℕ) (v w : List ℕ) → m ≤ at → drop m w ≡ drop m v → part at n w ≡ part at n v
@@ -72,13 +73,13 @@ module _ (d : Drive) (v : List ℕ) (way : ℕ → Way) (new : ℕ → ℕ → L
   one = laid s (d .salt) new (padsFor d v way) v
 
   abbrev two : List ℕ
-  two = markedTo (d .epoch) way v (d .n) one
+  two = markedTo s (d .epoch) way v (d .n) one
 
   one-lent : Lent s one
   one-lent = laid-lent s (d .salt) new (padsFor d v way) v l
 
   two-lent : Lent s two
-  two-lent = marks-lent (d .epoch) way v s (d .n) one one-lent
+  two-lent = marks-lent s (d .epoch) way v (d .n) one one-lent
 
   three-outside : Outside s two (worked d v way new)
   unfolding worked
@@ -89,36 +90,36 @@ module _ (d : Drive) (v : List ℕ) (way : ℕ → Way) (new : ℕ → ℕ → L
   worked-lent = tends-lent s way (d .n) two two-lent (omega arith)
 
   -- each record is the one turned in its nugget's way
-  pub worked-record : (n : ℕ) → n < d .n → Widths (turned (way n) (d .epoch) (recordOf v n)) → recordOf (worked d v way new) n ≡ turned (way n) (d .epoch) (recordOf v n)
+  pub worked-record : (n : ℕ) → n < d .n → Widths (turned (way n) (d .epoch) (recordOf (shapeOf d) v n)) → recordOf (shapeOf d) (worked d v way new) n ≡ turned (way n) (d .epoch) (recordOf (shapeOf d) v n)
   worked-record n h wide =
-      record-told (recordAt n) (worked d v way new) two (sym (outside-alike n three-outside h .records))
-      ∙ marks-put (d .epoch) way v n (d .n) one h wide (rw (one-lent .size) (omega (arith, record-inside s n h, parts-inside s)))
-      (laid-record s (d .salt) new long n (padsFor d v way) v (to-stands s way (recordOf v) (d .present) (d .n) (omega arith)) h)
+      record-told (shapeOf d) (recordAt (shapeOf d) n) (worked d v way new) two (sym (outside-alike n three-outside h .records))
+      ∙ marks-put s (d .epoch) way v n (d .n) one h wide (rw (one-lent .size) (omega (arith, record-inside s n h, parts-inside s)))
+      (laid-record s (d .salt) new long n (padsFor d v way) v (to-stands s way (recordOf (shapeOf d) v) (d .present) (d .n) (omega arith)) h)
 
   two-same : (n f : ℕ) → n < d .n → f < d .p → Same s n f one two
   two-same n f a b =
       record {
-        stored = marks-above (d .epoch) way v s (flakeAt s n f) (s .f) (d .n) one (omega arith) (omega (arith, parts-inside s));
-        tag = marks-above (d .epoch) way v s (tagAt s n f) 16 (d .n) one (omega arith) (omega arith);
+        stored = marks-above s (d .epoch) way v (flakeAt s n f) (s .f) (d .n) one (omega arith) (omega (arith, parts-inside s));
+        tag = marks-above s (d .epoch) way v (tagAt s n f) 16 (d .n) one (omega arith) (omega arith);
       }
 
   last-same : (n f : ℕ) → n < d .n → f < d .p → Same s n f one (worked d v way new)
   last-same n f a b = same-trans (two-same n f a b) (outside-same n f three-outside a b)
 
   -- a flake that is enciphered is its new contents under its pad, with its tag; every other is as it was
-  pub worked-put : (n f : ℕ) → n < d .n → f < d .p → chosen way (recordOf v) n f ≡ true
-      → Under s n f (nuggetKey (d .present) (d .salt) n) (keycountAfter (way n) (recordOf v n)) (new n f) (worked d v way new)
-  worked-put n f a b on = under-same (to-put s (d .salt) new long n f a b way (recordOf v) (d .present) (d .n) v l (omega arith) a on) (last-same n f a b)
+  pub worked-put : (n f : ℕ) → n < d .n → f < d .p → chosen way (recordOf (shapeOf d) v) n f ≡ true
+      → Under s n f (nuggetKey (d .present) (d .salt) n) (keycountAfter (way n) (recordOf (shapeOf d) v n)) (new n f) (worked d v way new)
+  worked-put n f a b on = under-same (to-put s (d .salt) new long n f a b way (recordOf (shapeOf d) v) (d .present) (d .n) v l (omega arith) a on) (last-same n f a b)
 
-  pub worked-kept : (n f : ℕ) → n < d .n → f < d .p → chosen way (recordOf v) n f ≡ false → Same s n f v (worked d v way new)
-  worked-kept n f a b off = same-trans (to-kept s (d .salt) new long n f a b way (recordOf v) (d .present) (d .n) v (omega arith) (λ h. off)) (last-same n f a b)
+  pub worked-kept : (n f : ℕ) → n < d .n → f < d .p → chosen way (recordOf (shapeOf d) v) n f ≡ false → Same s n f v (worked d v way new)
+  worked-kept n f a b off = same-trans (to-kept s (d .salt) new long n f a b way (recordOf (shapeOf d) v) (d .present) (d .n) v (omega arith) (λ h. off)) (last-same n f a b)
 
   -- an idle nugget's record bytes and tags are as they were
-  idle-clear : (m : ℕ) → m < d .n → idles (way m) ≡ true → (e : Entry) → Below (chosen way (recordOf v)) (d .n) (d .p) e → Clear s (tagAt s m 0) (16 * d .p) e
+  idle-clear : (m : ℕ) → m < d .n → idles (way m) ≡ true → (e : Entry) → Below (chosen way (recordOf (shapeOf d) v)) (d .n) (d .p) e → Clear s (tagAt s m 0) (16 * d .p) e
   idle-clear m h idle e x =
       let low = x .under in
       let few = x .few in
-      let other : m ≡ e .nugget → ⊥ = λ q. clash (x .holds) (idle-none (way (e .nugget)) (recordOf v (e .nugget)) (e .flake) (ap (λ (i : ℕ). idles (way i)) (sym q) ∙ idle)) in
+      let other : m ≡ e .nugget → ⊥ = λ q. clash (x .holds) (idle-none (way (e .nugget)) (recordOf (shapeOf d) v (e .nugget)) (e .flake) (ap (λ (i : ℕ). idles (way i)) (sym q) ∙ idle)) in
       record {
         nugget = low;
         flake = few;
@@ -133,21 +134,21 @@ module _ (d : Drive) (v : List ℕ) (way : ℕ → Way) (new : ℕ → ℕ → L
   idle-alike m h idle =
       record {
         records =
-            sym (marks-idle (d .epoch) way v m (d .n) one idle
-            ∙ laid-below s (d .salt) new long (recordAt m) 18 (padsFor d v way) v (to-stands s way (recordOf v) (d .present) (d .n) (omega arith)) (record-inside s m h));
+            sym (marks-idle s (d .epoch) way v m (d .n) one idle
+            ∙ laid-below s (d .salt) new long (recordAt (shapeOf d) m) (widthOf (shapeOf d)) (padsFor d v way) v (to-stands s way (recordOf (shapeOf d) v) (d .present) (d .n) (omega arith)) (record-inside s m h));
         tags =
-            sym (marks-above (d .epoch) way v s (tagAt s m 0) (16 * d .p) (d .n) one (omega arith) (omega arith)
+            sym (marks-above s (d .epoch) way v (tagAt s m 0) (16 * d .p) (d .n) one (omega arith) (omega arith)
             ∙ laid-leaves s (d .salt) new long (tagAt s m 0) (16 * d .p) (padsFor d v way) v
-            (each-map (Below (chosen way (recordOf v)) (d .n) (d .p)) (Clear s (tagAt s m 0) (16 * d .p)) (padsFor d v way) (idle-clear m h idle)
-            (each-to (d .p) way (recordOf v) (d .present) (d .n))));
+            (each-map (Below (chosen way (recordOf (shapeOf d) v)) (d .n) (d .p)) (Clear s (tagAt s m 0) (16 * d .p)) (padsFor d v way) (idle-clear m h idle)
+            (each-to (d .p) way (recordOf (shapeOf d) v) (d .present) (d .n))));
       }
 
   two-beside : Beside s (LeftFrom s way 0) v two
   two-beside =
       record {
         nodes = λ i a b.
-            sym (marks-above (d .epoch) way v s (nodeAt s i) 32 (d .n) one (omega arith) (omega (arith, node-inside s i a b .0, parts-inside s))
-            ∙ laid-node s (d .salt) new long i (padsFor d v way) v (to-stands s way (recordOf v) (d .present) (d .n) (omega arith)) a b);
+            sym (marks-above s (d .epoch) way v (nodeAt s i) 32 (d .n) one (omega arith) (omega (arith, node-inside s i a b .0, parts-inside s))
+            ∙ laid-node s (d .salt) new long i (padsFor d v way) v (to-stands s way (recordOf (shapeOf d) v) (d .present) (d .n) (omega arith)) a b);
         others = λ m h ne. ⊎-elim (λ e. idle-alike m h e) (λ e. absurd (ne (omega arith, e))) (told (idles (way m)));
       }
 

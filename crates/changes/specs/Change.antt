@@ -12,7 +12,7 @@ use Rattle.answers.specs.Stages.{andThen}
 use Rattle.records.specs.declared.Record.{Record}
 use Rattle.records.specs.declared.Way.{Way}
 use Rattle.records.specs.declared.Way.the-variants.{Idle, Add, Rekey}
-use Rattle.records.specs.Record.{recordBytes}
+use Rattle.records.specs.Record.{recordBytes, recordOf}
 use Rattle.records.specs.Rule.{rekeys, turned, atTop}
 use Rattle.records.specs.Listing.{Entry, padsTo}
 use Rattle.nodes.specs.Nodes.{nodeIn}
@@ -22,7 +22,6 @@ use Rattle.drive.specs.Drive.{shapeOf, keptOld}
 use Rattle.drive.specs.Head.{headOf}
 use Rattle.nuggets.specs.Tests.{pathFor, flakesOf}
 use Rattle.changes.specs.Laid.{laid}
-use Rattle.tree.specs.Path.{recordOf}
 
 -- the nugget stays as it is
 abbrev pub idles : Way → Bool
@@ -35,8 +34,8 @@ unfoldable pub nuggetChange : Drive → List ℕ → ℕ → Way → Answer
 nuggetChange d v n way =
     pick (idles way) A.Accepted
     (andThen (pathFor d v n)
-    (pick (atTop way (recordOf v n)) A.KeycountTop
-    (pick (rekeys way) (flakesOf d v n (recordOf v n .journal)) A.Accepted)))
+    (pick (atTop way (recordOf (shapeOf d) v n)) A.KeycountTop
+    (pick (rekeys way) (flakesOf d v n (recordOf (shapeOf d) v n .journal)) A.Accepted)))
 
 -- "*Nuggets*: ascending": those below n
 unfoldable pub testedTo : Drive → List ℕ → (ℕ → Way) → ℕ → Answer
@@ -45,16 +44,16 @@ testedTo d v way (suc n) = andThen (testedTo d v way n) (nuggetChange d v n (way
 
 -- "List every enciphering": those of all nuggets, under the present secret
 abbrev pub padsFor : Drive → List ℕ → (ℕ → Way) → List Entry
-padsFor d v way = padsTo (d .p) way (recordOf v) (d .present) (d .n)
+padsFor d v way = padsTo (d .p) way (recordOf (shapeOf d) v) (d .present) (d .n)
 
 -- a nugget's record afterwards
-unfoldable pub marked : ℕ → Way → Record → ℕ → List ℕ → List ℕ
-marked head way r n w = pick (idles way) w (sets w (recordAt n) (recordBytes (turned way head r)))
+unfoldable pub marked : Shape → ℕ → Way → Record → ℕ → List ℕ → List ℕ
+marked s head way r n w = pick (idles way) w (sets w (recordAt s n) (recordBytes s (turned way head r)))
 
 -- the records of the nuggets below n, made of those in v
-unfoldable pub markedTo : ℕ → (ℕ → Way) → List ℕ → ℕ → List ℕ → List ℕ
-markedTo head way v zero w = w
-markedTo head way v (suc n) w = marked head (way n) (recordOf v n) n (markedTo head way v n w)
+unfoldable pub markedTo : Shape → ℕ → (ℕ → Way) → List ℕ → ℕ → List ℕ → List ℕ
+markedTo s head way v zero w = w
+markedTo s head way v (suc n) w = marked s head (way n) (recordOf s v n) n (markedTo s head way v n w)
 
 -- "leaf and path of each nugget it changed"
 unfoldable pub tended : Shape → Way → ℕ → List ℕ → List ℕ
@@ -69,7 +68,7 @@ tendedTo s way (suc n) w = tended s (way n) n (tendedTo s way n w)
 unfoldable pub worked : Drive → List ℕ → (ℕ → Way) → (ℕ → ℕ → List ℕ) → List ℕ
 worked d v way new =
     tendedTo (shapeOf d) way (d .n)
-    (markedTo (d .epoch) way v (d .n)
+    (markedTo (shapeOf d) (d .epoch) way v (d .n)
     (laid (shapeOf d) (d .salt) new (padsFor d v way) v))
 
 -- "adds 1 to the counter": the drive over a volume whose tree is renewed

@@ -22,7 +22,7 @@ use Rattle.nuggets.specs.Nugget.{contentsOf}
 use Rattle.nuggets.specs.Tests.{pathFor, flakesOf}
 use Rattle.reports.specs.Counts.{movedIn}
 use Rattle.changes.specs.Change.{padsFor, worked, advanced, settled}
-use Rattle.tree.specs.Path.{recordOf}
+use Rattle.records.specs.Record.{recordOf}
 
 -- "Epoch: 1 to 65,535"
 abbrev pub epochTop : ℕ
@@ -68,9 +68,9 @@ sweepAnswer d v n =
     (pick (isChanging (d .state))
     (pick (ltb n (d .n))
     (andThen (pathFor d v n)
-    (pick (eqb (recordOf v n .epoch) (d .epoch)) A.Moved
+    (pick (eqb (recordOf (shapeOf d) v n .epoch) (d .epoch)) A.Moved
     (pick (eqb (d .counter) counterTop) A.CounterTop
-    (pick (atTop sweepWay (recordOf v n)) A.KeycountTop (flakesOf d v n (recordOf v n .journal))))))
+    (pick (atTop sweepWay (recordOf (shapeOf d) v n)) A.KeycountTop (flakesOf d v n (recordOf (shapeOf d) v n .journal))))))
     A.PastEnd)
     A.State)
 
@@ -98,7 +98,7 @@ sweepPads d v n = pick (accepts (sweepAnswer d v n)) (padsFor d v (sweepWays n))
 
 -- 11: "finish with nuggets left; carries how many"
 abbrev pub leftIn : Drive → List ℕ → ℕ
-leftIn d v = d .n - movedIn (d .epoch) v (d .n)
+leftIn d v = d .n - movedIn (shapeOf d) (d .epoch) v (d .n)
 
 -- "Finish: 9, 7 whole, 11, 13."
 unfoldable pub finishAnswer : Drive → List ℕ → Answer

@@ -20,11 +20,11 @@ use Rattle.nuggets.specs.Nugget.{contentsOf}
 use Rattle.nuggets.specs.Touched.{touchedOf, fitsIn}
 use Rattle.changes.specs.Laid.{written}
 use Rattle.changes.specs.Change.{testedTo, padsFor, worked, advanced, settled}
-use Rattle.tree.specs.Path.{recordOf}
+use Rattle.records.specs.Record.{recordOf}
 
 -- the way of each nugget under a write of len bytes from offset o on
 abbrev pub writeWay : Drive → List ℕ → ℕ → ℕ → ℕ → Way
-writeWay d v o len n = wayOf (recordOf v n) (touchedOf (shapeOf d) o len n) (d .epoch)
+writeWay d v o len n = wayOf (recordOf (shapeOf d) v n) (touchedOf (shapeOf d) o len n) (d .epoch)
 
 -- "All others start 1, 2, 7 head. [..] Write: 8, 13 unless empty, nuggets."
 unfoldable pub writeAnswer : Drive → List ℕ → ℕ → ℕ → Answer

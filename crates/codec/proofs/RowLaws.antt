@@ -8,7 +8,7 @@ use native.Mathlib.Omega.{arith}
 use lib.ListN.{length, take, drop, length-append}
 use lib.Seq.{sets, take-all, take-at, drop-at, take-take, drop-drop}
 use Rattle.base.specs.Lists.{part}
-use Rattle.base.proofs.PartLaws.{length-part, part-front, part-append, part-sets, sets-append, sets-full}
+use Rattle.base.proofs.PartLaws.{length-part, part-part, part-front, part-append, part-sets, sets-append, sets-full}
 use Rattle.words.specs.Le.{num, le, Bytes}
 use Rattle.words.proofs.LeLaws.{length-le, num-le, num-lt, le-num, bytes-part}
 use Rattle.codec.specs.Row.{Field, number, string, wide, Value, put, got, FieldLong, FieldFits, Values, AllLong, AllFit, width, row, from, rowIn, storing, RowStands}
@@ -85,6 +85,17 @@ fit-back [] at k v h room = tt
 fit-back (f ∷ fs) at k v h room =
     (got-fits f v (from at k) h (rw (from-is at k) (omega arith)), fit-back fs at (k + wide f) v h (omega arith))
 
+-- the bytes of a row decide what is read
+told : (fs : List Field) (at k : ℕ) (v w : List ℕ) → part (at + k) (width fs) v ≡ part (at + k) (width fs) w → rowIn fs at k v ≡ rowIn fs at k w
+told [] at k v w e = refl
+told (f ∷ fs) at k v w e =
+    let piece : (a n b : ℕ) → a + n ≤ wide f + width fs → at + k + a ≡ b → part b n v ≡ part b n w =
+    λ a n b h q. rw (← q)
+    (sym (part-part a n (at + k) (wide f + width fs) v h) ∙ ap (λ (l : List ℕ). part a n l) e ∙ part-part a n (at + k) (wide f + width fs) w h) in
+    let first = ap (λ (l : List ℕ). got f l) (piece 0 (wide f) (from at k) (omega arith) (rw (from-is at k) (omega arith))) in
+    let rest = told fs at (k + wide f) v w (piece (wide f) (width fs) (at + (k + wide f)) (omega arith) (omega arith)) in
+    λ i. (first i, rest i)
+
 -- fields stored one by one are the row stored
 stored : (fs : List Field) (at k : ℕ) (vs : Values fs) (v : List ℕ) → AllLong fs vs → storing fs at k vs v ≡ sets v (from at k) (row fs vs)
 stored [] at k vs v h = refl
@@ -112,6 +123,9 @@ module _ (fs : List Field) (at : ℕ) where
 
   pub row-fits : (v : List ℕ) → Bytes v → at + width fs ≤ length v → AllFit fs (rowIn fs at 0 v)
   row-fits v h room = fit-back fs at 0 v h (omega arith)
+
+  pub row-told : (v w : List ℕ) → part at (width fs) v ≡ part at (width fs) w → rowIn fs at 0 v ≡ rowIn fs at 0 w
+  row-told v w e = told fs at 0 v w (whole v ∙ e ∙ sym (whole w))
 
   pub row-stored : (v : List ℕ) (vs : Values fs) → AllLong fs vs → storing fs at 0 vs v ≡ sets v at (row fs vs)
   row-stored v vs h = stored fs at 0 vs v h

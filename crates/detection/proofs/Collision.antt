@@ -6,6 +6,7 @@ use mathlib.Core.List.{List}
 use Prim.Native.Nat.{ℕ, _+_, _*_, _<_, _≤_}
 use native.Mathlib.Omega.{arith}
 use lib.ListN.{length, getD}
+use Rattle.records.proofs.RecordLaws.{record-told}
 use Rattle.base.specs.Lists.{part, tab}
 use Rattle.base.proofs.PickLaws.{yes, told}
 use Rattle.base.proofs.PartLaws.{part-part}
@@ -18,14 +19,13 @@ use Rattle.answers.specs.declared.Answer.the-variants as A
 use Rattle.answers.specs.Numbers.{accepts}
 use Rattle.records.specs.Journal.{bit}
 use Rattle.nodes.specs.Alike.{Alike}
-use Rattle.tree.specs.Path.{recordOf}
+use Rattle.records.specs.Record.{recordOf}
 use Rattle.drive.specs.declared.Drive.{Drive}
 use Rattle.drive.specs.Drive.{shapeOf}
 use Rattle.drive.proofs.OpeningLaws.{opening-lent}
 use Rattle.nuggets.specs.Nugget.{keyFor, storedIn, contentsIn, byteOf}
 use Rattle.reading.specs.Read.{readAnswer, readBuffer}
 use Rattle.reading.proofs.TestedLaws.{read-tests}
-use Rattle.changes.proofs.PadsLaws.{record-told}
 use Rattle.detection.specs.Right.{Present}
 use Rattle.detection.specs.Collision.{Collision, Forgery, OneDriveOneTree, OneDriveOneTag, OneDriveOneRead}
 use Rattle.detection.proofs.RightLaws.{head-right}
@@ -49,8 +49,8 @@ one-drive-one-tree d v w o len a ev ew h k =
 
 -- with the same record bytes the record is the same, and so is the key
 module _ (d : Drive) (v w : List ℕ) (n : ℕ) (x : Alike (shapeOf d) v w n) where
-  one-record : recordOf v n ≡ recordOf w n
-  one-record = record-told (recordAt n) v w (x .records)
+  one-record : recordOf (shapeOf d) v n ≡ recordOf (shapeOf d) w n
+  one-record = record-told (shapeOf d) (recordAt (shapeOf d) n) v w (x .records)
 
   one-key : keyFor d v n ≡ keyFor d w n
   unfolding keyFor
@@ -70,7 +70,7 @@ one-drive-one-tag d v w o len a ev ew h k x p =
     let n = spotAt s a .nugget in
     let f = spotAt s a .flake in
     let r = one-record d v w n x in
-    let there : Present w n f = rw r at p in
+    let there : Present d w n f = rw r at p in
     sym (read-detected d v o len a ev h k .1 p)
     ∙ one-tag d v w n x f (spot-read d v o len a ev h k .flake-is)
     ∙ read-detected d w o len a ew h k .1 there
@@ -86,7 +86,7 @@ read-byte d v o buffer i h e =
 
 -- the same contents: of an absent flake whatever is stored, of a present one if the same is stored
 module _ (d : Drive) (v w : List ℕ) (a : ℕ) (x : Alike (shapeOf d) v w (spotAt (shapeOf d) a .nugget)) where
-  absent-byte : bit (recordOf v (spotAt (shapeOf d) a .nugget) .journal) (spotAt (shapeOf d) a .flake) ≡ false → byteOf d v a ≡ byteOf d w a
+  absent-byte : bit (recordOf (shapeOf d) v (spotAt (shapeOf d) a .nugget) .journal) (spotAt (shapeOf d) a .flake) ≡ false → byteOf d v a ≡ byteOf d w a
   unfolding byteOf contentsIn
   absent-byte off =
       let off′ = rw (one-record d v w (spotAt (shapeOf d) a .nugget) x) at off in
@@ -105,13 +105,13 @@ module _ (d : Drive) (v w : List ℕ) (o len a : ℕ) (ev : readAnswer d v o len
       let at = spotAt s a in
       (byteOf d v a ≡ byteOf d w a) ⊎ (Collision s v w (at .nugget) ⊎ Forgery d v w (at .nugget) (at .flake))
 
-  by-stored : (let s = shapeOf d in let at = spotAt s a in Alike s v w (at .nugget) → Present v (at .nugget) (at .flake)
+  by-stored : (let s = shapeOf d in let at = spotAt s a in Alike s v w (at .nugget) → Present d v (at .nugget) (at .flake)
       → (storedIn s v (at .nugget) (at .flake) ≡ storedIn s w (at .nugget) (at .flake)) ⊎ (storedIn s v (at .nugget) (at .flake) ≡ storedIn s w (at .nugget) (at .flake) → ⊥) → Told)
   by-stored x p (inl e) = inl (stored-byte d v w a x e)
   by-stored x p (inr differ) = inr (inr (record { differ = differ; alike = one-drive-one-tag d v w o len a ev ew h k x p }))
 
   by-bit : (let s = shapeOf d in let at = spotAt s a in Alike s v w (at .nugget)
-      → (bit (recordOf v (at .nugget) .journal) (at .flake) ≡ true) ⊎ (bit (recordOf v (at .nugget) .journal) (at .flake) ≡ false) → Told)
+      → (bit (recordOf (shapeOf d) v (at .nugget) .journal) (at .flake) ≡ true) ⊎ (bit (recordOf (shapeOf d) v (at .nugget) .journal) (at .flake) ≡ false) → Told)
   by-bit x (inl p) = by-stored x p (decided _ _)
   by-bit x (inr off) = inl (absent-byte d v w a x off)
 

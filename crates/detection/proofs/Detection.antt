@@ -21,7 +21,7 @@ use Rattle.answers.specs.Numbers.{accepts}
 use Rattle.answers.specs.Stages.{andThen}
 use Rattle.answers.proofs.StageLaws.{both-stages, accepted-is}
 use Rattle.records.proofs.BitLaws.{bit-and}
-use Rattle.tree.specs.Path.{recordOf}
+use Rattle.records.specs.Record.{recordOf}
 use Rattle.tree.specs.Whole.{wholeOf}
 use Rattle.drive.specs.declared.Drive.{Drive}
 use Rattle.drive.specs.Drive.{shapeOf, isChanging}
@@ -70,8 +70,8 @@ read-detected d v o len a e h k =
     let x = spot-within s o len a lim h k (t .fits) in (
       path-good d v (at .nugget) lent (x .nugget-is) (t .path),
       λ p.
-          tag-right d v (at .nugget) (bitAnd (recordOf v (at .nugget) .journal) (touchedOf s o len (at .nugget))) (at .flake) (t .flakes) (x .flake-is)
-          (bit-and (recordOf v (at .nugget) .journal) (touchedOf s o len (at .nugget)) (at .flake) ∙ both-on p (touched-bit s o len a lim h k x)),
+          tag-right d v (at .nugget) (bitAnd (recordOf (shapeOf d) v (at .nugget) .journal) (touchedOf s o len (at .nugget))) (at .flake) (t .flakes) (x .flake-is)
+          (bit-and (recordOf (shapeOf d) v (at .nugget) .journal) (touchedOf s o len (at .nugget)) (at .flake) ∙ both-on p (touched-bit s o len a lim h k x)),
     )
 
 -- the tests of the nugget of a written byte
@@ -89,18 +89,18 @@ module _ (d : Drive) (v : List ℕ) (o len a : ℕ) (e : writeAnswer d v o len �
   tested =
       let n = spotAt (shapeOf d) a .nugget in
       told .tests n (spot .nugget-is)
-      (idles-way (recordOf v n) (touchedOf (shapeOf d) o len n) (d .epoch)
+      (idles-way (recordOf (shapeOf d) v n) (touchedOf (shapeOf d) o len n) (d .epoch)
       ∙ touched-some (touchedOf (shapeOf d) o len n) (spotAt (shapeOf d) a .flake) (touched-bit (shapeOf d) o len a lim h k spot))
 
   written-path : PathGood d v (spotAt (shapeOf d) a .nugget)
   written-path = path-good d v (spotAt (shapeOf d) a .nugget) (told .lent) (spot .nugget-is) (tested .path)
 
-  rekeyed-tags : Present v (spotAt (shapeOf d) a .nugget) (spotAt (shapeOf d) a .flake) ⊎ (recordOf v (spotAt (shapeOf d) a .nugget) .epoch ≡ d .epoch → ⊥)
+  rekeyed-tags : Present d v (spotAt (shapeOf d) a .nugget) (spotAt (shapeOf d) a .flake) ⊎ (recordOf (shapeOf d) v (spotAt (shapeOf d) a .nugget) .epoch ≡ d .epoch → ⊥)
       → TagsRight d v (spotAt (shapeOf d) a .nugget)
   rekeyed-tags why f l p =
       let n = spotAt (shapeOf d) a .nugget in
       let on = touched-bit (shapeOf d) o len a lim h k spot in
-      tag-right d v n (recordOf v n .journal) f (tested .flakes (way-rekeys (recordOf v n) (touchedOf (shapeOf d) o len n) (d .epoch) (spotAt (shapeOf d) a .flake) on why)) l p
+      tag-right d v n (recordOf (shapeOf d) v n .journal) f (tested .flakes (way-rekeys (recordOf (shapeOf d) v n) (touchedOf (shapeOf d) o len n) (d .epoch) (spotAt (shapeOf d) a .flake) on why)) l p
 
 pub write-detected : WriteDetected
 write-detected d v o len a e h k = written-path d v o len a e h k
@@ -111,7 +111,7 @@ rekey-detected d v o len a e h k why = rekeyed-tags d v o len a e h k why
 pub sweep-detected : SweepDetected
 sweep-detected d v n e =
     let m = sweep-told d v n (ap accepts e) in
-    (m .inside, path-good d v n (m .lent) (m .inside) (m .path), λ f l p. tag-right d v n (recordOf v n .journal) f (m .flakes) l p)
+    (m .inside, path-good d v n (m .lent) (m .inside) (m .path), λ f l p. tag-right d v n (recordOf (shapeOf d) v n .journal) f (m .flakes) l p)
 
 pub finish-detected : FinishDetected
 finish-detected d v e = let t = finish-told d v (ap accepts e) in whole-right d v (t .whole) (t .lent)

@@ -17,7 +17,7 @@ use Rattle.base.proofs.FoldLaws.{same-true, same-refl}
 use Rattle.base.proofs.PartLaws.{length-part}
 use Rattle.words.specs.Le.{le}
 use Rattle.layout.specs.declared.Shape.{Shape}
-use Rattle.layout.specs.Shape.{heightOf, leaves}
+use Rattle.layout.specs.Shape.{heightOf, leaves, widthOf}
 use Rattle.layout.specs.Parts.{recordAt, nodeAt}
 use Rattle.layout.specs.Lent.{Lent}
 use Rattle.layout.proofs.Limits.{Small, lent-small}
@@ -47,8 +47,8 @@ pieces n a b c d la lc e = (
 node-long : (s : Shape) (v : List ℕ) (i : ℕ) → Lent s v → 1 ≤ i → i < 2 * leaves (s .n) → length (nodeIn s v i) ≡ 32
 node-long s v i l a b = length-part (nodeAt s i) 32 v (omega (arith, node-inside s i a b .1, parts-inside s .2, l .size))
 
-record-long : (s : Shape) (v : List ℕ) (n : ℕ) → Lent s v → n < s .n → length (recordPart v n) ≡ 18
-record-long s v n l h = length-part (recordAt n) 18 v (omega (arith, record-inside s n h, parts-inside s .0, parts-inside s .1, parts-inside s .2, l .size))
+record-long : (s : Shape) (v : List ℕ) (n : ℕ) → Lent s v → n < s .n → length (recordPart s v n) ≡ widthOf s
+record-long s v n l h = length-part (recordAt s n) (widthOf s) v (omega (arith, record-inside s n h, parts-inside s .0, parts-inside s .1, parts-inside s .2, l .size))
 
 -- where the steps lead
 module _ (s : Shape) (n : ℕ) (q : Small s) (h : n < s .n) where
@@ -78,8 +78,8 @@ module _ (d : Drive) (v w : List ℕ) (n : ℕ) (lv : Lent (shapeOf d) v) (lw : 
       go : (messageAt (shapeOf d) v n 0 ≡ messageAt (shapeOf d) w n 0) ⊎ (messageAt (shapeOf d) v n 0 ≡ messageAt (shapeOf d) w n 0 → ⊥) → Alike (shapeOf d) v w n ⊎ Collision (shapeOf d) v w n
       go (inl m) =
           let front : List ℕ = 0x4C ∷ le 4 n in
-          let rest = pieces (length front) front (recordPart v n ++ tagsPart s v n) front (recordPart w n ++ tagsPart s w n) refl refl m .1 in
-          let two = pieces 18 (recordPart v n) (tagsPart s v n) (recordPart w n) (tagsPart s w n) (record-long s v n lv h) (record-long s w n lw h) rest in
+          let rest = pieces (length front) front (recordPart s v n ++ tagsPart s v n) front (recordPart s w n ++ tagsPart s w n) refl refl m .1 in
+          let two = pieces (widthOf s) (recordPart s v n) (tagsPart s v n) (recordPart s w n) (tagsPart s w n) (record-long s v n lv h) (record-long s w n lw h) rest in
           inl (record { records = two .0; tags = two .1 })
       go (inr differ) = inr (record { steps = 0; inTree = omega arith; differ = differ; alike = sym (pv .leaf) ∙ e ∙ pw .leaf })
 

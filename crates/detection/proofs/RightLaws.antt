@@ -21,12 +21,11 @@ use Rattle.answers.specs.declared.Place.the-variants as P
 use Rattle.answers.proofs.StageLaws.{granted}
 use Rattle.records.specs.declared.Record.{Record}
 use Rattle.records.specs.Journal.{bit}
-use Rattle.records.specs.Record.{wellFormed}
+use Rattle.records.specs.Record.{wellFormed, recordOf}
 use Rattle.records.proofs.BitLaws.{none-above}
 use Rattle.records.proofs.RuleLaws.{formed-journal, formed-epoch}
 use Rattle.nodes.proofs.MadeLaws.{made-leaf, made-inner, made-bottom, bottom-zero}
 use Rattle.tree.specs.Good.{upward}
-use Rattle.tree.specs.Path.{recordOf}
 use Rattle.tree.specs.Whole.{wholeOf}
 use Rattle.tree.proofs.PathLaws.{path-belongs}
 use Rattle.tree.proofs.WholeLaws.{whole-formed, whole-good}
@@ -74,7 +73,7 @@ module _ (d : Drive) (v : List ℕ) where
       let s = shapeOf d in
       let b = path-belongs s (d .epoch) (isChanging (d .state)) v n l h e in
       record {
-        formed = formed-right d (recordOf v n) (b .well-formed);
+        formed = formed-right d (recordOf (shapeOf d) v n) (b .well-formed);
         leaf = b .leaf;
         above = λ k p q. b .above (stepsUp s n k) (on k p q);
       }
@@ -89,7 +88,7 @@ module _ (d : Drive) (v : List ℕ) where
       let small = lent-small l in
       let good = whole-good s (d .epoch) (isChanging (d .state)) v e in
       record {
-        formed = λ n h. formed-right d (recordOf v n) (whole-formed s (d .epoch) (isChanging (d .state)) v e n h);
+        formed = λ n h. formed-right d (recordOf (shapeOf d) v n) (whole-formed s (d .epoch) (isChanging (d .state)) v e n h);
         leaf = λ n h. good (leaves (d .n) + n) (omega (arith, small .some-leaves)) (omega (arith, h, small .enough-leaves)) ∙ made-leaf s v n h;
         spare = λ i a b. good i (omega (arith, a, small .some-leaves)) b ∙ made-bottom s v i (omega (arith, a)) ∙ bottom-zero s v i a;
         inner = λ i a b. good i a (omega (arith, b)) ∙ made-inner s v i b;

@@ -20,7 +20,7 @@ use Rattle.detection.specs.Right.{Present, stepsUp, tagFor}
 
 -- what is hashed for the node k steps above the leaf of nugget n
 unfoldable pub messageAt : Shape → List ℕ → ℕ → ℕ → List ℕ
-messageAt s v n zero = leafMessage n (recordPart v n) (tagsPart s v n)
+messageAt s v n zero = leafMessage n (recordPart s v n) (tagsPart s v n)
 messageAt s v n (suc k) = let i = stepsUp s n (suc k) in innerMessage (nodeIn s v (2 * i)) (nodeIn s v (2 * i + 1))
 
 -- at one node of the path of nugget n the two volumes have two different messages with the same BLAKE2s value
@@ -44,7 +44,7 @@ OneDriveOneTag =
     → let s = shapeOf d in
     let at = spotAt s a in
     let tagged = tagFor d v (at .nugget) (at .flake) in
-    Alike s v w (at .nugget) → Present v (at .nugget) (at .flake)
+    Alike s v w (at .nugget) → Present d v (at .nugget) (at .flake)
     → tagged (storedIn s v (at .nugget) (at .flake)) ≡ tagged (storedIn s w (at .nugget) (at .flake))
 
 -- two different stored flakes with the same Poly1305 tag under the same key

@@ -11,7 +11,7 @@ use Rattle.answers.specs.declared.Answer.{Answer}
 use Rattle.answers.specs.declared.Answer.the-variants as A
 use Rattle.keys.specs.Keys.{checkOf, sealOf}
 use Rattle.nodes.specs.Nodes.{nodeIn}
-use Rattle.tree.specs.Path.{recordOf}
+use Rattle.records.specs.Record.{recordOf}
 use Rattle.drive.specs.declared.Drive.{Drive}
 use Rattle.drive.specs.Drive.{shapeOf, zeros}
 use Rattle.reading.specs.Read.{readAnswer}
@@ -40,7 +40,7 @@ abbrev pub ReadDetected : Type 0
 ReadDetected =
     (d : Drive) (v : List ℕ) (o len a : ℕ) → readAnswer d v o len ≡ A.Accepted → o ≤ a → a < o + len
     → let at = spotAt (shapeOf d) a in
-    PathGood d v (at .nugget) × (Present v (at .nugget) (at .flake) → TagRight d v (at .nugget) (at .flake))
+    PathGood d v (at .nugget) × (Present d v (at .nugget) (at .flake) → TagRight d v (at .nugget) (at .flake))
 
 -- An accepted write: of each byte that it lays down, the nugget's path is good
 abbrev pub WriteDetected : Type 0
@@ -53,7 +53,7 @@ abbrev pub RekeyDetected : Type 0
 RekeyDetected =
     (d : Drive) (v : List ℕ) (o len a : ℕ) → writeAnswer d v o len ≡ A.Accepted → o ≤ a → a < o + len
     → let at = spotAt (shapeOf d) a in
-    Present v (at .nugget) (at .flake) ⊎ (recordOf v (at .nugget) .epoch ≡ d .epoch → ⊥)
+    Present d v (at .nugget) (at .flake) ⊎ (recordOf (shapeOf d) v (at .nugget) .epoch ≡ d .epoch → ⊥)
     → TagsRight d v (at .nugget)
 
 -- "Sweep: 9, 8, 7 path, 12, 13, 14, 7 flakes."

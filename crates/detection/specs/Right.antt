@@ -13,7 +13,7 @@ use Rattle.records.specs.declared.Record.{Record}
 use Rattle.records.specs.Journal.{bit}
 use Rattle.keys.specs.Tags.{tagOf}
 use Rattle.nodes.specs.Nodes.{nodeIn, leafOf, innerOf, zeroLeaf}
-use Rattle.tree.specs.Path.{recordOf}
+use Rattle.records.specs.Record.{recordOf}
 use Rattle.drive.specs.declared.Drive.{Drive}
 use Rattle.drive.specs.Drive.{shapeOf, isChanging}
 use Rattle.drive.specs.Head.{headOf}
@@ -44,28 +44,28 @@ stepsUp s n k = (leaves (s .n) + n) / 2 ^ k
 
 -- *Path*: the record of nugget n, its leaf, and each node above it up to node 1
 pub record PathGood (d : Drive) (v : List ℕ) (n : ℕ) : Type 0 where
-  pub formed : Formed d (recordOf v n)
+  pub formed : Formed d (recordOf (shapeOf d) v n)
   pub leaf : LeafRight d v n
   pub above : (k : ℕ) → 1 ≤ k → k ≤ heightOf (d .n) → InnerRight d v (stepsUp (shapeOf d) n k)
 
 -- "Bit f of a journal (lowest first) says that flake f is present."
-abbrev pub Present : List ℕ → ℕ → ℕ → Type 0
-Present v n f = bit (recordOf v n .journal) f ≡ true
+abbrev pub Present : Drive → List ℕ → ℕ → ℕ → Type 0
+Present d v n f = bit (recordOf (shapeOf d) v n .journal) f ≡ true
 
 -- "Tag = Poly1305 under the tag key over the stored flake.": the tag of these bytes as flake f of nugget n
 abbrev pub tagFor : Drive → List ℕ → ℕ → ℕ → List ℕ → List ℕ
-tagFor d v n f stored = tagOf (keyFor d v n) (recordOf v n .keycount) f stored
+tagFor d v n f stored = tagOf (keyFor d v n) (recordOf (shapeOf d) v n .keycount) f stored
 
 abbrev pub TagRight : Drive → List ℕ → ℕ → ℕ → Type 0
 TagRight d v n f = part (tagAt (shapeOf d) n f) 16 v ≡ tagFor d v n f (storedIn (shapeOf d) v n f)
 
 -- "all of J": the tag of each present flake of nugget n
 abbrev pub TagsRight : Drive → List ℕ → ℕ → Type 0
-TagsRight d v n = (f : ℕ) → f < d .p → Present v n f → TagRight d v n f
+TagsRight d v n = (f : ℕ) → f < d .p → Present d v n f → TagRight d v n f
 
 -- *Whole*: all records and all nodes
 pub record WholeGood (d : Drive) (v : List ℕ) : Type 0 where
-  pub formed : (n : ℕ) → n < d .n → Formed d (recordOf v n)
+  pub formed : (n : ℕ) → n < d .n → Formed d (recordOf (shapeOf d) v n)
   pub leaf : (n : ℕ) → n < d .n → LeafRight d v n
   pub spare : (i : ℕ) → leaves (d .n) + d .n ≤ i → i < 2 * leaves (d .n) → nodeIn (shapeOf d) v i ≡ zeroLeaf
   pub inner : (i : ℕ) → 1 ≤ i → i < leaves (d .n) → InnerRight d v i

@@ -7,7 +7,7 @@ use borrow.Author.Tests.{eqb-true}
 use lib.Dec.{eqb}
 use lib.ListN.{length}
 use Rattle.base.proofs.PickLaws.{no}
-use Rattle.layout.specs.Shape.{inLimits}
+use Rattle.layout.specs.Shape.{sized, inLimits}
 use Rattle.layout.specs.Parts.{lengthOf}
 use Rattle.answers.specs.declared.Answer.the-variants as A
 use Rattle.answers.specs.Numbers.{accepts}
@@ -40,7 +40,7 @@ opening-lent d v e =
 
 -- "every later call on it gives 1": the blank drive is out of limits, and each call starts with that test
 pub blank-form : inForm blankDrive ≡ false
-unfolding inForm inLimits blankDrive
+unfolding inForm inLimits sized blankDrive
 blank-form = refl
 
 pub blank-limits : (v : List ℕ) → openingOf blankDrive v ≡ A.Limits

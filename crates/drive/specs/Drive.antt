@@ -9,6 +9,7 @@ use Rattle.drive.specs.declared.Drive.{Drive}
 use Rattle.drive.specs.declared.State.{State}
 use Rattle.drive.specs.declared.State.the-variants.{Steady, Changing}
 
+-- the drive's shape: version 1 under ChaCha20
 abbrev pub shapeOf : Drive → Shape
 shapeOf d = shape (d .n) (d .p) (d .f)
 

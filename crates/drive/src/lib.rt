@@ -63,6 +63,8 @@ pub fn shape_of(d: Drive) -> Shape
         n: d.n,
         p: d.p,
         f: d.f,
+        version: 1,
+        cipher: 0,
     }
 }
 

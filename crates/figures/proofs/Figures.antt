@@ -5,7 +5,7 @@ use Prim.Native.Nat.{ℕ, _+_}
 use native.Mathlib.Omega.{arith}
 use lib.ListN.{length}
 use Rattle.answers.specs.declared.Answer.the-variants as A
-use Rattle.layout.specs.Shape.{inLimits, heightOf, heightFrom}
+use Rattle.layout.specs.Shape.{sized, known, widthOf, inLimits, heightOf, heightFrom}
 use Rattle.layout.specs.declared.Shape.{Shape}
 use Rattle.layout.specs.Parts.{lengthOf}
 use Rattle.line.specs.Decimal.{digits, widthIn, decimal}
@@ -13,6 +13,7 @@ use Rattle.line.specs.Lines.{shareText}
 use Rattle.records.specs.declared.Record.{Record}
 use Rattle.records.specs.Journal.{bit, shareNone, flakesWith, many, present}
 use Rattle.records.specs.Rule.{wayOf, enciphered, keycountAfter, journalAfter}
+use Rattle.drive.specs.Drive.{shapeOf}
 use Rattle.drive.specs.Drive.{zeros}
 use Rattle.nuggets.specs.Touched.{meets, touchedOf}
 use Rattle.opening.specs.Format.{formatAnswer}
@@ -26,7 +27,7 @@ use Rattle.figures.proofs.Writes.{Holds, starts-so, holds-on, one-prese
 -- what the table shows of a drive of that shape
 shows : {w : World} {k j listed retired counter : ℕ} → Holds w k j listed retired counter → countsOf w ≡ listed ∷ present 2 j ∷ retired ∷ []
 shows {w} h =
-    rw (h .entries, h .gone, one-present (w .drive .n) (w .drive .p) (ap (λ (s : Shape). s .n) (h .shaped)) (ap (λ (s : Shape). s .p) (h .shaped)) (w .vol) (h .nugget))
+    rw (h .entries, h .gone, one-present (w .drive .n) (w .drive .p) (ap (λ (s : Shape). s .n) (h .shaped)) (ap (λ (s : Shape). s .p) (h .shaped)) (shapeOf (w .drive)) (w .vol) (h .nugget))
     refl
 
 -- "write 64 bytes at 0": none present, so flake 0 under keycount 0; "64 at 64": flake 1 under keycount 0; "1 at 0": both flakes under keycount 1
@@ -45,7 +46,7 @@ after-eleven x a fresh la = holds-on (begun x) (starts-so x (fresh .shaped)) 60 
 
 -- there are such drives
 format-accepts : formatAnswer small 0 (zeros (lengthOf small)) ≡ A.Accepted
-unfolding formatAnswer inLimits heightOf heightFrom
+unfolding formatAnswer inLimits sized known widthOf heightOf heightFrom
 format-accepts = refl
 
 pub some : (x : Start) × Fresh 3 x
@@ -64,7 +65,7 @@ some = (
 )
 
 pub figures : Figures
-unfolding heightOf heightFrom exactOf shareOf shareText decimal digits widthIn run many bit
+unfolding widthOf heightOf heightFrom exactOf shareOf shareText decimal digits widthIn run many bit
 figures =
     record {
       one = refl;

@@ -15,7 +15,7 @@ use Rattle.records.specs.Listing.{padsTo}
 use Rattle.records.proofs.ListingLaws.{length-padsBy}
 use Rattle.drive.specs.declared.Drive.{Drive}
 use Rattle.drive.specs.Drive.{shapeOf, counterTop}
-use Rattle.tree.specs.Path.{recordOf}
+use Rattle.records.specs.Record.{recordOf}
 use Rattle.nuggets.specs.Touched.{touchedOf}
 use Rattle.reports.specs.Counts.{flakesIn}
 use Rattle.opening.specs.Format.{freshDrive}
@@ -40,7 +40,7 @@ pub record Holds (w : World) (k j listed retired counter : ℕ) : Type 0 where
   pub shaped : shapeOf (w .drive) ≡ small
   pub epoch : w .drive .epoch ≡ 1
   pub counts : w .drive .counter ≡ counter
-  pub nugget : recordOf (w .vol) 0 ≡ first k j
+  pub nugget : recordOf (shapeOf (w .drive)) (w .vol) 0 ≡ first k j
   pub entries : length (w .listing) ≡ listed
   pub gone : w .retired ≡ retired
 
@@ -50,7 +50,7 @@ starts-so x e =
     let d = begun-drive x in
     record {
       sound = start-sound x;
-      shaped = ap shapeOf d ∙ e;
+      shaped = ap shapeOf d ∙ ap (λ (s : Shape). shapeOf (freshDrive s (x .salt) (x .secret) (x .outside))) e;
       epoch = ap (λ (d : Drive). d .epoch) d;
       counts = ap (λ (d : Drive). d .counter) d;
       nugget = begun-record x 0 (rw e (omega arith));
@@ -76,9 +76,9 @@ module _ (n p : ℕ) (one : n ≡ 1) (two : p ≡ 2) where
   unfolding sum
   one-gone before after e q = rw (one, two, e, q) (zero-add _)
 
-  pub one-present : (v : List ℕ) {r : Record} → recordOf v 0 ≡ r → flakesIn p v n ≡ present 2 (r .journal)
+  pub one-present : (s : Shape) (v : List ℕ) {r : Record} → recordOf s v 0 ≡ r → flakesIn s p v n ≡ present 2 (r .journal)
   unfolding flakesIn
-  one-present v e = rw (one, two, e) (zero-add _)
+  one-present s v e = rw (one, two, e) (zero-add _)
 
 -- the way of the nugget under a write of len bytes from offset o on
 abbrev pub wayAt : ℕ → ℕ → ℕ → ℕ → Way
@@ -119,7 +119,7 @@ module _ (w : World) {k j listed retired counter : ℕ} (h : Holds w k j listed 
   drive-is : u .drive ≡ writtenDrive (w .drive) (w .vol) o bytes
   drive-is = written-drive w (h .sound) low-now o bytes fits-now some-now
 
-  nugget-is : recordOf (u .vol) 0 ≡ turned way 1 r
+  nugget-is : recordOf (shapeOf (u .drive)) (u .vol) 0 ≡ turned way 1 r
   nugget-is = written-record w (h .sound) low-now o bytes fits-now some-now 0 (rw n-is (omega arith)) ∙ rw (way-is, h .nugget, h .epoch) refl
 
   entries-are : length (u .listing) ≡ listed + present 2 (enciphered way r)
@@ -127,11 +127,11 @@ module _ (w : World) {k j listed retired counter : ℕ} (h : Holds w k j listed 
       ap length (written-listing w (h .sound) low-now o bytes fits-now some-now)
       ∙ length-append (w .listing) _
       ∙ ap₂ (λ (a b : ℕ). a + b) (h .entries)
-      (one-listed (w .drive .n) (w .drive .p) n-is p-is (writeWay (w .drive) (w .vol) o (length bytes)) (recordOf (w .vol)) (w .drive .present) way-is (h .nugget))
+      (one-listed (w .drive .n) (w .drive .p) n-is p-is (writeWay (w .drive) (w .vol) o (length bytes)) (recordOf (shapeOf (w .drive)) (w .vol)) (w .drive .present) way-is (h .nugget))
 
   gone-are : u .retired ≡ retired + retiredOf 2 r (turned way 1 r)
   unfolding step left
-  gone-are = ap₂ (λ (a b : ℕ). a + b) (h .gone) (one-gone (w .drive .n) (w .drive .p) n-is p-is (recordOf (w .vol)) (recordOf (u .vol)) (h .nugget) nugget-is)
+  gone-are = ap₂ (λ (a b : ℕ). a + b) (h .gone) (one-gone (w .drive .n) (w .drive .p) n-is p-is (recordOf (shapeOf (w .drive)) (w .vol)) (recordOf (shapeOf (u .drive)) (u .vol)) (h .nugget) nugget-is)
 
   pub holds-on : Holds (step w (write o bytes)) (keycountAfter (wayAt k j o len) (first k j)) (journalAfter (wayAt k j o len) (first k j))
       (listed + present 2 (enciphered (wayAt k j o len) (first k j))) (retired + retiredOf 2 (first k j) (turned (wayAt k j o len) 1 (first k j))) (counter + 1)

@@ -9,8 +9,8 @@ use Rattle.layout.specs.Parts.{recordsAt, tagsAt, treeAt, flakesAt, lengthOf}
 use Rattle.layout.specs.Spots.{spotAt}
 use Rattle.layout.specs.declared.Shape.{Shape}
 use Rattle.line.specs.Lines.{shareText}
-use Rattle.drive.specs.Drive.{counterTop}
-use Rattle.tree.specs.Path.{recordOf}
+use Rattle.drive.specs.Drive.{shapeOf, counterTop}
+use Rattle.records.specs.Record.{recordOf}
 use Rattle.reports.specs.declared.told.Counts.{Counts}
 use Rattle.reports.specs.Counts.{flakesIn, shareOf}
 use Rattle.history.specs.World.{World, write}
@@ -34,14 +34,14 @@ pub record Fresh (changes : ℕ) (x : Start) : Type 0 where
 
 -- keycount and journal of nugget 0
 abbrev pub keycountIn : World → ℕ
-keycountIn w = recordOf (w .vol) 0 .keycount
+keycountIn w = recordOf (shapeOf (w .drive)) (w .vol) 0 .keycount
 
 abbrev pub journalIn : World → ℕ
-journalIn w = recordOf (w .vol) 0 .journal
+journalIn w = recordOf (shapeOf (w .drive)) (w .vol) 0 .journal
 
 -- pads listed, flakes present, flakes retired
 abbrev pub countsOf : World → List ℕ
-countsOf w = length (w .listing) ∷ flakesIn (w .drive .p) (w .vol) (w .drive .n) ∷ w .retired ∷ []
+countsOf w = length (w .listing) ∷ flakesIn (shapeOf (w .drive)) (w .drive .p) (w .vol) (w .drive .n) ∷ w .retired ∷ []
 
 pub record Figures : Type 0 where
   -- "N 3, P 2, F 64: length 862; records 104, tags 158, tree 254, flakes 478."

@@ -16,7 +16,7 @@ use Rattle.layout.proofs.Limits.{limits}
 use Rattle.records.specs.declared.Record.{Record}
 use Rattle.records.specs.declared.Way.{Way}
 use Rattle.records.specs.Journal.{bit}
-use Rattle.records.specs.Record.{Widths}
+use Rattle.records.specs.Record.{Widths, recordOf}
 use Rattle.records.specs.Rule.{touchedBy, keycountAfter, journalAfter, epochAfter, turned, atTop}
 use Rattle.records.proofs.RuleLaws.{well-formed-after, widths-after}
 use Rattle.keys.specs.Keys.{nuggetKey}
@@ -38,11 +38,10 @@ use Rattle.ledger.proofs.TurnLaws.{Adds, Rekeyed, turn-told, touched-lt}
 use Rattle.history.proofs.Quiet.{Untouched, untouched-lent}
 use Rattle.history.proofs.Heads.{settled-opens, tag-kept}
 use Rattle.drive.proofs.OpeningLaws.{opening-told}
-use Rattle.tree.specs.Path.{recordOf}
 
 -- a flake laid under its nugget's key and keycount has the right tag
 tag-laid : (e : Drive) (z : List ℕ) (n f : ℕ) (key : List ℕ) (k : ℕ) (c : List ℕ) → Under (shapeOf e) n f key k c z → keyFor e z n ≡ key
-    → recordOf z n .keycount ≡ k → flakeGood e z n f ≡ true
+    → recordOf (shapeOf e) z n .keycount ≡ k → flakeGood e z n f ≡ true
 unfolding goodFlake
 tag-laid e z n f key k c x keys keycounts = rw (x .tag, x .stored, keys, keycounts) (same-refl _)
 
@@ -52,9 +51,9 @@ pub record Due (d : Drive) (v : List ℕ) (way : ℕ → Way) (new : ℕ → ℕ
   pub salted : length (d .salt) ≡ 16
   pub epoch-low : d .epoch < 2 ^ 16
   pub kept : keptOld (d .state) (d .old) ≡ d .old
-  pub fits : (n : ℕ) → n < d .n → Fits (d .p) (d .epoch) (recordOf v n) (way n)
-  pub widths : (n : ℕ) → n < d .n → Widths (recordOf v n)
-  pub room : (n : ℕ) → n < d .n → atTop (way n) (recordOf v n) ≡ false
+  pub fits : (n : ℕ) → n < d .n → Fits (d .p) (d .epoch) (recordOf (shapeOf d) v n) (way n)
+  pub widths : (n : ℕ) → n < d .n → Widths (recordOf (shapeOf d) v n)
+  pub room : (n : ℕ) → n < d .n → atTop (way n) (recordOf (shapeOf d) v n) ≡ false
   pub long : Long (shapeOf d) new
 
 module _ (d : Drive) (v : List ℕ) (way : ℕ → Way) (new : ℕ → ℕ → List ℕ) (x : Due d v way new) where
@@ -78,23 +77,23 @@ module _ (d : Drive) (v : List ℕ) (way : ℕ → Way) (new : ℕ → ℕ → L
   head-long = length-head e (x .salted)
 
   touched-low : (n : ℕ) → n < d .n → touchedBy (way n) < 2 ^ d .p
-  touched-low n h = touched-lt (d .p) (d .epoch) (recordOf v n) (way n) (x .fits n h)
+  touched-low n h = touched-lt (d .p) (d .epoch) (recordOf (shapeOf d) v n) (way n) (x .fits n h)
 
-  widths-turned : (n : ℕ) → n < d .n → Widths (turned (way n) (d .epoch) (recordOf v n))
+  widths-turned : (n : ℕ) → n < d .n → Widths (turned (way n) (d .epoch) (recordOf (shapeOf d) v n))
   widths-turned n h =
-      widths-after (way n) (d .epoch) (recordOf v n) (x .widths n h)
+      widths-after (way n) (d .epoch) (recordOf (shapeOf d) v n) (x .widths n h)
       (lt-of-lt-of-le (touched-low n h) (pow-mono (limits s (lent .limited) .narrow))) (x .epoch-low) (x .room n h)
 
   -- each record is the one turned in its nugget's way
-  pub record-after : (n : ℕ) → n < d .n → recordOf z n ≡ turned (way n) (d .epoch) (recordOf v n)
+  pub record-after : (n : ℕ) → n < d .n → recordOf (shapeOf d) z n ≡ turned (way n) (d .epoch) (recordOf (shapeOf d) v n)
   record-after n h = settled-record s e u head-long n ∙ worked-record d v way new lent (x .long) n h (widths-turned n h)
 
   -- each enciphered flake is its new contents under its pad, and every other is as it was
-  pub put-after : (n f : ℕ) → n < d .n → f < d .p → chosen way (recordOf v) n f ≡ true
-      → Under s n f (nuggetKey (d .present) (d .salt) n) (keycountAfter (way n) (recordOf v n)) (new n f) z
+  pub put-after : (n f : ℕ) → n < d .n → f < d .p → chosen way (recordOf (shapeOf d) v) n f ≡ true
+      → Under s n f (nuggetKey (d .present) (d .salt) n) (keycountAfter (way n) (recordOf (shapeOf d) v n)) (new n f) z
   put-after n f a b on = under-same (worked-put d v way new lent (x .long) n f a b on) (settled-same s e u head-long n f)
 
-  pub kept-after : (n f : ℕ) → n < d .n → f < d .p → chosen way (recordOf v) n f ≡ false → Same s n f v z
+  pub kept-after : (n f : ℕ) → n < d .n → f < d .p → chosen way (recordOf (shapeOf d) v) n f ≡ false → Same s n f v z
   kept-after n f a b off = same-trans (worked-kept d v way new lent (x .long) n f a b off) (settled-same s e u head-long n f)
 
   -- secrets are named as before
@@ -106,49 +105,49 @@ module _ (d : Drive) (v : List ℕ) (way : ℕ → Way) (new : ℕ → ℕ → L
   unfolding secretFor advanced
   secret-head = yes _ (eq-eqb (d .epoch) (d .epoch) refl) refl
 
-  turn : (n : ℕ) → n < d .n → Adds (d .epoch) (way n) (recordOf v n) ⊎ Rekeyed (d .epoch) (way n) (recordOf v n)
-  turn n h = turn-told (d .p) (d .epoch) (recordOf v n) (way n) (x .fits n h)
+  turn : (n : ℕ) → n < d .n → Adds (d .epoch) (way n) (recordOf (shapeOf d) v n) ⊎ Rekeyed (d .epoch) (way n) (recordOf (shapeOf d) v n)
+  turn n h = turn-told (d .p) (d .epoch) (recordOf (shapeOf d) v n) (way n) (x .fits n h)
 
   -- an enciphered flake's nugget has the head's epoch
-  epoch-after : (n f : ℕ) → n < d .n → chosen way (recordOf v) n f ≡ true → recordOf z n .epoch ≡ d .epoch
+  epoch-after : (n f : ℕ) → n < d .n → chosen way (recordOf (shapeOf d) v) n f ≡ true → recordOf (shapeOf d) z n .epoch ≡ d .epoch
   epoch-after n f h on = ap (λ (r : Record). r .epoch) (record-after n h) ∙ go (turn n h)
     where
-      go : Adds (d .epoch) (way n) (recordOf v n) ⊎ Rekeyed (d .epoch) (way n) (recordOf v n) → epochAfter (way n) (d .epoch) (recordOf v n) ≡ d .epoch
+      go : Adds (d .epoch) (way n) (recordOf (shapeOf d) v n) ⊎ Rekeyed (d .epoch) (way n) (recordOf (shapeOf d) v n) → epochAfter (way n) (d .epoch) (recordOf (shapeOf d) v n) ≡ d .epoch
       go (inl a) = a .epochKept ∙ a .moved f on
       go (inr a) = a .epochSet
 
-  key-after : (n f : ℕ) → n < d .n → chosen way (recordOf v) n f ≡ true → keyFor e z n ≡ nuggetKey (d .present) (d .salt) n
+  key-after : (n f : ℕ) → n < d .n → chosen way (recordOf (shapeOf d) v) n f ≡ true → keyFor e z n ≡ nuggetKey (d .present) (d .salt) n
   unfolding keyFor advanced
   key-after n f h on = ap (λ (k : List ℕ). nuggetKey k (d .salt) n) (ap (secretFor e) (epoch-after n f h on) ∙ secret-head)
 
-  keycount-after : (n : ℕ) → n < d .n → recordOf z n .keycount ≡ keycountAfter (way n) (recordOf v n)
+  keycount-after : (n : ℕ) → n < d .n → recordOf (shapeOf d) z n .keycount ≡ keycountAfter (way n) (recordOf (shapeOf d) v n)
   keycount-after n h = ap (λ (r : Record). r .keycount) (record-after n h)
 
   -- a flake that is present and wasn't enciphered was there before, and its nugget was not rekeyed
-  stays : (n f : ℕ) → n < d .n → chosen way (recordOf v) n f ≡ false → bit (recordOf z n .journal) f ≡ true
-      → (bit (recordOf v n .journal) f ≡ true) × Adds (d .epoch) (way n) (recordOf v n)
+  stays : (n f : ℕ) → n < d .n → chosen way (recordOf (shapeOf d) v) n f ≡ false → bit (recordOf (shapeOf d) z n .journal) f ≡ true
+      → (bit (recordOf (shapeOf d) v n .journal) f ≡ true) × Adds (d .epoch) (way n) (recordOf (shapeOf d) v n)
   stays n f h off on = go (turn n h) (rw (record-after n h) at on)
     where
-      go : Adds (d .epoch) (way n) (recordOf v n) ⊎ Rekeyed (d .epoch) (way n) (recordOf v n) → bit (journalAfter (way n) (recordOf v n)) f ≡ true
-          → (bit (recordOf v n .journal) f ≡ true) × Adds (d .epoch) (way n) (recordOf v n)
-      go (inl a) t = (one (either-told (bit (recordOf v n .journal) f) (chosen way (recordOf v) n f) (sym (a .joined f) ∙ t)), a)
+      go : Adds (d .epoch) (way n) (recordOf (shapeOf d) v n) ⊎ Rekeyed (d .epoch) (way n) (recordOf (shapeOf d) v n) → bit (journalAfter (way n) (recordOf (shapeOf d) v n)) f ≡ true
+          → (bit (recordOf (shapeOf d) v n .journal) f ≡ true) × Adds (d .epoch) (way n) (recordOf (shapeOf d) v n)
+      go (inl a) t = (one (either-told (bit (recordOf (shapeOf d) v n .journal) f) (chosen way (recordOf (shapeOf d) v) n f) (sym (a .joined f) ∙ t)), a)
         where
-          one : (bit (recordOf v n .journal) f ≡ true) ⊎ (chosen way (recordOf v) n f ≡ true) → bit (recordOf v n .journal) f ≡ true
+          one : (bit (recordOf (shapeOf d) v n .journal) f ≡ true) ⊎ (chosen way (recordOf (shapeOf d) v) n f ≡ true) → bit (recordOf (shapeOf d) v n .journal) f ≡ true
           one (inl p) = p
           one (inr q) = absurd (clash q off)
       go (inr a) t = absurd (clash (ap (λ (j : ℕ). bit j f) (sym (a .whole)) ∙ t) off)
 
-  tag-after : (n f : ℕ) → n < d .n → f < d .p → bit (recordOf z n .journal) f ≡ true → flakeGood e z n f ≡ true
+  tag-after : (n f : ℕ) → n < d .n → f < d .p → bit (recordOf (shapeOf d) z n .journal) f ≡ true → flakeGood e z n f ≡ true
   unfolding advanced
-  tag-after n f h l on = go (told (chosen way (recordOf v) n f))
+  tag-after n f h l on = go (told (chosen way (recordOf (shapeOf d) v) n f))
     where
-      go : (chosen way (recordOf v) n f ≡ true) ⊎ (chosen way (recordOf v) n f ≡ false) → flakeGood e z n f ≡ true
+      go : (chosen way (recordOf (shapeOf d) v) n f ≡ true) ⊎ (chosen way (recordOf (shapeOf d) v) n f ≡ false) → flakeGood e z n f ≡ true
       go (inl put) =
-          tag-laid e z n f (nuggetKey (d .present) (d .salt) n) (keycountAfter (way n) (recordOf v n)) (new n f) (put-after n f h l put) (key-after n f h put) (keycount-after n h)
+          tag-laid e z n f (nuggetKey (d .present) (d .salt) n) (keycountAfter (way n) (recordOf (shapeOf d) v n)) (new n f) (put-after n f h l put) (key-after n f h put) (keycount-after n h)
       go (inr off) =
           let (was, a) = stays n f h off on in
           tag-kept d e v z n f refl refl (kept-after n f h l off) (keycount-after n h ∙ a .keycountKept)
-          (secret-after (recordOf z n .epoch) ∙ ap (secretFor d) (ap (λ (r : Record). r .epoch) (record-after n h) ∙ a .epochKept)) (x .was .tags n f h l was)
+          (secret-after (recordOf (shapeOf d) z n .epoch) ∙ ap (secretFor d) (ap (λ (r : Record). r .epoch) (record-after n h) ∙ a .epochKept)) (x .was .tags n f h l was)
 
   form-after : inForm e ≡ true
   unfolding advanced inForm
@@ -160,6 +159,6 @@ module _ (d : Drive) (v : List ℕ) (way : ℕ → Way) (new : ℕ → ℕ → L
       record {
         opens = settled-opens e u (x .salted) form-after (worked-lent d v way new lent (x .long) .size) refl;
         good = settled-good s e u head-long (worked-good d v way new lent (x .long) (x .was .good));
-        well = λ n h. rw (record-after n h) (well-formed-after (d .p) (way n) (d .epoch) (isChanging (d .state)) (recordOf v n) (touched-low n h) (x .was .well n h));
+        well = λ n h. rw (record-after n h) (well-formed-after (d .p) (way n) (d .epoch) (isChanging (d .state)) (recordOf (shapeOf d) v n) (touched-low n h) (x .was .well n h));
         tags = λ n f h l on. tag-after n f h l on;
       }

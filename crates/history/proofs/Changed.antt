@@ -13,7 +13,7 @@ use Rattle.base.proofs.TabLaws.{length-tab}
 use Rattle.layout.proofs.Limits.{limits}
 use Rattle.records.specs.declared.Way.{Way}
 use Rattle.records.specs.Journal.{bit}
-use Rattle.records.specs.Record.{Widths}
+use Rattle.records.specs.Record.{Widths, recordOf}
 use Rattle.records.specs.Rule.{touchedBy, turned, atTop}
 use Rattle.drive.specs.declared.Drive.{Drive}
 use Rattle.drive.specs.declared.State.{State}
@@ -33,7 +33,6 @@ use Rattle.history.proofs.View.{kitOf, viewOf, ledgerOf}
 use Rattle.history.proofs.After.{Due, record-after, put-after, kept-after, untouched-after}
 use Rattle.history.proofs.Sound.{Sound, Keeps, counter-room}
 use Rattle.records.proofs.RuleLaws.{formed-journal, formed-epoch}
-use Rattle.tree.specs.Path.{recordOf}
 
 kept-twice : (s : State) (a b : List ℕ) → keptOld s a ≡ b → keptOld s b ≡ b
 kept-twice Steady a b e = e
@@ -55,26 +54,26 @@ module _ (w : World) (x : Sound w) (way : ℕ → Way) (new : ℕ → ℕ → Li
 
   -- what the ways and the new contents have to be
   pub record Ready : Type 0 where
-    pub fits : (n : ℕ) → n < w .drive .n → Fits (w .drive .p) (w .drive .epoch) (recordOf (w .vol) n) (way n)
-    pub room : (n : ℕ) → n < w .drive .n → atTop (way n) (recordOf (w .vol) n) ≡ false
+    pub fits : (n : ℕ) → n < w .drive .n → Fits (w .drive .p) (w .drive .epoch) (recordOf (shapeOf (w .drive)) (w .vol) n) (way n)
+    pub room : (n : ℕ) → n < w .drive .n → atTop (way n) (recordOf (shapeOf (w .drive)) (w .vol) n) ≡ false
     pub low : w .drive .counter ≡ counterTop → ⊥
     pub news : (n f : ℕ) → n < w .drive .n → f < w .drive .p → new n f ≡ plainIn (shapeOf (w .drive)) after n f
     pub rest : (n f : ℕ) → n < w .drive .n → f < w .drive .p → bit (touchedBy (way n)) f ≡ false
         → plainIn (shapeOf (w .drive)) after n f ≡ plainIn (shapeOf (w .drive)) (w .contents) n f
 
   -- the widths of the records, by the invariant
-  widths : (n : ℕ) → n < d .n → Widths (recordOf v n)
+  widths : (n : ℕ) → n < d .n → Widths (recordOf (shapeOf d) v n)
   widths n h =
       let formed = x .inv .formed n h in
       record {
         keycountWidth = omega (arith, x .inv .below n h, x .handed .counter-lt);
         journalWidth =
-            lt-of-lt-of-le (formed-journal (d .p) (d .epoch) (isChanging (d .state)) (recordOf v n) formed)
+            lt-of-lt-of-le (formed-journal (d .p) (d .epoch) (isChanging (d .state)) (recordOf (shapeOf d) v n) formed)
             (pow-mono (limits (shapeOf d) (untouched-lent d v (x .untouched) .limited) .narrow));
-        epochWidth = low (formed-epoch (d .p) (d .epoch) (isChanging (d .state)) (recordOf v n) formed);
+        epochWidth = low (formed-epoch (d .p) (d .epoch) (isChanging (d .state)) (recordOf (shapeOf d) v n) formed);
       }
     where
-      low : (recordOf v n .epoch ≡ d .epoch) ⊎ ((isChanging (d .state) ≡ true) × (recordOf v n .epoch + 1 ≡ d .epoch)) → recordOf v n .epoch < 2 ^ 16
+      low : (recordOf (shapeOf d) v n .epoch ≡ d .epoch) ⊎ ((isChanging (d .state) ≡ true) × (recordOf (shapeOf d) v n .epoch + 1 ≡ d .epoch)) → recordOf (shapeOf d) v n .epoch < 2 ^ 16
       low (inl e) = omega (arith, e, x .handed .epoch-lt)
       low (inr e) = omega (arith, e .1, x .handed .epoch-lt)
 
@@ -98,8 +97,8 @@ module _ (w : World) (x : Sound w) (way : ℕ → Way) (new : ℕ → ℕ → Li
 
     -- each record is the one turned in its nugget's way
     pub worked-turns : (n : ℕ) → n < w .drive .n
-        → recordOf (settled (advanced (w .drive) (worked (w .drive) (w .vol) way new)) (worked (w .drive) (w .vol) way new)) n
-        ≡ turned (way n) (w .drive .epoch) (recordOf (w .vol) n)
+        → recordOf (shapeOf d) (settled (advanced (w .drive) (worked (w .drive) (w .vol) way new)) (worked (w .drive) (w .vol) way new)) n
+        ≡ turned (way n) (w .drive .epoch) (recordOf (shapeOf (w .drive)) (w .vol) n)
     worked-turns n h = record-after d v way new due n h
 
     abbrev e : Drive
@@ -109,7 +108,7 @@ module _ (w : World) (x : Sound w) (way : ℕ → Way) (new : ℕ → ℕ → Li
     z = settled e (worked d v way new)
 
     after-work : Ledger
-    after-work = viewOf e z (w .listing ++ padsFor d v way) (w .retired + risen (d .p) (d .n) (recordOf v) (recordOf z)) after
+    after-work = viewOf e z (w .listing ++ padsFor d v way) (w .retired + risen (d .p) (d .n) (recordOf (shapeOf d) v) (recordOf (shapeOf d) z)) after
 
     moves : Step (kitOf d) way (ledgerOf w) after-work
     unfolding after-work advanced

@@ -13,9 +13,9 @@ use Rattle.base.proofs.PickLaws.{told, both-on}
 use Rattle.base.proofs.FoldLaws.{same-true}
 use Rattle.answers.specs.declared.Answer.the-variants as A
 use Rattle.answers.specs.Numbers.{accepts}
-use Rattle.tree.specs.Path.{recordOf}
+use Rattle.records.specs.Record.{recordOf}
 use Rattle.drive.specs.declared.Drive.{Drive}
-use Rattle.drive.specs.Drive.{isChanging}
+use Rattle.drive.specs.Drive.{shapeOf, isChanging}
 use Rattle.changes.specs.Change.{advanced}
 use Rattle.changes.specs.Rekey.{begunDrive}
 use Rattle.changes.proofs.Exact.{begun-makes, finished-makes}
@@ -48,8 +48,8 @@ record Swept (w : World) (k : ℕ) (u : World) : Type 0 where
   begun : changing u ≡ true
   epoch : u .drive .epoch ≡ w .drive .epoch
   counter : u .drive .counter ≤ w .drive .counter + k
-  done : (m : ℕ) → m < k → recordOf (u .vol) m .epoch ≡ w .drive .epoch
-  rest : (m : ℕ) → k ≤ m → m < w .drive .n → recordOf (u .vol) m .epoch ≡ recordOf (w .vol) m .epoch
+  done : (m : ℕ) → m < k → recordOf (shapeOf (u .drive)) (u .vol) m .epoch ≡ w .drive .epoch
+  rest : (m : ℕ) → k ≤ m → m < w .drive .n → recordOf (shapeOf (u .drive)) (u .vol) m .epoch ≡ recordOf (shapeOf (w .drive)) (w .vol) m .epoch
 
 -- one more
 one-swept : (w u : World) (k : ℕ) → k < w .drive .n → Swept w k u → (e : answerTo u (sweep k) ≡ A.Accepted) → Swept w (suc k) (step u (sweep k))
@@ -66,7 +66,7 @@ one-swept w u k h g e =
       rest = λ m l b. swept-other u (g .sounds) k e m (rw (g .shape) b) (λ z. omega (arith, z)) ∙ g .rest m (omega arith) b;
     }
   where
-    go : (m : ℕ) → m < suc k → (eqb m k ≡ true) ⊎ (eqb m k ≡ false) → recordOf (step u (sweep k) .vol) m .epoch ≡ w .drive .epoch
+    go : (m : ℕ) → m < suc k → (eqb m k ≡ true) ⊎ (eqb m k ≡ false) → recordOf (shapeOf (step u (sweep k) .drive)) (step u (sweep k) .vol) m .epoch ≡ w .drive .epoch
     go m l (inl q) = rw (eqb-true m k q) (swept-own u (g .sounds) k e ∙ g .epoch)
     go m l (inr q) =
         let far = eqb-false m k q in
@@ -85,8 +85,8 @@ none-swept w u k moved h g =
       rest = λ m l b. g .rest m (omega arith) b;
     }
   where
-    go : (m : ℕ) → m < suc k → (eqb m k ≡ true) ⊎ (eqb m k ≡ false) → recordOf (u .vol) m .epoch ≡ w .drive .epoch
-    go m l (inl q) = rw (eqb-true m k q) (g .rest k (omega arith) h ∙ eqb-true (recordOf (w .vol) k .epoch) (w .drive .epoch) moved)
+    go : (m : ℕ) → m < suc k → (eqb m k ≡ true) ⊎ (eqb m k ≡ false) → recordOf (shapeOf (u .drive)) (u .vol) m .epoch ≡ w .drive .epoch
+    go m l (inl q) = rw (eqb-true m k q) (g .rest k (omega arith) h ∙ eqb-true (recordOf (shapeOf (w .drive)) (w .vol) k .epoch) (w .drive .epoch) moved)
     go m l (inr q) = g .done m (omega (arith, l, eqb-false m k q))
 
 module _ (w : World) (x : Sound w) (begun : changing w ≡ true) (room : w .drive .counter + w .drive .n + 1 < 2 ^ 64) where
@@ -111,8 +111,8 @@ module _ (w : World) (x : Sound w) (begun : changing w ≡ true) (room : w .driv
       next (g, all) true e =
           let u = run w (sweepsLeft w k) in
           let here : k < u .drive .n = rw (g .shape) h in
-          let same-epoch = eqb-false (recordOf (w .vol) k .epoch) (w .drive .epoch) (not-true (hasMoved w k) e) in
-          let still : hasMoved u k ≡ false = ne-eqb (recordOf (u .vol) k .epoch) (u .drive .epoch) (λ z. same-epoch (sym (g .rest k (omega arith) h) ∙ z ∙ g .epoch)) in
+          let same-epoch = eqb-false (recordOf (shapeOf (w .drive)) (w .vol) k .epoch) (w .drive .epoch) (not-true (hasMoved w k) e) in
+          let still : hasMoved u k ≡ false = ne-eqb (recordOf (shapeOf (u .drive)) (u .vol) k .epoch) (u .drive .epoch) (λ z. same-epoch (sym (g .rest k (omega arith) h) ∙ z ∙ g .epoch)) in
           let ok = sweep-accepted u (g .sounds) (omega (arith, g .counter, room, h)) k (g .begun) here still in (
             rw (run-append w (sweepsLeft w k) (sweep k ∷ [])) (one-swept w u k h g ok),
             accepted-append w (sweepsLeft w k) (sweep k ∷ []) ∙ both-on all (both-on (ap accepts ok) refl),
@@ -125,7 +125,7 @@ module _ (w : World) (x : Sound w) (begun : changing w ≡ true) (room : w .driv
   rest-accepted =
       let (g, all) = swept (w .drive .n) (omega arith) in
       let u = run w (sweepsLeft w (w .drive .n)) in
-      let none : nuggetsLeft u ≡ 0 = many-none (u .drive .n) (isLeft u) (λ i l. ap not (eq-eqb (recordOf (u .vol) i .epoch) (u .drive .epoch) (g .done i (rw (g .shape) at l) ∙ sym (g .epoch)))) in
+      let none : nuggetsLeft u ≡ 0 = many-none (u .drive .n) (isLeft u) (λ i l. ap not (eq-eqb (recordOf (shapeOf (u .drive)) (u .vol) i .epoch) (u .drive .epoch) (g .done i (rw (g .shape) at l) ∙ sym (g .epoch)))) in
       let ok = finish-accepted u (g .sounds) (omega (arith, g .counter, room)) (g .begun) none in (
         accepted-append w (sweepsLeft w (w .drive .n)) (finish ∷ []) ∙ both-on all (both-on (ap accepts ok) refl),
         ap changing (run-append w (sweepsLeft w (w .drive .n)) (finish ∷ [])) ∙ ap (λ (d : Drive). isChanging (d .state)) (finish-leaves u (g .sounds) ok)

@@ -40,11 +40,16 @@ use Rattle.history.proofs.Sound.{Sound}
 use Rattle.history.proofs.Steps.{start-sound, sound, mount-back}
 use Rattle.history.proofs.Runs.{run-append, run-kept, step-writes}
 use Rattle.history.proofs.Counters.{baseOf, run-base, run-raised, head-counter}
-use Rattle.tree.specs.Path.{recordOf}
+use Rattle.opening.proofs.FormatLaws.{format-lent}
+use Rattle.opening.proofs.FreshLaws.{fresh-by}
+use Rattle.records.specs.Record.{recordOf}
 
 begun-base : (x : Start) → baseOf (begun x .drive) ≡ (x .shape, x .salt)
 unfolding begun formatDone freshDrive
-begun-base x = rw (x .accepted) refl
+begun-base x =
+    let (lent, top) = format-lent (x .shape) (x .outside) (x .given) (ap accepts (x .accepted)) in
+    rw (x .accepted)
+    (fresh-by (λ (z : Shape). baseOf (freshDrive z (x .salt) (x .secret) (x .outside)) ≡ (z, x .salt)) (x .shape) (lent .limited) (λ n p f l. refl))
 
 pub shape-kept : ShapeKept
 shape-kept x calls =
@@ -87,20 +92,20 @@ pub no-entry-twice : NoEntryTwice
 no-entry-twice x calls = let w = history x calls in none-twice-in (kitOf (w .drive)) (ledgerOf w) (sound x calls .inv)
 
 -- the report's count of flakes is the ledger's
-pub flakes-sum : (p : ℕ) (v : List ℕ) (n : ℕ) → presentIn p n (recordOf v) ≡ flakesIn p v n
+pub flakes-sum : (s : Shape) (p : ℕ) (v : List ℕ) (n : ℕ) → presentIn p n (recordOf s v) ≡ flakesIn s p v n
 unfolding flakesIn sum
-flakes-sum p v zero = refl
-flakes-sum p v (suc n) = rw (flakes-sum p v n)
+flakes-sum s p v zero = refl
+flakes-sum s p v (suc n) = rw (flakes-sum s p v n)
 
 pub entries-listed : EntriesListed
 entries-listed x calls =
     let w = history x calls in
-    sound x calls .inv .tally ∙ ap (λ (k : ℕ). k + w .retired) (flakes-sum (w .drive .p) (w .vol) (w .drive .n))
+    sound x calls .inv .tally ∙ ap (λ (k : ℕ). k + w .retired) (flakes-sum (shapeOf (w .drive)) (w .drive .p) (w .vol) (w .drive .n))
 
 -- a present flake's tag, under the key of its nugget
-flake-tag : (w : World) → Sound w → (n f : ℕ) → n < w .drive .n → f < w .drive .p → bit (recordOf (w .vol) n .journal) f ≡ true
+flake-tag : (w : World) → Sound w → (n f : ℕ) → n < w .drive .n → f < w .drive .p → bit (recordOf (shapeOf (w .drive)) (w .vol) n .journal) f ≡ true
     → part (tagAt (shapeOf (w .drive)) n f) 16 (w .vol)
-    ≡ poly1305 (tagKey (nuggetKey (entryAt (ledgerOf w) n f .secret) (w .drive .salt) n) f (recordOf (w .vol) n .keycount)) (storedIn (shapeOf (w .drive)) (w .vol) n f)
+    ≡ poly1305 (tagKey (nuggetKey (entryAt (ledgerOf w) n f .secret) (w .drive .salt) n) f (recordOf (shapeOf (w .drive)) (w .vol) n .keycount)) (storedIn (shapeOf (w .drive)) (w .vol) n f)
 unfolding goodFlake keyFor tagOf covered secretAt secretFor
 flake-tag w x n f a b on = same-true _ _ (x .untouched .tags n f a b on)
 
@@ -112,7 +117,7 @@ under-last-pad x calls n f a b on =
       pad = entryAt (ledgerOf w) n f;
       last = inv .named n f a on;
       laid = inv .laid n f a on;
-      secret = secret-seen (w .drive) (w .vol) (w .listing) (w .retired) (w .contents) (recordOf (w .vol) n .epoch);
+      secret = secret-seen (w .drive) (w .vol) (w .listing) (w .retired) (w .contents) (recordOf (shapeOf (w .drive)) (w .vol) n .epoch);
       keycount = refl;
       tagged = flake-tag w (sound x calls) n f a b on;
     }

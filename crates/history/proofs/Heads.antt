@@ -15,7 +15,7 @@ use Rattle.layout.specs.Shape.{inLimits}
 use Rattle.layout.specs.Lent.{Lent}
 use Rattle.layout.specs.Parts.{lengthOf, nodeAt}
 use Rattle.records.specs.declared.Record.{Record}
-use Rattle.records.specs.Record.{wellFormed}
+use Rattle.records.specs.Record.{wellFormed, recordOf}
 use Rattle.nodes.specs.Nodes.{nodeIn}
 use Rattle.drive.specs.declared.Drive.{Drive}
 use Rattle.drive.specs.declared.State.{State}
@@ -32,7 +32,6 @@ use Rattle.changes.proofs.PutLaws.{Same}
 use Rattle.changes.proofs.SettleLaws.{settled-lent, settled-head, settled-record, settled-same, settled-node, settled-good}
 use Rattle.history.proofs.Quiet.{Untouched}
 use Rattle.drive.proofs.OpeningLaws.{opening-told}
-use Rattle.tree.specs.Path.{recordOf}
 
 -- a drive in form opens the volume on which its head was stored last
 pub settled-opens : (d : Drive) (w : List ℕ) → length (d .salt) ≡ 16 → inForm d ≡ true → length w ≡ lengthOf (shapeOf d) → nodeIn (shapeOf d) w 1 ≡ d .node
@@ -58,7 +57,7 @@ untouched-node {d} {v} x =
 
 -- a flake whose bytes, tag, key and keycount are as they were has a right tag if it had one
 pub tag-kept : (d e : Drive) (v w : List ℕ) (n f : ℕ) → shapeOf e ≡ shapeOf d → e .salt ≡ d .salt → Same (shapeOf d) n f v w
-    → recordOf w n .keycount ≡ recordOf v n .keycount → secretFor e (recordOf w n .epoch) ≡ secretFor d (recordOf v n .epoch)
+    → recordOf (shapeOf d) w n .keycount ≡ recordOf (shapeOf d) v n .keycount → secretFor e (recordOf (shapeOf d) w n .epoch) ≡ secretFor d (recordOf (shapeOf d) v n .epoch)
     → flakeGood d v n f ≡ true → flakeGood e w n f ≡ true
 unfolding goodFlake keyFor
 tag-kept d e v w n f shaped salted kept keycounts secrets h = rw (shaped, kept .tag, kept .stored, keycounts, secrets, salted) h
@@ -87,7 +86,7 @@ module _ (d : Drive) (v : List ℕ) (x : Untouched d v) (salted : length (d .sal
   long : length (headOf e) ≡ 104
   long = length-head e salted
 
-  pub headed-record : (n : ℕ) → recordOf (settled e v) n ≡ recordOf v n
+  pub headed-record : (n : ℕ) → recordOf (shapeOf d) (settled e v) n ≡ recordOf (shapeOf d) v n
   headed-record n = settled-record (shapeOf d) e v long n
 
   pub headed-stored : (n f : ℕ) → storedIn (shapeOf d) (settled e v) n f ≡ storedIn (shapeOf d) v n f
@@ -97,8 +96,8 @@ module _ (d : Drive) (v : List ℕ) (x : Untouched d v) (salted : length (d .sal
   unfolding inForm
   form fits = both-on (form-limits d (opening-told d v (x .opens) .form)) fits
 
-  pub headed-untouched : driveFits state epoch ≡ true → ((n : ℕ) → n < d .n → wellFormed (d .p) epoch (isChanging state) (recordOf v n) ≡ true)
-      → ((n : ℕ) → n < d .n → secretFor e (recordOf v n .epoch) ≡ secretFor d (recordOf v n .epoch)) → Untouched e (settled e v)
+  pub headed-untouched : driveFits state epoch ≡ true → ((n : ℕ) → n < d .n → wellFormed (d .p) epoch (isChanging state) (recordOf (shapeOf d) v n) ≡ true)
+      → ((n : ℕ) → n < d .n → secretFor e (recordOf (shapeOf d) v n .epoch) ≡ secretFor d (recordOf (shapeOf d) v n .epoch)) → Untouched e (settled e v)
   headed-untouched fits formed secrets =
       record {
         opens = settled-opens e v salted (form fits) (untouched-size x) (untouched-node x);

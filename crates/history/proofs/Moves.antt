@@ -13,9 +13,10 @@ use Rattle.answers.specs.Numbers.{accepts}
 use Rattle.records.specs.declared.Record.{Record}
 use Rattle.records.specs.Rule.{turned, epochAfter}
 use Rattle.records.proofs.RuleLaws.{formed-epoch}
-use Rattle.tree.specs.Path.{recordOf}
+use Rattle.records.specs.Record.{recordOf}
 use Rattle.drive.specs.Drive.{shapeOf, counterTop}
 use Rattle.opening.proofs.Reopens.{length-head}
+use Rattle.changes.specs.Change.{advanced}
 use Rattle.changes.specs.Rekey.{epochTop, beginAnswer, begunDrive, beginDone, beginVolume, sweepAnswer, sweepWays, sweptDrive, sweepDone, sweepVolume, finishedDrive, finishDone}
 use Rattle.changes.proofs.SettleLaws.{settled-record}
 use Rattle.changes.proofs.SweepLaws.{way-own, way-other}
@@ -51,11 +52,11 @@ module _ (w : World) (x : Sound w) where
   begin-leaves secret e = yes _ (ap accepts e) refl
 
   -- in a steady drive each record's epoch is the head's
-  pub steady-epoch : changing w ≡ false → (n : ℕ) → n < w .drive .n → recordOf (w .vol) n .epoch ≡ w .drive .epoch
-  steady-epoch steady n h = go (formed-epoch (w .drive .p) (w .drive .epoch) (changing w) (recordOf (w .vol) n) (x .inv .formed n h))
+  pub steady-epoch : changing w ≡ false → (n : ℕ) → n < w .drive .n → recordOf (shapeOf (w .drive)) (w .vol) n .epoch ≡ w .drive .epoch
+  steady-epoch steady n h = go (formed-epoch (w .drive .p) (w .drive .epoch) (changing w) (recordOf (shapeOf (w .drive)) (w .vol) n) (x .inv .formed n h))
     where
-      go : (recordOf (w .vol) n .epoch ≡ w .drive .epoch) ⊎ ((changing w ≡ true) × (recordOf (w .vol) n .epoch + 1 ≡ w .drive .epoch))
-          → recordOf (w .vol) n .epoch ≡ w .drive .epoch
+      go : (recordOf (shapeOf (w .drive)) (w .vol) n .epoch ≡ w .drive .epoch) ⊎ ((changing w ≡ true) × (recordOf (shapeOf (w .drive)) (w .vol) n .epoch + 1 ≡ w .drive .epoch))
+          → recordOf (shapeOf (w .drive)) (w .vol) n .epoch ≡ w .drive .epoch
       go (inl e) = e
       go (inr e) = absurd (clash (e .0) steady)
 
@@ -66,7 +67,7 @@ module _ (w : World) (x : Sound w) where
       let taken : accepts (beginAnswer (w .drive) (w .vol) secret) ≡ true = ap accepts e in
       let was = steady-epoch (begins (w .drive) (w .vol) secret taken .steady) n h in
       let kept = settled-record (shapeOf (w .drive)) (begunDrive (w .drive) secret) (w .vol) (length-head (begunDrive (w .drive) secret) (x .handed .salt-long)) n in
-      rw (taken, kept) (ne-eqb (recordOf (w .vol) n .epoch) (w .drive .epoch + 1) (λ z. omega (arith, z, was)))
+      rw (taken, kept) (ne-eqb (recordOf (shapeOf (w .drive)) (w .vol) n .epoch) (w .drive .epoch + 1) (λ z. omega (arith, z, was)))
 
   pub finish-leaves : answerTo w finish ≡ A.Accepted → step w finish .drive ≡ finishedDrive (w .drive)
   unfolding step left finishDone
@@ -84,14 +85,14 @@ module _ (w : World) (x : Sound w) where
     sweep-tells = sweeps (w .drive) (w .vol) n taken
 
     -- each record is the one turned in its nugget's way
-    swept-record : (m : ℕ) → m < w .drive .n → recordOf (step w (sweep n) .vol) m ≡ turned (sweepWays n m) (w .drive .epoch) (recordOf (w .vol) m)
-    unfolding step left sweepVolume
+    swept-record : (m : ℕ) → m < w .drive .n → recordOf (shapeOf (step w (sweep n) .drive)) (step w (sweep n) .vol) m ≡ turned (sweepWays n m) (w .drive .epoch) (recordOf (shapeOf (w .drive)) (w .vol) m)
+    unfolding step left sweepVolume sweepDone advanced
     swept-record m h = rw taken (swept-turns w x n sweep-tells m h)
 
-    pub swept-own : recordOf (step w (sweep n) .vol) n .epoch ≡ w .drive .epoch
+    pub swept-own : recordOf (shapeOf (step w (sweep n) .drive)) (step w (sweep n) .vol) n .epoch ≡ w .drive .epoch
     unfolding epochAfter
     swept-own = ap (λ (r : Record). r .epoch) (swept-record n (sweep-tells .inside)) ∙ rw (way-own n) refl
 
-    pub swept-other : (m : ℕ) → m < w .drive .n → (m ≡ n → ⊥) → recordOf (step w (sweep n) .vol) m .epoch ≡ recordOf (w .vol) m .epoch
+    pub swept-other : (m : ℕ) → m < w .drive .n → (m ≡ n → ⊥) → recordOf (shapeOf (step w (sweep n) .drive)) (step w (sweep n) .vol) m .epoch ≡ recordOf (shapeOf (w .drive)) (w .vol) m .epoch
     unfolding epochAfter
     swept-other m h far = ap (λ (r : Record). r .epoch) (swept-record m h) ∙ rw (way-other n m far) refl

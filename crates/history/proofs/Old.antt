@@ -16,12 +16,12 @@ use Rattle.answers.specs.declared.Answer.the-variants as A
 use Rattle.records.specs.Journal.{bit}
 use Rattle.records.specs.Listing.{Entry}
 use Rattle.keys.specs.Keys.{checkOf, sealOf}
-use Rattle.tree.specs.Path.{recordOf}
+use Rattle.records.specs.Record.{recordOf}
 use Rattle.drive.specs.declared.Drive.{Drive}
 use Rattle.drive.specs.declared.Done.{Done}
 use Rattle.drive.specs.declared.State.{State}
 use Rattle.drive.specs.declared.State.the-variants.{Steady, Changing}
-use Rattle.drive.specs.Drive.{isChanging, keptOld, zeros}
+use Rattle.drive.specs.Drive.{shapeOf, isChanging, keptOld, zeros}
 use Rattle.drive.specs.Head.{checkFor, checkIn}
 use Rattle.opening.specs.Mount.{saltIn, epochIn, checkBytes, sealBytes, openedDrive, sealed, checked, mountAnswer, mountDone}
 use Rattle.opening.proofs.HeadBack.{Opened, opened}
@@ -37,14 +37,14 @@ use Rattle.history.proofs.Sound.{Sound}
 use Rattle.history.proofs.Steps.{kept-any, sound, mount-back}
 use Rattle.history.proofs.Moves.{steady-epoch}
 
-pad-present : (w : World) → Sound w → changing w ≡ false → (n f : ℕ) (pad : Entry) → n < w .drive .n → bit (recordOf (w .vol) n .journal) f ≡ true
+pad-present : (w : World) → Sound w → changing w ≡ false → (n f : ℕ) (pad : Entry) → n < w .drive .n → bit (recordOf (shapeOf (w .drive)) (w .vol) n .journal) f ≡ true
     → lastOf n f (w .listing) ≡ some pad → pad .secret ≡ w .secret
 unfolding secretAt
 pad-present w x steady n f pad h on last =
     let one : some (entryAt (ledgerOf w) n f) ≡ some pad = sym (x .inv .named n f h on) ∙ last in
     let is : entryAt (ledgerOf w) n f ≡ pad = cc in
     ap (λ (e : Entry). e .secret) (sym is)
-    ∙ yes _ (eq-eqb (recordOf (w .vol) n .epoch) (w .drive .epoch) (steady-epoch w x steady n h)) (x .present)
+    ∙ yes _ (eq-eqb (recordOf (shapeOf (w .drive)) (w .vol) n .epoch) (w .drive .epoch) (steady-epoch w x steady n h)) (x .present)
 
 pub old-secret-free : OldSecretFree
 old-secret-free start calls steady =

@@ -6,6 +6,9 @@ use mathlib.Core.Option.{some}
 use Prim.Native.Nat.{ℕ, _+_, _*_, _/_, _^_, _<_, _≤_}
 use native.Mathlib.Omega.{arith}
 use lib.ListN.{length, getElem?}
+use Rattle.records.specs.Journal.{bit}
+use Rattle.base.specs.Lists.{part}
+use Rattle.layout.proofs.Places.{record-room}
 use Rattle.base.proofs.PickLaws.{clash}
 use Rattle.base.proofs.FoldLaws.{same-true}
 use Rattle.base.proofs.PartLaws.{length-part}
@@ -14,7 +17,7 @@ use Rattle.messages.specs.Messages.{nuggetMessage}
 use Rattle.messages.specs.OneMessage.{bytesOf, Wide}
 use Rattle.messages.proofs.ReadBack.{nugget-told, tag-told}
 use Rattle.layout.specs.declared.Shape.{Shape}
-use Rattle.layout.specs.Shape.{leaves}
+use Rattle.layout.specs.Shape.{leaves, widthOf}
 use Rattle.layout.specs.Parts.{recordAt}
 use Rattle.layout.specs.Lent.{Lent}
 use Rattle.layout.proofs.Limits.{limits, lent-small}
@@ -34,7 +37,7 @@ use Rattle.opening.specs.Mount.{sealed, checked}
 use Rattle.opening.proofs.FormatLaws.{format-lent}
 use Rattle.opening.proofs.HeadBack.{Opened, opened}
 use Rattle.opening.proofs.Reopens.{drive-back, reopens}
-use Rattle.tree.specs.Path.{recordOf}
+use Rattle.records.specs.Record.{recordOf}
 use Rattle.nuggets.specs.Nugget.{storedIn}
 use Rattle.ledger.specs.Listing.{Alike, NoneTwice}
 use Rattle.ledger.specs.Ledger.{Kit}
@@ -158,10 +161,13 @@ one-pad-one-contents x calls later n f y same =
     let u = history x (calls ++ later) in
     let onward : Onward (kitOf (w .drive)) (ledgerOf w) (ledgerOf u) = rw (run-append (begun x) calls later) (run-onward w later (sound x calls)) in
     let at = shape-kept x calls .0 in
+    let to = shape-kept x (calls ++ later) .0 in
+    let keycounts = ap (λ (s : Shape). recordOf s (u .vol) n .keycount) to ∙ same ∙ sym (ap (λ (s : Shape). recordOf s (w .vol) n .keycount) at) in
+    let on = subst (λ (s : Shape). bit (recordOf s (w .vol) n .journal) f ≡ true) (sym at) (y .on) in
     let stays =
-    onward .stays n f (omega (arith, y .nugget, ap (λ (s : Shape). s .n) at)) (omega (arith, y .flake, ap (λ (s : Shape). s .p) at)) (y .on) same in (
-      record { nugget = y .nugget; flake = y .flake; on = stays .0 },
-      sym (ap (λ (s : Shape). storedIn s (u .vol) n f) (shape-kept x (calls ++ later) .0)) ∙ stays .1 ∙ ap (λ (s : Shape). storedIn s (w .vol) n f) at,
+    onward .stays n f (omega (arith, y .nugget, ap (λ (s : Shape). s .n) at)) (omega (arith, y .flake, ap (λ (s : Shape). s .p) at)) on keycounts in (
+      record { nugget = y .nugget; flake = y .flake; on = subst (λ (s : Shape). bit (recordOf s (u .vol) n .journal) f ≡ true) to (stays .0) },
+      sym (ap (λ (s : Shape). storedIn s (u .vol) n f) to) ∙ stays .1 ∙ ap (λ (s : Shape). storedIn s (w .vol) n f) at,
     )
 
 -- present flakes under entries alike are one flake, as it was
@@ -171,7 +177,9 @@ one-flake : (x : Start) (calls later : List Call) (n f m g : ℕ) → Present (x
 one-flake x calls later n f m g y alike =
     let u = history x (calls ++ later) .vol in
     ap₂ (λ (i j : ℕ). storedIn (x .shape) u i j) (sym (alike .nuggets)) (sym (alike .flakes))
-    ∙ one-pad-one-contents x calls later n f y (ap (λ (i : ℕ). recordOf u i .keycount) (alike .nuggets) ∙ sym (alike .keycounts)) .1
+    ∙ one-pad-one-contents x calls later n f y (ap (λ (i : ℕ). recordOf (x .shape) u i .keycount) (alike .nuggets)
+    ∙ sym (ap (λ (s : Shape). recordOf s u m .keycount) (shape-kept x (calls ++ later) .0)) ∙ sym (alike .keycounts)
+    ∙ ap (λ (s : Shape). recordOf s (history x calls .vol) n .keycount) (shape-kept x calls .0)) .1
 
 pub one-stretch-one-contents : OneStretchOneContents
 one-stretch-one-contents x calls later n f m g a b y z ha hb same =
@@ -186,6 +194,11 @@ one-tag-key-one-message x calls later n f m g y z same =
 check-for : (s : State) (old salt : List ℕ) (epoch : ℕ) → isChanging s ≡ true → checkFor s old salt epoch ≡ checkOf old salt epoch
 check-for Steady old salt epoch e = absurd (clash e refl)
 check-for (Changing left) old salt epoch e = refl
+
+-- "the 18 record bytes"
+record-long : {s : Shape} {v : List ℕ} (n : ℕ) → Lent s v → n < s .n → length (part (recordAt s n) (widthOf s) v) ≡ 18
+unfolding widthOf
+record-long {s} {v} n l h = length-part (recordAt s n) (widthOf s) v (record-room n l h)
 
 -- head and tree of a sound world
 module _ (w : World) (x : Sound w) where
@@ -222,7 +235,7 @@ module _ (w : World) (x : Sound w) where
         };
         leaf = λ n h. record {
           hash = good (leaves (d .n) + n) (omega (arith, big .some-leaves)) (omega (arith, big .enough-leaves, h)) ∙ made-leaf (shapeOf d) (w .vol) n h;
-          wide = (omega (arith, h, ok .few), length-part (recordAt n) 18 (w .vol) (omega (arith, lent .size, h)));
+          wide = (omega (arith, h, ok .few), record-long n lent h);
         };
         inner = λ i low high. record {
           hash = good i low (omega (arith, high)) ∙ made-inner (shapeOf d) (w .vol) i high;

@@ -32,7 +32,7 @@ use Rattle.history.proofs.Quiet.{Untouched}
 use Rattle.history.proofs.Taken.{Begins, Finishes}
 use Rattle.history.proofs.View.{kitOf, viewOf, ledgerOf}
 use Rattle.history.proofs.Heads.{headed, headed-record, headed-stored, headed-untouched, begin-fits, finish-fits}
-use Rattle.tree.specs.Path.{recordOf}
+use Rattle.records.specs.Record.{recordOf}
 
 pub record Sound (w : World) : Type 0 where
   -- nothing is altered
@@ -60,16 +60,16 @@ counter-room k h top = omega (arith, h, top)
 
 module _ (w : World) (x : Sound w) where
   -- nothing listed, no keycount risen
-  retired-same : (v : List ℕ) → ((n : ℕ) → recordOf v n ≡ recordOf (w .vol) n)
-      → w .retired + risen (w .drive .p) (w .drive .n) (recordOf (w .vol)) (recordOf v) ≡ w .retired
+  retired-same : (v : List ℕ) → ((n : ℕ) → recordOf (shapeOf (w .drive)) v n ≡ recordOf (shapeOf (w .drive)) (w .vol) n)
+      → w .retired + risen (w .drive .p) (w .drive .n) (recordOf (shapeOf (w .drive)) (w .vol)) (recordOf (shapeOf (w .drive)) v) ≡ w .retired
   retired-same v e =
-      let none = risen-none (w .drive .p) (w .drive .n) (recordOf (w .vol)) (recordOf v) (λ i h. ap (λ (r : Record). r .keycount) (e i)) in
+      let none = risen-none (w .drive .p) (w .drive .n) (recordOf (shapeOf (w .drive)) (w .vol)) (recordOf (shapeOf (w .drive)) v) (λ i h. ap (λ (r : Record). r .keycount) (e i)) in
       omega (arith, none)
 
   -- a call that is refused, or changes nothing
   module _ (after : ℕ → ℕ) (e : (a : ℕ) → after a ≡ w .contents a) where
     same-kept : Kept (kitOf (w .drive)) (ledgerOf w)
-        (viewOf (w .drive) (w .vol) (w .listing ++ []) (w .retired + risen (w .drive .p) (w .drive .n) (recordOf (w .vol)) (recordOf (w .vol))) after)
+        (viewOf (w .drive) (w .vol) (w .listing ++ []) (w .retired + risen (w .drive .p) (w .drive .n) (recordOf (shapeOf (w .drive)) (w .vol)) (recordOf (shapeOf (w .drive)) (w .vol))) after)
     same-kept =
         record {
           sameRecords = λ n h. refl;
@@ -108,9 +108,9 @@ module _ (w : World) (x : Sound w) where
     z = settled e (w .vol)
 
     pub after-head : Ledger
-    after-head = viewOf e z (w .listing ++ []) (w .retired + risen (d .p) (d .n) (recordOf (w .vol)) (recordOf z)) (w .contents)
+    after-head = viewOf e z (w .listing ++ []) (w .retired + risen (d .p) (d .n) (recordOf (shapeOf (w .drive)) (w .vol)) (recordOf (shapeOf (w .drive)) z)) (w .contents)
 
-    same-record : (n : ℕ) → recordOf z n ≡ recordOf (w .vol) n
+    same-record : (n : ℕ) → recordOf (shapeOf (w .drive)) z n ≡ recordOf (shapeOf (w .drive)) (w .vol) n
     same-record n = headed-record d (w .vol) (x .untouched) (x .handed .salt-long) state epoch counter present old n
 
     pub head-kept : Kept (kitOf d) (ledgerOf w) after-head

@@ -14,7 +14,7 @@ use Rattle.base.proofs.TabLaws.{tab-const}
 use Rattle.answers.specs.declared.Answer.the-variants as A
 use Rattle.answers.specs.Numbers.{accepts}
 use Rattle.layout.specs.declared.Shape.{Shape}
-use Rattle.layout.specs.Shape.{inLimits}
+use Rattle.layout.specs.Shape.{shape, inLimits}
 use Rattle.records.specs.declared.Record.{Record}
 use Rattle.records.specs.Journal.{bit}
 use Rattle.records.proofs.BitLaws.{bit-empty}
@@ -23,11 +23,11 @@ use Rattle.drive.specs.declared.Drive.{Drive}
 use Rattle.drive.specs.declared.Done.{Done}
 use Rattle.drive.specs.declared.State.{State}
 use Rattle.drive.specs.declared.State.the-variants.{Steady, Changing}
-use Rattle.drive.specs.Drive.{isChanging, keptOld}
+use Rattle.drive.specs.Drive.{shapeOf, isChanging, keptOld}
 use Rattle.opening.specs.Format.{freshRecord, planted, freshDrive, freshVolume, formatDone, formatVolume}
 use Rattle.opening.specs.Mount.{mountDone}
 use Rattle.opening.proofs.FormatLaws.{format-lent}
-use Rattle.opening.proofs.FreshLaws.{planted-fresh, fresh-opens, fresh-whole}
+use Rattle.opening.proofs.FreshLaws.{planted-fresh, fresh-opens, fresh-whole, fresh-by}
 use Rattle.opening.proofs.Reopens.{Handed, length-head, mounts-back}
 use Rattle.changes.specs.Laid.{over}
 use Rattle.changes.specs.Change.{settled}
@@ -46,36 +46,56 @@ use Rattle.history.proofs.Taken.{begins, sweeps, finishes, writes-some}
 use Rattle.history.proofs.View.{kitOf, viewOf, ledgerOf}
 use Rattle.history.proofs.Sound.{Sound, Keeps, same-keeps, begun-keeps, finished-keeps}
 use Rattle.history.proofs.Ways.{written-keeps, swept-keeps}
-use Rattle.tree.specs.Path.{recordOf}
+use Rattle.records.specs.Record.{recordOf}
 
 -- a fresh drive and volume
-module _ (s : Shape) (salt secret : List ℕ) (outside : ℕ) (salted : length salt ≡ 16) (limited : inLimits s ≡ true) where
+module _ (a p f : ℕ) (salt secret : List ℕ) (outside : ℕ) (salted : length salt ≡ 16) (limited : inLimits (shape a p f) ≡ true) where
+  abbrev s : Shape
+  s = shape a p f
+
   abbrev d : Drive
   d = freshDrive s salt secret outside
 
   abbrev v : List ℕ
   v = freshVolume s salt secret outside
 
-  fresh-record : (n : ℕ) → n < s .n → recordOf v n ≡ freshRecord
+  numbers-record : (n : ℕ) → n < a → recordOf (shapeOf d) v n ≡ freshRecord
   unfolding freshVolume freshDrive settled
-  fresh-record n h = settled-record s d (planted s) (length-head d salted) n ∙ planted-fresh s limited n h
+  numbers-record n h = settled-record s d (planted s) (length-head d salted) n ∙ planted-fresh s limited n h
 
-  fresh-untouched : Untouched d v
+  numbers-untouched : Untouched d v
   unfolding freshDrive
-  fresh-untouched =
+  numbers-untouched =
       let whole = fresh-whole s salt secret outside salted limited in
       record {
         opens = fresh-opens s salt secret outside salted limited;
         good = whole-good s 1 false v whole;
         well = whole-formed s 1 false v whole;
-        tags = λ n f h l on. absurd (clash on (ap (λ (r : Record). bit (r .journal) f) (fresh-record n h) ∙ bit-empty f));
+        tags = λ n f h l on. absurd (clash on (ap (λ (r : Record). bit (r .journal) f) (numbers-record n h) ∙ bit-empty f));
       }
 
-  fresh-inv : Inv (kitOf d) (viewOf d v [] 0 (λ a. 0))
+  numbers-inv : Inv (kitOf d) (viewOf d v [] 0 (λ a. 0))
   unfolding freshDrive plainIn
-  fresh-inv =
+  numbers-inv =
       starts (kitOf d) (viewOf d v [] 0 (λ a. 0))
-      (record { empty = fresh-record; zeros = λ n f h l. tab-const (s .f) 0; unlisted = refl; unretired = refl })
+      (record { empty = numbers-record; zeros = λ n f h l. tab-const (s .f) 0; unlisted = refl; unretired = refl })
+
+-- of any shape that was accepted
+module _ (s : Shape) (salt secret : List ℕ) (outside : ℕ) (salted : length salt ≡ 16) (limited : inLimits s ≡ true) where
+  fresh-record : (n : ℕ) → n < s .n → recordOf (shapeOf (freshDrive s salt secret outside)) (freshVolume s salt secret outside) n ≡ freshRecord
+  fresh-record =
+      fresh-by (λ (z : Shape). (n : ℕ) → n < z .n → recordOf (shapeOf (freshDrive z salt secret outside)) (freshVolume z salt secret outside) n ≡ freshRecord) s limited
+      (λ a p f l. numbers-record a p f salt secret outside salted l)
+
+  fresh-untouched : Untouched (freshDrive s salt secret outside) (freshVolume s salt secret outside)
+  fresh-untouched =
+      fresh-by (λ (z : Shape). Untouched (freshDrive z salt secret outside) (freshVolume z salt secret outside)) s limited
+      (λ a p f l. numbers-untouched a p f salt secret outside salted l)
+
+  fresh-inv : Inv (kitOf (freshDrive s salt secret outside)) (viewOf (freshDrive s salt secret outside) (freshVolume s salt secret outside) [] 0 (λ a. 0))
+  fresh-inv =
+      fresh-by (λ (z : Shape). Inv (kitOf (freshDrive z salt secret outside)) (viewOf (freshDrive z salt secret outside) (freshVolume z salt secret outside) [] 0 (λ a. 0))) s limited
+      (λ a p f l. numbers-inv a p f salt secret outside salted l)
 
 -- "Begin with one accepted format"
 pub start-sound : (x : Start) → Sound (begun x)
@@ -96,8 +116,8 @@ pub begun-drive : (x : Start) → begun x .drive ≡ freshDrive (x .shape) (x .s
 unfolding begun formatDone
 begun-drive x = rw (x .accepted) refl
 
-pub begun-record : (x : Start) (n : ℕ) → n < x .shape .n → recordOf (begun x .vol) n ≡ freshRecord
-unfolding begun formatVolume
+pub begun-record : (x : Start) (n : ℕ) → n < x .shape .n → recordOf (shapeOf (begun x .drive)) (begun x .vol) n ≡ freshRecord
+unfolding begun formatDone formatVolume
 begun-record x n h =
     let (lent, top) = format-lent (x .shape) (x .outside) (x .given) (ap accepts (x .accepted)) in
     rw (x .accepted) (fresh-record (x .shape) (x .salt) (x .secret) (x .outside) (x .salted) (lent .limited) n h)

@@ -11,12 +11,13 @@ use Rattle.base.specs.Lists.{same}
 use Rattle.answers.specs.declared.Answer.{Answer}
 use Rattle.answers.specs.declared.Answer.the-variants as A
 use Rattle.answers.specs.Numbers.{numberOf}
+use Rattle.drive.specs.Drive.{shapeOf}
 use Rattle.drive.specs.declared.Done.{Done}
 use Rattle.opening.specs.Mount.{mountDone}
 use Rattle.reading.proofs.Exact.{read-exact}
 use Rattle.reports.proofs.Exact.{stored-exact}
 use Rattle.changes.proofs.Exact.{Clean, write-exact, begin-exact, sweep-exact, finish-exact}
-use Rattle.tree.specs.Path.{recordOf}
+use Rattle.records.specs.Record.{recordOf}
 use Rattle.history.specs.World.{World, Call, mount, read, write, begin, sweep, finish, report, stored}
 use Rattle.history.specs.Step.{answerTo}
 use Rattle.history.specs.History.{history}
@@ -33,7 +34,7 @@ module _ (w : World) (x : Sound w) where
         opens = x .untouched .opens;
         paths = path-quiet (w .drive) (w .vol) (x .untouched);
         whole = whole-quiet (w .drive) (w .vol) (x .untouched);
-        flakes = λ n h. flakes-quiet (w .drive) (w .vol) (x .untouched) n (recordOf (w .vol) n .journal) h (λ f e. e);
+        flakes = λ n h. flakes-quiet (w .drive) (w .vol) (x .untouched) n (recordOf (shapeOf (w .drive)) (w .vol) n .journal) h (λ f e. e);
         counted = omega (arith, x .handed .counter-lt);
         below = x .inv .below;
       }

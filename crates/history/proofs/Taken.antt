@@ -26,7 +26,7 @@ use Rattle.changes.specs.Change.{testedTo}
 use Rattle.changes.specs.Write.{writeWay, writeAnswer}
 use Rattle.changes.specs.Rekey.{epochTop, beginAnswer, sweepAnswer, leftIn, finishAnswer}
 use Rattle.changes.proofs.SpanLaws.{tested-each, change-room}
-use Rattle.tree.specs.Path.{recordOf}
+use Rattle.records.specs.Record.{recordOf}
 use Rattle.history.proofs.Counts.{many-all}
 
 pub record Begins (d : Drive) : Type 0 where
@@ -48,7 +48,7 @@ pub record Sweeps (d : Drive) (v : List ℕ) (n : ℕ) : Type 0 where
   pub changing : isChanging (d .state) ≡ true
   pub inside : n < d .n
   pub counter-low : d .counter ≡ counterTop → ⊥
-  pub room : atTop sweepWay (recordOf v n) ≡ false
+  pub room : atTop sweepWay (recordOf (shapeOf d) v n) ≡ false
 
 pub sweeps : (d : Drive) (v : List ℕ) (n : ℕ) → accepts (sweepAnswer d v n) ≡ true → Sweeps d v n
 unfolding sweepAnswer
@@ -57,9 +57,9 @@ sweeps d v n e =
     let t₂ = passed (isChanging (d .state)) _ A.State refl (t₁ .1) in
     let t₃ = passed (ltb n (d .n)) _ A.PastEnd refl (t₂ .1) in
     let t₄ = both-stages (pathFor d v n) _ (t₃ .1) in
-    let t₅ = spared (eqb (recordOf v n .epoch) (d .epoch)) A.Moved _ refl (t₄ .1) in
+    let t₅ = spared (eqb (recordOf (shapeOf d) v n .epoch) (d .epoch)) A.Moved _ refl (t₄ .1) in
     let t₆ = spared (eqb (d .counter) counterTop) A.CounterTop _ refl (t₅ .1) in
-    let t₇ = spared (atTop sweepWay (recordOf v n)) A.KeycountTop _ refl (t₆ .1) in
+    let t₇ = spared (atTop sweepWay (recordOf (shapeOf d) v n)) A.KeycountTop _ refl (t₆ .1) in
     record {
       changing = t₂ .0;
       inside = ltb-true n (d .n) (t₃ .0);
@@ -69,7 +69,7 @@ sweeps d v n e =
 
 pub record Finishes (d : Drive) (v : List ℕ) : Type 0 where
   pub changing : isChanging (d .state) ≡ true
-  pub moved : (n : ℕ) → n < d .n → recordOf v n .epoch ≡ d .epoch
+  pub moved : (n : ℕ) → n < d .n → recordOf (shapeOf d) v n .epoch ≡ d .epoch
   pub counter-low : d .counter ≡ counterTop → ⊥
 
 pub finishes : (d : Drive) (v : List ℕ) → accepts (finishAnswer d v) ≡ true → Finishes d v
@@ -80,17 +80,17 @@ finishes d v e =
     let t₃ = both-stages (wholeOf (shapeOf d) (d .epoch) (isChanging (d .state)) v) _ (t₂ .1) in
     let t₄ = spared (ltb 0 (leftIn d v)) (A.Left (leftIn d v)) _ refl (t₃ .1) in
     let t₅ = spared (eqb (d .counter) counterTop) A.CounterTop _ refl (t₄ .1) in
-    let all : movedIn (d .epoch) v (d .n) ≡ d .n = omega (arith, ltb-false 0 (leftIn d v) (t₄ .0), many-le (d .n) (isMoved (d .epoch) v)) in
+    let all : movedIn (shapeOf d) (d .epoch) v (d .n) ≡ d .n = omega (arith, ltb-false 0 (leftIn d v) (t₄ .0), many-le (d .n) (isMoved (shapeOf d) (d .epoch) v)) in
     record {
       changing = t₂ .0;
-      moved = λ n h. eqb-true (recordOf v n .epoch) (d .epoch) (many-all (d .n) (isMoved (d .epoch) v) all n h);
+      moved = λ n h. eqb-true (recordOf (shapeOf d) v n .epoch) (d .epoch) (many-all (d .n) (isMoved (shapeOf d) (d .epoch) v) all n h);
       counter-low = eqb-false (d .counter) counterTop (t₅ .0);
     }
 
 pub record Writes (d : Drive) (v : List ℕ) (o len : ℕ) : Type 0 where
   pub inside : o + len ≤ capacity (shapeOf d)
   pub counter-low : d .counter ≡ counterTop → ⊥
-  pub room : (n : ℕ) → n < d .n → atTop (writeWay d v o len n) (recordOf v n) ≡ false
+  pub room : (n : ℕ) → n < d .n → atTop (writeWay d v o len n) (recordOf (shapeOf d) v n) ≡ false
 
 pub writes-some : (d : Drive) (v : List ℕ) (o len : ℕ) → 0 < len → accepts (writeAnswer d v o len) ≡ true → Writes d v o len
 unfolding writeAnswer

@@ -10,7 +10,9 @@ use Rattle.answers.specs.Numbers.{accepts}
 use Rattle.answers.proofs.StageLaws.{passed, spared}
 use Rattle.base.specs.Pick.{pick}
 use Rattle.records.specs.Journal.{many, present}
-use Rattle.tree.specs.Path.{recordOf}
+use Rattle.layout.specs.declared.Shape.{Shape}
+use Rattle.records.specs.Record.{recordOf}
+use Rattle.drive.specs.Drive.{shapeOf}
 use Rattle.drive.specs.declared.Drive.{Drive}
 use Rattle.reports.proofs.Exact.{doneIn, report-exact}
 use Rattle.ledger.specs.Totals.{sum}
@@ -28,10 +30,10 @@ use Rattle.history.proofs.Demands.{flakes-sum}
 use Rattle.history.proofs.Moves.{sweep-tells, sweep-leaves, swept-own, swept-other}
 
 -- the report's count of flakes done is the ledger's sum
-done-sum : (p e : ℕ) (v : List ℕ) (n : ℕ) → sum n (λ i. pick (eqb (recordOf v i .epoch) e) (present p (recordOf v i .journal)) 0) ≡ doneIn p e v n
+done-sum : (s : Shape) (p e : ℕ) (v : List ℕ) (n : ℕ) → sum n (λ i. pick (eqb (recordOf s v i .epoch) e) (present p (recordOf s v i .journal)) 0) ≡ doneIn s p e v n
 unfolding doneIn sum
-done-sum p e v zero = refl
-done-sum p e v (suc n) = rw (done-sum p e v n)
+done-sum s p e v zero = refl
+done-sum s p e v (suc n) = rw (done-sum s p e v n)
 
 tells : (w : World) → Sound w → Tells w (reportOn w)
 tells w x =
@@ -41,8 +43,8 @@ tells w x =
       nuggets = t .n-told;
       moved = t .moved-told;
       left = t .left-told;
-      flakes = t .flakes-told ∙ sym (flakes-sum (w .drive .p) (w .vol) (w .drive .n));
-      done = t .done-told ∙ sym (done-sum (w .drive .p) (w .drive .epoch) (w .vol) (w .drive .n));
+      flakes = t .flakes-told ∙ sym (flakes-sum (shapeOf (w .drive)) (w .drive .p) (w .vol) (w .drive .n));
+      done = t .done-told ∙ sym (done-sum (shapeOf (w .drive)) (w .drive .p) (w .drive .epoch) (w .vol) (w .drive .n));
       share = t .share-told;
       empty = t .empty-told;
     }
@@ -69,7 +71,7 @@ module _ (w : World) (x : Sound w) (n : ℕ) (e : answerTo w (sweep n) ≡ A.Acc
   moves : many (w .drive .n) (hasMoved (step w (sweep n))) ≡ many (w .drive .n) (hasMoved w) + 1
   moves =
       many-one (w .drive .n) (hasMoved w) (hasMoved (step w (sweep n))) n (sweep-tells w x n e .inside) still
-      (eq-eqb (recordOf (step w (sweep n) .vol) n .epoch) (step w (sweep n) .drive .epoch) (swept-own w x n e ∙ sym epoch-kept))
+      (eq-eqb (recordOf (shapeOf (step w (sweep n) .drive)) (step w (sweep n) .vol) n .epoch) (step w (sweep n) .drive .epoch) (swept-own w x n e ∙ sym epoch-kept))
       (λ i a b. rw (swept-other w x n e i a b, epoch-kept) refl)
 
   sweep-raises : reportOn (step w (sweep n)) .moved ≡ reportOn w .moved + 1

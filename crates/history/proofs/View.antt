@@ -13,7 +13,7 @@ use Rattle.ledger.specs.Invariant.{Inv}
 use Rattle.ledger.proofs.Theorems.{finds}
 use Rattle.history.specs.World.{World}
 use Rattle.history.specs.Demands.{plainIn}
-use Rattle.tree.specs.Path.{recordOf}
+use Rattle.records.specs.Record.{recordOf}
 
 -- the pad of an entry is ChaCha20's under the key of its nugget
 abbrev pub kitOf : Drive → Kit
@@ -28,7 +28,7 @@ viewOf d v listing retired contents =
       counter = d .counter;
       present = d .present;
       old = d .old;
-      records = recordOf v;
+      records = recordOf (shapeOf d) v;
       stored = storedIn (shapeOf d) v;
       plain = plainIn (shapeOf d) contents;
       listing = listing;

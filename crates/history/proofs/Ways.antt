@@ -36,7 +36,7 @@ use Rattle.history.proofs.Taken.{Sweeps, Writes}
 use Rattle.history.proofs.View.{reads-plain}
 use Rattle.history.proofs.Sound.{Sound, Keeps, plain-same}
 use Rattle.history.proofs.Changed.{Ready, worked-turns, worked-keeps}
-use Rattle.tree.specs.Path.{recordOf}
+use Rattle.records.specs.Record.{recordOf}
 
 -- bytes laid over what was written to a flake
 written-plain : (s : Shape) (o : ℕ) (bytes : List ℕ) (n f : ℕ) (contents : ℕ → ℕ)
@@ -86,13 +86,13 @@ module _ (w : World) (x : Sound w) where
     unfolding touchedOf
     off n f h e =
         let t = touchedOf (shapeOf (w .drive)) o (length bytes) n in
-        let q : bit t f ≡ false = rw (way-touched (recordOf (w .vol) n) t (w .drive .epoch)) at e in
+        let q : bit t f ≡ false = rw (way-touched (recordOf (shapeOf (w .drive)) (w .vol) n) t (w .drive .epoch)) at e in
         sym (both-on (lt-ltb f (w .drive .p) h) refl) ∙ sym (bit-with (w .drive .p) (meets (shapeOf (w .drive)) o (length bytes) n) f) ∙ q
 
     ready : Ready w x ways (newContents (w .drive) (w .vol) o bytes) after
     ready =
         record {
-          fits = λ n h. write-fits (w .drive .p) (w .drive .epoch) (recordOf (w .vol) n) (touchedOf (shapeOf (w .drive)) o (length bytes) n) (touched-low n);
+          fits = λ n h. write-fits (w .drive .p) (w .drive .epoch) (recordOf (shapeOf (w .drive)) (w .vol) n) (touchedOf (shapeOf (w .drive)) o (length bytes) n) (touched-low n);
           room = b .room;
           low = b .counter-low;
           news = λ n f h l.
@@ -102,8 +102,8 @@ module _ (w : World) (x : Sound w) where
           rest = λ n f h l e. plain-after n f ∙ missed-plain (shapeOf (w .drive)) o bytes n f (w .contents) (off n f l e);
         }
 
-    pub written-turns : (n : ℕ) → n < w .drive .n → recordOf (settled (writtenDrive (w .drive) (w .vol) o bytes) (writeWork (w .drive) (w .vol) o bytes)) n
-        ≡ turned (ways n) (w .drive .epoch) (recordOf (w .vol) n)
+    pub written-turns : (n : ℕ) → n < w .drive .n → recordOf (shapeOf (w .drive)) (settled (writtenDrive (w .drive) (w .vol) o bytes) (writeWork (w .drive) (w .vol) o bytes)) n
+        ≡ turned (ways n) (w .drive .epoch) (recordOf (shapeOf (w .drive)) (w .vol) n)
     written-turns n h = worked-turns w x ways (newContents (w .drive) (w .vol) o bytes) after ready n h
 
     pub written-keeps : Keeps w (left w (writtenDrive (w .drive) (w .vol) o bytes) (settled (writtenDrive (w .drive) (w .vol) o bytes) (writeWork (w .drive) (w .vol) o bytes))
@@ -114,19 +114,19 @@ module _ (w : World) (x : Sound w) where
     sweep-ready : Ready w x (sweepWays n) (contentsOf (w .drive) (w .vol)) (w .contents)
     sweep-ready =
         record {
-          fits = λ m h. sweep-fits (w .drive .p) (w .drive .epoch) (recordOf (w .vol) m) (eqb m n);
+          fits = λ m h. sweep-fits (w .drive .p) (w .drive .epoch) (recordOf (shapeOf (w .drive)) (w .vol) m) (eqb m n);
           room = λ m h. space m (told (eqb m n));
           low = b .counter-low;
           news = λ m f h l. reads-plain (w .drive) (w .vol) (w .listing) (w .retired) (w .contents) (x .inv) m f h l;
           rest = λ m f h l e. refl;
         }
       where
-        space : (m : ℕ) → (eqb m n ≡ true) ⊎ (eqb m n ≡ false) → atTop (sweepWays n m) (recordOf (w .vol) m) ≡ false
+        space : (m : ℕ) → (eqb m n ≡ true) ⊎ (eqb m n ≡ false) → atTop (sweepWays n m) (recordOf (shapeOf (w .drive)) (w .vol) m) ≡ false
         space m (inl e) = rw (e, eqb-true m n e) (b .room)
-        space m (inr e) = rw e (idle-room (recordOf (w .vol) m))
+        space m (inr e) = rw e (idle-room (recordOf (shapeOf (w .drive)) (w .vol) m))
 
-    pub swept-turns : (m : ℕ) → m < w .drive .n → recordOf (settled (sweptDrive (w .drive) (w .vol) n) (sweepWork (w .drive) (w .vol) n)) m
-        ≡ turned (sweepWays n m) (w .drive .epoch) (recordOf (w .vol) m)
+    pub swept-turns : (m : ℕ) → m < w .drive .n → recordOf (shapeOf (w .drive)) (settled (sweptDrive (w .drive) (w .vol) n) (sweepWork (w .drive) (w .vol) n)) m
+        ≡ turned (sweepWays n m) (w .drive .epoch) (recordOf (shapeOf (w .drive)) (w .vol) m)
     swept-turns m h = worked-turns w x (sweepWays n) (contentsOf (w .drive) (w .vol)) (w .contents) sweep-ready m h
 
     pub swept-keeps : Keeps w (left w (sweptDrive (w .drive) (w .vol) n) (settled (sweptDrive (w .drive) (w .vol) n) (sweepWork (w .drive) (w .vol) n))

@@ -15,9 +15,9 @@ use Rattle.answers.specs.Numbers.{accepts}
 use Rattle.layout.specs.Spots.{capacity}
 use Rattle.records.specs.Rule.{turned}
 use Rattle.drive.specs.Drive.{shapeOf, counterTop}
-use Rattle.tree.specs.Path.{recordOf}
+use Rattle.records.specs.Record.{recordOf}
 use Rattle.changes.specs.Laid.{over}
-use Rattle.changes.specs.Change.{padsFor}
+use Rattle.changes.specs.Change.{padsFor, advanced}
 use Rattle.changes.specs.Write.{writeWay, writes, writtenDrive, writeDone, writeVolume, writePads}
 use Rattle.history.specs.World.{World, write}
 use Rattle.history.specs.Step.{answerTo, left, step}
@@ -49,8 +49,8 @@ module _ (w : World) (x : Sound w) (low : w .drive .counter < counterTop) where
 
       -- each record is the one turned in its nugget's way
       pub written-record : (n : ℕ) → n < w .drive .n
-          → recordOf (step w (write o bytes) .vol) n ≡ turned (writeWay (w .drive) (w .vol) o (length bytes) n) (w .drive .epoch) (recordOf (w .vol) n)
-      unfolding step left writeVolume
+          → recordOf (shapeOf (step w (write o bytes) .drive)) (step w (write o bytes) .vol) n ≡ turned (writeWay (w .drive) (w .vol) o (length bytes) n) (w .drive .epoch) (recordOf (shapeOf (w .drive)) (w .vol) n)
+      unfolding step left writeVolume writeDone advanced
       written-record n h =
           rw taken
           (written-turns w x o bytes (writes-some (w .drive) (w .vol) o (length bytes) some (ap accepts write-accepted)) (λ a. over o bytes a (w .contents a)) (λ a. refl) n h)

@@ -17,8 +17,8 @@ use Rattle.answers.specs.declared.Answer.the-variants as A
 use Rattle.answers.specs.Numbers.{accepts}
 use Rattle.records.specs.Journal.{bit, many}
 use Rattle.records.specs.Listing.{Entry}
-use Rattle.tree.specs.Path.{recordOf}
-use Rattle.drive.specs.Drive.{isChanging}
+use Rattle.records.specs.Record.{recordOf}
+use Rattle.drive.specs.Drive.{shapeOf, isChanging}
 use Rattle.opening.specs.Mount.{mountAnswer, mountDone}
 use Rattle.reports.specs.declared.told.Report.{Report}
 use Rattle.reports.specs.Report.{reportOf}
@@ -42,7 +42,7 @@ changing w = isChanging (w .drive .state)
 
 -- "moved (epoch equal to the head's)", and left: not so
 abbrev pub hasMoved : World → ℕ → Bool
-hasMoved w n = eqb (recordOf (w .vol) n .epoch) (w .drive .epoch)
+hasMoved w n = eqb (recordOf (shapeOf (w .drive)) (w .vol) n .epoch) (w .drive .epoch)
 
 abbrev pub isLeft : World → ℕ → Bool
 isLeft w n = not (hasMoved w n)
@@ -168,7 +168,7 @@ OldSecretFree =
     (start : Start) (calls : List Call)
     → let w = history start calls in
     changing w ≡ false
-    → ((n f : ℕ) (pad : Entry) → n < w .drive .n → bit (recordOf (w .vol) n .journal) f ≡ true → lastOf n f (w .listing) ≡ some pad → pad .secret ≡ w .secret)
+    → ((n f : ℕ) (pad : Entry) → n < w .drive .n → bit (recordOf (shapeOf (w .drive)) (w .vol) n .journal) f ≡ true → lastOf n f (w .listing) ≡ some pad → pad .secret ≡ w .secret)
     × ((any : List ℕ) → mountDone (w .vol) (w .secret) any (w .outside) ≡ record { answer = A.Accepted; drive = w .drive })
 
 -- "Seal: keyed with the present secret, `H`, head bytes 0-71, node 1."
@@ -220,8 +220,8 @@ pub record Tells (w : World) (r : Report) : Type 0 where
   pub nuggets : r .n ≡ w .drive .n
   pub moved : r .moved ≡ many (w .drive .n) (hasMoved w)
   pub left : r .left ≡ nuggetsLeft w
-  pub flakes : r .flakes ≡ sum (w .drive .n) (λ n. many (w .drive .p) (bit (recordOf (w .vol) n .journal)))
-  pub done : r .done ≡ sum (w .drive .n) (λ n. pick (hasMoved w n) (many (w .drive .p) (bit (recordOf (w .vol) n .journal))) 0)
+  pub flakes : r .flakes ≡ sum (w .drive .n) (λ n. many (w .drive .p) (bit (recordOf (shapeOf (w .drive)) (w .vol) n .journal)))
+  pub done : r .done ≡ sum (w .drive .n) (λ n. pick (hasMoved w n) (many (w .drive .p) (bit (recordOf (shapeOf (w .drive)) (w .vol) n .journal))) 0)
   pub share : (r .flakes ≡ 0 → ⊥) → r .share ≡ min (pick (eqb (r .left) 0) 10000 9999) (r .done * 10000 / r .flakes)
   pub empty : r .flakes ≡ 0 → r .share ≡ r .moved * 10000 / r .n
 

@@ -27,7 +27,7 @@ use Rattle.ledger.specs.Listing.{lastOf, NoneTwice}
 use Rattle.history.specs.World.{World, Call, read, write}
 use Rattle.history.specs.Step.{oldFor, answerTo, step, changesBy, writesAt}
 use Rattle.history.specs.History.{Start, begun, history, among}
-use Rattle.tree.specs.Path.{recordOf}
+use Rattle.records.specs.Record.{recordOf}
 
 -- The drive keeps the shape and the salt of its format; so nothing below speaks of a smaller or another drive.
 abbrev pub ShapeKept : Type 0
@@ -68,7 +68,7 @@ abbrev pub EntriesListed : Type 0
 EntriesListed =
     (start : Start) (calls : List Call)
     → let w = history start calls in
-    length (w .listing) ≡ flakesIn (w .drive .p) (w .vol) (w .drive .n) + w .retired
+    length (w .listing) ≡ flakesIn (shapeOf (w .drive)) (w .drive .p) (w .vol) (w .drive .n) + w .retired
 
 -- the F bytes last written to a flake, by the contents of all offsets
 unfoldable pub plainIn : Shape → (ℕ → ℕ) → ℕ → ℕ → List ℕ
@@ -81,8 +81,8 @@ pub record LastPad (w : World) (n f : ℕ) : Type 0 where
   pub last : lastOf n f (w .listing) ≡ some pad
   pub laid : storedIn (shapeOf (w .drive)) (w .vol) n f
       ≡ under (nuggetKey (pad .secret) (w .drive .salt) n) (pad .keycount) f (w .drive .f) (plainIn (shapeOf (w .drive)) (w .contents) n f)
-  pub secret : pad .secret ≡ secretFor (w .drive) (recordOf (w .vol) n .epoch)
-  pub keycount : pad .keycount ≡ recordOf (w .vol) n .keycount
+  pub secret : pad .secret ≡ secretFor (w .drive) (recordOf (shapeOf (w .drive)) (w .vol) n .epoch)
+  pub keycount : pad .keycount ≡ recordOf (shapeOf (w .drive)) (w .vol) n .keycount
   pub tagged : part (tagAt (shapeOf (w .drive)) n f) 16 (w .vol)
       ≡ poly1305 (tagKey (nuggetKey (pad .secret) (w .drive .salt) n) f (pad .keycount)) (storedIn (shapeOf (w .drive)) (w .vol) n f)
 
@@ -91,7 +91,7 @@ abbrev pub UnderLastPad : Type 0
 UnderLastPad =
     (start : Start) (calls : List Call) (n f : ℕ)
     → let w = history start calls in
-    n < w .drive .n → f < w .drive .p → bit (recordOf (w .vol) n .journal) f ≡ true → LastPad w n f
+    n < w .drive .n → f < w .drive .p → bit (recordOf (shapeOf (w .drive)) (w .vol) n .journal) f ≡ true → LastPad w n f
 
 -- 5. "An image this drive left before its last accepted change never mounts against the present outside counter."
 -- Whatever secrets are brought.

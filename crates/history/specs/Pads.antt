@@ -21,8 +21,8 @@ use Rattle.blake2s.specs.Hash.{blake2s}
 use Rattle.keys.specs.Keys.{nuggetKey, tagKey}
 use Rattle.keys.specs.Pads.{Stretch, inputOf, padOf}
 use Rattle.nodes.specs.Nodes.{nodeIn, recordPart, tagsPart}
-use Rattle.drive.specs.Drive.{isChanging}
-use Rattle.tree.specs.Path.{recordOf}
+use Rattle.drive.specs.Drive.{shapeOf, isChanging}
+use Rattle.records.specs.Record.{recordOf}
 use Rattle.nuggets.specs.Nugget.{secretFor, storedIn}
 use Rattle.history.specs.World.{World, Call}
 use Rattle.history.specs.History.{Start, history}
@@ -95,7 +95,7 @@ NoTagKeyTwice =
 pub record Present (s : Shape) (v : List ℕ) (n f : ℕ) : Type 0 where
   pub nugget : n < s .n
   pub flake : f < s .p
-  pub on : bit (recordOf v n .journal) f ≡ true
+  pub on : bit (recordOf s v n .journal) f ≡ true
 
 -- One pad, one contents: as long as a nugget keeps its keycount, a flake present stays present, and stays to the byte. So
 -- nothing is laid anew under a pad that was laid before, listed or not.
@@ -105,11 +105,11 @@ OnePadOneContents =
     → let s = start .shape in
     let v = history start calls .vol in
     let u = history start (calls ++ later) .vol in
-    Present s v n f → recordOf u n .keycount ≡ recordOf v n .keycount → Present s u n f × (storedIn s u n f ≡ storedIn s v n f)
+    Present s v n f → recordOf s u n .keycount ≡ recordOf s v n .keycount → Present s u n f × (storedIn s u n f ≡ storedIn s v n f)
 
 -- what a present flake lies under, by its nugget's record; by `LastPad` this is the pad last listed for it
 abbrev pub liesUnder : World → ℕ → ℕ → Entry
-liesUnder w n f = entry n (recordOf (w .vol) n .keycount) f (secretFor (w .drive) (recordOf (w .vol) n .epoch))
+liesUnder w n f = entry n (recordOf (shapeOf (w .drive)) (w .vol) n .keycount) f (secretFor (w .drive) (recordOf (shapeOf (w .drive)) (w .vol) n .epoch))
 
 -- The auditor's question, of what stands in the volume at any two points of a history: two present flakes under stretches of
 -- keystream made of the same are one flake with the same stored bytes, at one place of it.
@@ -144,7 +144,7 @@ pub record HashOf (value key : List ℕ) (m : Message) : Type 0 where
 pub record Hashed (s : Shape) (w : World) (v : List ℕ) : Type 0 where
   pub seal : HashOf (part 72 32 v) (w .secret) (forSeal (part 0 72 v) (nodeIn s v 1))
   pub check : isChanging (w .drive .state) ≡ true → HashOf (part 40 32 v) (w .old) (forCheck (w .drive .salt) (w .drive .epoch))
-  pub leaf : (n : ℕ) → n < s .n → HashOf (nodeIn s v (leaves (s .n) + n)) [] (forLeaf n (recordPart v n) (tagsPart s v n))
+  pub leaf : (n : ℕ) → n < s .n → HashOf (nodeIn s v (leaves (s .n) + n)) [] (forLeaf n (recordPart s v n) (tagsPart s v n))
   pub inner : (i : ℕ) → 1 ≤ i → i < leaves (s .n) → HashOf (nodeIn s v i) [] (forInner (nodeIn s v (2 * i)) (nodeIn s v (2 * i + 1)))
 
 -- So they stand at every point of a history.

@@ -9,7 +9,7 @@ use Rattle.answers.specs.declared.Answer.{Answer}
 use Rattle.answers.specs.Numbers.{accepts}
 use Rattle.records.specs.Listing.{Entry}
 use Rattle.drive.specs.declared.Drive.{Drive}
-use Rattle.drive.specs.Drive.{isChanging}
+use Rattle.drive.specs.Drive.{shapeOf, isChanging}
 use Rattle.opening.specs.Mount.{mountAnswer, mountDone}
 use Rattle.reading.specs.Read.{readAnswer}
 use Rattle.reports.specs.Report.{reportAnswer}
@@ -19,7 +19,7 @@ use Rattle.changes.specs.Write.{writeAnswer, writes, writeDone, writeVolume, wr
 use Rattle.changes.specs.Rekey.{beginAnswer, beginDone, beginVolume, sweepAnswer, sweepDone, sweepVolume, sweepPads, finishAnswer, finishDone, finishVolume}
 use Rattle.ledger.specs.Totals.{risen}
 use Rattle.history.specs.World.{World, Call, mount, read, write, begin, sweep, finish, report, stored}
-use Rattle.tree.specs.Path.{recordOf}
+use Rattle.records.specs.Record.{recordOf}
 
 -- "Mount takes both secrets (the old one unused when steady)": the right one while changing, anything when steady
 abbrev pub oldFor : World → List ℕ → List ℕ
@@ -47,7 +47,7 @@ left w drive vol pads secret old contents =
       old = old;
       outside = drive .counter;
       listing = w .listing ++ pads;
-      retired = w .retired + risen (w .drive .p) (w .drive .n) (recordOf (w .vol)) (recordOf vol);
+      retired = w .retired + risen (w .drive .p) (w .drive .n) (recordOf (shapeOf (w .drive)) (w .vol)) (recordOf (shapeOf drive) vol);
       contents = contents;
     }
 

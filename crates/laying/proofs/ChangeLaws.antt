@@ -9,7 +9,7 @@ use Rattle.layout.specs.declared.Shape.{Shape}
 use Rattle.layout.specs.Parts.{recordAt}
 use Rattle.records.specs.declared.Record.{Record}
 use Rattle.records.specs.declared.Way.{Way}
-use Rattle.records.specs.Record.{recordIn, recordBytes}
+use Rattle.records.specs.Record.{recordBytes, recordOf}
 use Rattle.records.specs.Rule.{turned, atTop}
 use Rattle.tree.specs.Renewed.{renewed}
 use Rattle.drive.specs.declared.Drive.{Drive}
@@ -17,23 +17,22 @@ use Rattle.drive.specs.Drive.{shapeOf, keptOld}
 use Rattle.drive.specs.Head.{headOf}
 use Rattle.nodes.specs.Nodes.{nodeIn}
 use Rattle.changes.specs.Change.{idles, marked, tended, advanced, settled}
-use Rattle.tree.specs.Path.{recordOf}
 
 -- the record that was read
-pub read-is : (v : List ℕ) (n : ℕ) {at : ℕ} {r : Record} → r ≡ recordIn at v → at ≡ recordAt n → r ≡ recordOf v n
-read-is v n e a = e ∙ ap (λ (x : ℕ). recordIn x v) a
+pub read-is : (v : List ℕ) (n : ℕ) {z s : Shape} {r : Record} → r ≡ recordOf z v n → z ≡ s → r ≡ recordOf s v n
+read-is v n e a = e ∙ ap (λ (x : Shape). recordOf x v n) a
 
 pub top-not : (way : Way) {r s : Record} → r ≡ s → atTop way s ≡ false → atTop way r ≡ false
 top-not way e h = ap (λ (x : Record). atTop way x) e ∙ h
 
 -- an idle nugget's record stays; another's is stored
-module _ (head : ℕ) (way : Way) (r : Record) (n : ℕ) (v : List ℕ) where
-  pub marked-not : idles way ≡ true → v ≡ marked head way r n v
+module _ (s : Shape) (head : ℕ) (way : Way) (r : Record) (n : ℕ) (v : List ℕ) where
+  pub marked-not : idles way ≡ true → v ≡ marked s head way r n v
   unfolding marked
   marked-not h = sym (yes _ h refl)
 
-  pub marked-is : {at : ℕ} {was after : Record} {w : List ℕ} → idles way ≡ false → at ≡ recordAt n → was ≡ r → after ≡ turned way head was
-      → w ≡ sets v at (recordBytes after) → w ≡ marked head way r n v
+  pub marked-is : {z : Shape} {was after : Record} {w : List ℕ} → idles way ≡ false → z ≡ s → was ≡ r → after ≡ turned way head was
+      → w ≡ sets v (recordAt z n) (recordBytes z after) → w ≡ marked s head way r n v
   unfolding marked
   marked-is h ea er et ew = ew ∙ rw (ea, et, er) (sym (no _ h refl))
 

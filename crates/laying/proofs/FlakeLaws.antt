@@ -37,7 +37,7 @@ use Rattle.changes.proofs.LaidLaws.{laid-append, length-laid, length-under, Lon
 use Rattle.changes.proofs.PadsLaws.{laid-stored, before-far}
 use Rattle.laying.specs.Flake.{openedFlake, overlaid, anew, readied}
 use Rattle.laying.proofs.OverLaws.{length-overlaid, readied-same}
-use Rattle.tree.specs.Path.{recordOf}
+use Rattle.records.specs.Record.{recordOf}
 
 -- a present flake, and an absent one
 module _ (g : Nugget) (f : ℕ) (l : List ℕ) where
@@ -177,9 +177,9 @@ module _ (d : Drive) (v : List ℕ) (n k mask o : ℕ) (bytes : List ℕ) where
       (ez ∙ rw (es, eg, ek) (ap (λ (x : List ℕ). laidFlake (shapeOf d) n f (nuggetKey (d .present) (d .salt) n) k (written (shapeOf d) o bytes n f x) w) still))
 
 -- by the way of the nugget: the flakes that it enciphers, under the keycount after it
-pub lay-is : (d : Drive) (v : List ℕ) (n : ℕ) (way : Way) (o : ℕ) (bytes : List ℕ) {r after : Record} {mask : ℕ} {w : List ℕ} → r ≡ recordOf v n
+pub lay-is : (d : Drive) (v : List ℕ) (n : ℕ) (way : Way) (o : ℕ) (bytes : List ℕ) {r after : Record} {mask : ℕ} {w : List ℕ} → r ≡ recordOf (shapeOf d) v n
     → after ≡ turned way (d .epoch) r → mask ≡ enciphered way r
     → w ≡ laid (shapeOf d) (d .salt) (newContents d v o bytes) (padsOf n (after .keycount) (d .present) (bit mask) (d .p)) v
-    → w ≡ laid (shapeOf d) (d .salt) (newContents d v o bytes) (padsBy (d .p) way n (recordOf v n) (d .present)) v
+    → w ≡ laid (shapeOf d) (d .salt) (newContents d v o bytes) (padsBy (d .p) way n (recordOf (shapeOf d) v n) (d .present)) v
 unfolding padsBy
 lay-is d v n way o bytes er ea em ew = ew ∙ rw (ea, em, er)

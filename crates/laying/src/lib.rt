@@ -17,15 +17,15 @@ ghost use Rattle.drive.specs.Drive.{shapeOf, counterTop};
 ghost use Rattle.changes.specs.Laid.{laid};
 ghost use Rattle.changes.specs.Change.{idles, marked, tended, advanced, settled};
 ghost use Rattle.changes.specs.Write.{newContents};
-ghost use Rattle.tree.specs.Path.{recordOf};
+ghost use Rattle.records.specs.Record.{recordOf};
 
 // The flakes that the way enciphers: new contents under the pad of the keycount after it, and the tags over what is stored.
 pub fn lay(d: Drive, vol: &mut [u8], n: u32, way: Way, o: usize, bytes: &[u8])
-    requires { ⌜ Lent (shapeOf d) (now vol) × (n < d .n) × (o + length (now bytes) ≤ capacity (shapeOf d)) × (atTop way (recordOf (now vol) n) ≡ false) ⌝ }
+    requires { ⌜ Lent (shapeOf d) (now vol) × (n < d .n) × (o + length (now bytes) ≤ capacity (shapeOf d)) × (atTop way (recordOf (shapeOf d) (now vol) n) ≡ false) ⌝ }
     ensures { λ _. ⌜ now (vol .exit) ≡ laid (shapeOf d) (d .salt) (newContents d (now (vol .entry)) o (now (bytes .entry)))
-        (padsBy (d .p) way n (recordOf (now (vol .entry)) n) (d .present)) (now (vol .entry)) ⌝ }
+        (padsBy (d .p) way n (recordOf (shapeOf d) (now (vol .entry)) n) (d .present)) (now (vol .entry)) ⌝ }
 {
-    let r = records::read(vol, layout::record_at(n));
+    let r = records::read(vol, drive::shape_of(d), n);
     let after = records::turn(way, d.epoch, r);
     let mask = records::enciphers(way, r);
     flake::lay_flakes(d, &mut *vol, n, after.keycount, mask, o, bytes);
@@ -44,16 +44,16 @@ pub fn idle(way: Way) -> bool
 
 // "The journal becomes J with T."; rekeyed: "keycount plus 1", "epoch set to the head's".
 pub fn mark(d: Drive, vol: &mut [u8], n: u32, way: Way)
-    requires { ⌜ Lent (shapeOf d) (now vol) × (n < d .n) × (atTop way (recordOf (now vol) n) ≡ false) ⌝ }
-    ensures { λ _. ⌜ now (vol .exit) ≡ marked (d .epoch) way (recordOf (now (vol .entry)) n) n (now (vol .entry)) ⌝ }
+    requires { ⌜ Lent (shapeOf d) (now vol) × (n < d .n) × (atTop way (recordOf (shapeOf d) (now vol) n) ≡ false) ⌝ }
+    ensures { λ _. ⌜ now (vol .exit) ≡ marked (shapeOf d) (d .epoch) way (recordOf (shapeOf d) (now (vol .entry)) n) n (now (vol .entry)) ⌝ }
 {
     if idle(way) {
         return;
     }
-    let at = layout::record_at(n);
-    let r = records::read(vol, at);
+    let s = drive::shape_of(d);
+    let r = records::read(vol, s, n);
     let after = records::turn(way, d.epoch, r);
-    records::store(&mut *vol, at, after);
+    records::store(&mut *vol, s, n, after);
 }
 
 // "leaf and path of each nugget it changed"

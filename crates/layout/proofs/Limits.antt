@@ -1,12 +1,13 @@
 -- What the limits say, as facts about the numbers.
-use mathlib.Core.Path.{_≡_, refl, _∙_}
+use mathlib.Core.Path.{_≡_, refl, sym, _∙_}
 use mathlib.Core.Bool.{true, false}
 use Prim.Native.Nat.{ℕ, _*_, _%_, _≤_}
 use native.Mathlib.Nat.{mul-le-mul, le-trans}
-use lib.Dec.{leb, lit≤}
+use native.Mathlib.Omega.{arith}
+use lib.Dec.{leb, eqb, lit≤}
 use borrow.Author.Tests.{leb-true, eqb-true}
 use Rattle.base.proofs.PickLaws.{both-left, both-right}
-use Rattle.layout.specs.Shape.{inLimits, within, leaves}
+use Rattle.layout.specs.Shape.{shape, sized, known, inLimits, widthOf, within, leaves}
 use Rattle.layout.proofs.Height.{leaves-least, leaves-enough, leaves-some}
 use Rattle.layout.specs.declared.Shape.{Shape}
 use mathlib.Core.List.{List}
@@ -20,10 +21,20 @@ pub record Limits (s : Shape) : Type 0 where
   pub wide : 64 ≤ s .f
   pub short : s .f ≤ 4096
   pub whole : s .f % 64 ≡ 0
+  pub records : s .n * widthOf s ≤ 425984
 
-pub limits : (s : Shape) → inLimits s ≡ true → Limits s
-unfolding inLimits
-limits s e =
+-- what the code's arithmetic has to know of a record's width
+pub width-le : (s : Shape) → widthOf s ≤ 26
+unfolding widthOf
+width-le s = omega arith
+
+pub width-ge : (s : Shape) → 18 ≤ widthOf s
+unfolding widthOf
+width-ge s = omega arith
+
+limits-sized : (s : Shape) → sized s ≡ true → Limits s
+unfolding sized
+limits-sized s e =
     let e₁ = both-right (leb 1 (s .n)) _ e in
     let e₂ = both-right (leb (s .n) 16384) _ e₁ in
     let e₃ = both-right (leb 1 (s .p)) _ e₂ in
@@ -37,7 +48,12 @@ limits s e =
       wide = leb-true 64 (s .f) (both-left _ _ e₄);
       short = leb-true (s .f) 4096 (both-left _ _ e₅);
       whole = eqb-true (s .f % 64) 0 (both-right (leb (s .f) 4096) _ e₅);
+      records = mul-le-mul (leb-true (s .n) 16384 (both-left _ _ e₁)) (width-le s);
     }
+
+pub limits : (s : Shape) → inLimits s ≡ true → Limits s
+unfolding inLimits
+limits s e = limits-sized s (both-left (sized s) (known s) e)
 
 -- a number of a shape in limits is itself, and one of a shape out of limits is 0
 pub inside : (s : Shape) {x : ℕ} → inLimits s ≡ true → within s x ≡ x
@@ -65,6 +81,9 @@ pub record Small (s : Shape) : Type 0 where
   pub few-nuggets : s .n ≤ 16384
   pub few-flakes : s .p ≤ 64
   pub few-tags : s .n * s .p ≤ 1048576
+  pub few-records : s .n * widthOf s ≤ 425984
+  pub narrow-record : widthOf s ≤ 26
+  pub wide-record : 18 ≤ widthOf s
 
 pub small : (s : Shape) → Limits s → Small s
 small s l =
@@ -75,6 +94,9 @@ small s l =
       few-nuggets = l .few;
       few-flakes = l .narrow;
       few-tags = count-le s l;
+      few-records = l .records;
+      narrow-record = width-le s;
+      wide-record = width-ge s;
     }
 
 pub lent-small : {s : Shape} {v : List ℕ} → Lent s v → Small s
@@ -83,3 +105,16 @@ lent-small {s} l = small s (limits s (l .limited))
 -- a number of a shape in limits
 pub placed : (s : Shape) {x y : ℕ} → inLimits s ≡ true → x ≡ within s y → x ≡ y
 placed s lim e = e ∙ inside s lim
+
+-- a shape in limits is its N, P and F under the version and the cipher that there are
+known-shape : (s : Shape) → inLimits s ≡ true → shape (s .n) (s .p) (s .f) ≡ s
+unfolding inLimits known
+known-shape s e =
+    let k = both-right (sized s) (known s) e in
+    let version : 1 ≡ s .version = sym (eqb-true (s .version) 1 (both-left (eqb (s .version) 1) (eqb (s .cipher) 0) k)) in
+    let cipher : 0 ≡ s .cipher = sym (eqb-true (s .cipher) 0 (both-right (eqb (s .version) 1) (eqb (s .cipher) 0) k)) in
+    λ i. record { n = s .n; p = s .p; f = s .f; version = version i; cipher = cipher i }
+
+-- so what holds of every N, P and F holds of it
+pub by-numbers : (Q : Shape → Type 0) (s : Shape) → inLimits s ≡ true → Q (shape (s .n) (s .p) (s .f)) → Q s
+by-numbers Q s e x = rw (known-shape s e) at x

@@ -4,12 +4,15 @@ use Prim.Native.Nat.{ℕ, _+_, _*_, _/_, _%_, _≤_, _<_}
 use native.Mathlib.Nat.{mul-le-mul-right, div-lt-iff-lt-mul, div-add-mod', mod-lt}
 use native.Mathlib.Omega.{arith}
 use lib.Arith.{digits-lt, digits-div, digits-mod}
-use Rattle.layout.specs.Shape.{leaves, inLimits}
+use Rattle.layout.specs.Shape.{leaves, inLimits, widthOf}
 use Rattle.layout.specs.Parts.{tagsAt, treeAt, flakesAt, lengthOf, recordAt, tagAt, nodeAt, flakeAt}
 use Rattle.layout.specs.Spots.{spotAt, offsetAt, capacity, nowhere}
 use Rattle.layout.specs.declared.Shape.{Shape}
 use Rattle.layout.specs.declared.Spot.{Spot}
 use mathlib.Core.Bool.{true}
+use mathlib.Core.List.{List}
+use lib.ListN.{length}
+use Rattle.layout.specs.Lent.{Lent}
 use Rattle.base.specs.Pick.{pick}
 use Rattle.base.proofs.PickLaws.{yes}
 
@@ -26,8 +29,12 @@ pub index-told : (p n f m g : ℕ) → f < p → g < p → n * p + f ≡ m * p +
 index-told p n f m g a b e =
     (sym (digits-div n a) ∙ ap (λ (x : ℕ). x / p) e ∙ digits-div m b, sym (digits-mod n a) ∙ ap (λ (x : ℕ). x % p) e ∙ digits-mod m b)
 
-pub record-inside : (s : Shape) (n : ℕ) → n < s .n → recordAt n + 18 ≤ tagsAt s
-record-inside s n h = omega arith
+pub record-inside : (s : Shape) (n : ℕ) → n < s .n → recordAt s n + widthOf s ≤ tagsAt s
+record-inside s n h = omega (arith, apart (widthOf s) n (s .n) h)
+
+-- a record ends before the next ones begin
+pub records-above : (s : Shape) (n m : ℕ) → n < m → recordAt s n + widthOf s ≤ recordAt s m
+records-above s n m h = omega (arith, apart (widthOf s) n m h)
 
 pub tag-inside : (s : Shape) (n f : ℕ) → n < s .n → f < s .p → tagAt s n f + 16 ≤ treeAt s
 tag-inside s n f a b = omega (arith, index-lt s n f a b)
@@ -66,3 +73,7 @@ spot-inside s o p f h =
 -- the spot of an offset, in a shape within limits
 pub spot-is : (s : Shape) (o : ℕ) {r : Shape} {t : Spot} → t ≡ pick (inLimits r) (spotAt r o) nowhere → r ≡ s → inLimits s ≡ true → t ≡ spotAt s o
 spot-is s o et es h = et ∙ ap (λ (x : Shape). pick (inLimits x) (spotAt x o) nowhere) es ∙ yes _ h refl
+
+-- a record lies inside a lent volume
+pub record-room : {s : Shape} {v : List ℕ} (n : ℕ) → Lent s v → n < s .n → recordAt s n + widthOf s ≤ length v
+record-room {s} n l h = rw (l .size) (omega (arith, record-inside s n h, parts-inside s))

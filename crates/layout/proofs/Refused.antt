@@ -3,7 +3,7 @@ use mathlib.Core.Path.{_≡_, refl}
 use mathlib.Core.Bool.{Bool, true, not}
 use mathlib.Core.List.{[], _∷_}
 use Rattle.base.specs.Lists.{every}
-use Rattle.layout.specs.Shape.{shape, inLimits}
+use Rattle.layout.specs.Shape.{shape, sized, known, inLimits}
 use Rattle.layout.specs.declared.Shape.{Shape}
 
 -- "N 16,385, F 96, F 4,160, P 65", none of anything, and the largest of each
@@ -13,5 +13,5 @@ outOf s = not (inLimits s)
 pub refused : every outOf
     (shape 16385 2 64 ∷ shape 3 2 96 ∷ shape 3 2 4160 ∷ shape 3 65 64 ∷ shape 0 2 64 ∷ shape 3 0 64 ∷ shape 3 2 0 ∷ shape 4294967295 2 64
     ∷ shape 3 4294967295 64 ∷ shape 3 2 4294967295 ∷ []) ≡ true
-unfolding every inLimits
+unfolding every inLimits sized known
 refused = refl

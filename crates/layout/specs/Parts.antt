@@ -1,15 +1,15 @@
 -- Document 01, "The volume, in order": head, records, tags, tree, flakes.
 use Prim.Native.Nat.{ℕ, _+_, _-_, _*_}
 use Rattle.layout.specs.declared.Shape.{Shape}
-use Rattle.layout.specs.Shape.{leaves}
+use Rattle.layout.specs.Shape.{leaves, widthOf}
 
 -- "Head 104"
 abbrev pub recordsAt : ℕ
 recordsAt = 104
 
--- "Records 18 N"
+-- "Records 18 N", 18 the width of a record in version 1
 abbrev pub tagsAt : Shape → ℕ
-tagsAt s = recordsAt + 18 * s .n
+tagsAt s = recordsAt + s .n * widthOf s
 
 -- "Tags 16 N P"
 abbrev pub treeAt : Shape → ℕ
@@ -24,8 +24,8 @@ abbrev pub lengthOf : Shape → ℕ
 lengthOf s = flakesAt s + s .n * s .p * s .f
 
 -- record n
-abbrev pub recordAt : ℕ → ℕ
-recordAt n = recordsAt + 18 * n
+abbrev pub recordAt : Shape → ℕ → ℕ
+recordAt s n = recordsAt + n * widthOf s
 
 -- tag n f: "nugget by nugget, flake by flake"
 abbrev pub tagAt : Shape → ℕ → ℕ → ℕ

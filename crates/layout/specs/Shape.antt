@@ -5,15 +5,28 @@ use lib.Dec.{leb, eqb}
 use Rattle.base.specs.Pick.{pick, both}
 use Rattle.layout.specs.declared.Shape.{Shape}
 
+-- N, P and F under version 1 and ChaCha20
 abbrev pub shape : ℕ → ℕ → ℕ → Shape
-shape n p f = record { n = n; p = p; f = f }
+shape n p f = record { n = n; p = p; f = f; version = 1; cipher = 0 }
 
 -- "Nuggets N: 1 to 16,384. Flakes per nugget P: 1 to 64. Flake size F: 64 to 4,096, a multiple of 64."
-unfoldable pub inLimits : Shape → Bool
-inLimits s =
+unfoldable pub sized : Shape → Bool
+sized s =
     both (leb 1 (s .n))
     (both (leb (s .n) 16384)
     (both (leb 1 (s .p)) (both (leb (s .p) 64) (both (leb 64 (s .f)) (both (leb (s .f) 4096) (eqb (s .f % 64) 0))))))
+
+-- "version 1", and ChaCha20 as the one cipher
+unfoldable pub known : Shape → Bool
+known s = both (eqb (s .version) 1) (eqb (s .cipher) 0)
+
+-- the numbers within their limits, the version and the cipher known
+unfoldable pub inLimits : Shape → Bool
+inLimits s = both (sized s) (known s)
+
+-- how many bytes a record has
+unfoldable pub widthOf : Shape → ℕ
+widthOf s = 18
 
 -- the smallest m from the given one on whose power of two is not below n, in k tries
 unfoldable pub heightFrom : ℕ → ℕ → ℕ → ℕ

@@ -3,15 +3,17 @@
 ghost use mathlib.Core.Path.{_≡_};
 ghost use Prim.Native.Nat.{_+_, _*_, _<_, _^_};
 ghost use Rattle.base.specs.Pick.{pick};
-ghost use Rattle.layout.specs.Shape.{inLimits, heightOf, leaves, within};
+ghost use Rattle.layout.specs.Shape.{sized, known, inLimits, widthOf, heightOf, leaves, within};
 ghost use Rattle.layout.specs.Parts.{tagsAt, treeAt, flakesAt, lengthOf, recordAt, tagAt, nodeAt, flakeAt};
 ghost use Rattle.layout.specs.Spots.{spotAt, nowhere, offsetAt, capacity};
 
-// "Nuggets N", "Flakes per nugget P", "Flake size F".
+// "Nuggets N", "Flakes per nugget P", "Flake size F", and under which version and cipher the volume is laid out.
 pub struct Shape {
     pub n: u32,
     pub p: u32,
     pub f: u32,
+    pub version: u16,
+    pub cipher: u8,
 }
 
 // Where an offset lies: "nugget 1, flake 1, byte 8".
@@ -22,8 +24,8 @@ pub struct Spot {
 }
 
 // Whether N, P and F are within document 01's limits.
-pub fn in_limits(s: Shape) -> bool
-    ensures { λ r. ⌜ r ≡ inLimits s ⌝ }
+fn are_sized(s: Shape) -> bool
+    ensures { λ r. ⌜ r ≡ sized s ⌝ }
 {
     if s.n < 1 {
         return false;
@@ -44,6 +46,27 @@ pub fn in_limits(s: Shape) -> bool
         return false;
     }
     s.f % 64 == 0
+}
+
+// Whether the version and the cipher are ones that there are.
+fn are_known(s: Shape) -> bool
+    ensures { λ r. ⌜ r ≡ known s ⌝ }
+{
+    if s.version == 1 { s.cipher == 0 } else { false }
+}
+
+// Whether the shape is one that a volume may have.
+pub fn in_limits(s: Shape) -> bool
+    ensures { λ r. ⌜ r ≡ inLimits s ⌝ }
+{
+    if are_sized(s) { are_known(s) } else { false }
+}
+
+// How many bytes a record has.
+pub fn width_of(s: Shape) -> usize
+    ensures { λ r. ⌜ r ≡ widthOf s ⌝ }
+{
+    18
 }
 
 // L is 2 to this height: 32 less the leading zeros of N - 1.
@@ -75,7 +98,7 @@ pub fn tags_at(s: Shape) -> usize
     ensures { λ r. ⌜ r ≡ within s (tagsAt s) ⌝ }
 {
     if in_limits(s) {
-        104 + 18 * (s.n as usize)
+        104 + times(s.n as usize, width_of(s))
     } else {
         0
     }
@@ -123,10 +146,10 @@ pub fn length_of(s: Shape) -> usize
     }
 }
 
-pub fn record_at(n: u32) -> usize
-    ensures { λ r. ⌜ r ≡ recordAt n ⌝ }
+pub fn record_at(s: Shape, n: u32) -> usize
+    ensures { λ r. ⌜ r ≡ recordAt s n ⌝ }
 {
-    104 + 18 * (n as usize)
+    104 + times(n as usize, width_of(s))
 }
 
 // The number of flake f of nugget n, counted over all nuggets.

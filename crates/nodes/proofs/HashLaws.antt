@@ -7,6 +7,7 @@ use lib.ListN.{set, replicate}
 use lib.Seq.{sets}
 use Rattle.base.specs.Lists.{part, same}
 use Rattle.words.specs.Le.{le}
+use Rattle.layout.specs.Shape.{widthOf}
 use Rattle.layout.specs.Parts.{recordAt, tagAt, nodeAt}
 use Rattle.layout.specs.declared.Shape.{Shape}
 use Rattle.blake2s.specs.Hash.{blake2s}
@@ -31,10 +32,10 @@ pub hashed : (v x : List ℕ) (at k to m : ℕ) {a b c d : State} {r : List ℕ}
 hashed v x at k to m ea eb ec ed er =
     rw (er, ed, ec, eb, ea, part-to at k v, part-to to m v) (pieces x (part at k v) (part to m v))
 
-pub leaf-is : (s : Shape) (v x : List ℕ) (n : ℕ) {at to : ℕ} {r : List ℕ} → x ≡ 0x4C ∷ le 4 n → at ≡ recordAt n → to ≡ tagAt s n 0
-    → r ≡ blake2s [] (x ++ (part at 18 v ++ part to (16 * s .p) v)) → r ≡ leafOf s v n
+pub leaf-is : (s : Shape) (v x : List ℕ) (n : ℕ) {at k to : ℕ} {r : List ℕ} → x ≡ 0x4C ∷ le 4 n → at ≡ recordAt s n → k ≡ widthOf s → to ≡ tagAt s n 0
+    → r ≡ blake2s [] (x ++ (part at k v ++ part to (16 * s .p) v)) → r ≡ leafOf s v n
 unfolding leafOf
-leaf-is s v x n ex ea et er = rw (er, ex, ea, et)
+leaf-is s v x n ex ea ek et er = rw (er, ex, ea, ek, et)
 
 pub inner-is : (s : Shape) (v : List ℕ) (i j : ℕ) {at to : ℕ} {r : List ℕ} → at ≡ nodeAt s i → to ≡ nodeAt s j
     → r ≡ blake2s [] ((0x54 ∷ []) ++ (part at 32 v ++ part to 32 v)) → r ≡ innerOf (nodeIn s v i) (nodeIn s v j)

@@ -11,7 +11,7 @@ use borrow.Author.Tests.{ltb-true, ltb-false}
 use Rattle.base.specs.Lists.{part}
 use Rattle.base.proofs.PickLaws.{told}
 use Rattle.base.proofs.PartLaws.{part-sets, part-sets-above, part-sets-below, take-sets, drop-sets, part-below}
-use Rattle.layout.specs.Shape.{leaves}
+use Rattle.layout.specs.Shape.{leaves, widthOf}
 use Rattle.layout.specs.Parts.{treeAt, flakesAt, recordAt, tagAt, nodeAt}
 use Rattle.layout.specs.declared.Shape.{Shape}
 use Rattle.layout.proofs.Places.{record-inside}
@@ -34,7 +34,7 @@ outside-lent o l = record { limited = l .limited; size = o .long ∙ l .size }
 pub outside-alike : {s : Shape} {v w : List ℕ} (n : ℕ) → Outside s v w → n < s .n → Alike s v w n
 outside-alike {s} {v} {w} n o h =
     record {
-      records = part-below (recordAt n) 18 (treeAt s) v w (omega (arith, record-inside s n h)) (o .below);
+      records = part-below (recordAt s n) (widthOf s) (treeAt s) v w (omega (arith, record-inside s n h)) (o .below);
       tags = part-below (tagAt s n 0) (16 * s .p) (treeAt s) v w (tags-inside s n h) (o .below);
     }
 

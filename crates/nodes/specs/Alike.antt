@@ -9,7 +9,7 @@ use Rattle.nodes.specs.Nodes.{recordPart, tagsPart}
 
 -- in the record bytes and tags of nugget n
 pub record Alike (s : Shape) (v w : List ℕ) (n : ℕ) : Type 0 where
-  pub records : recordPart v n ≡ recordPart w n
+  pub records : recordPart s v n ≡ recordPart s w n
   pub tags : tagsPart s v n ≡ tagsPart s w n
 
 -- in all that stands before the tree and behind it

@@ -5,6 +5,7 @@ use Prim.Native.Nat.{ℕ, _*_}
 use lib.ListN.{replicate}
 use Rattle.base.specs.Lists.{part}
 use Rattle.messages.specs.Messages.{leafMessage, innerMessage}
+use Rattle.layout.specs.Shape.{widthOf}
 use Rattle.layout.specs.Parts.{recordAt, tagAt, nodeAt}
 use Rattle.layout.specs.declared.Shape.{Shape}
 use Rattle.blake2s.specs.Hash.{blake2s}
@@ -13,9 +14,9 @@ use Rattle.blake2s.specs.Hash.{blake2s}
 abbrev pub nodeIn : Shape → List ℕ → ℕ → List ℕ
 nodeIn s v i = part (nodeAt s i) 32 v
 
--- "the 18 record bytes"
-abbrev pub recordPart : List ℕ → ℕ → List ℕ
-recordPart v n = part (recordAt n) 18 v
+-- "the 18 record bytes", 18 the width of a record in version 1
+abbrev pub recordPart : Shape → List ℕ → ℕ → List ℕ
+recordPart s v n = part (recordAt s n) (widthOf s) v
 
 -- "the nugget's P tags"
 abbrev pub tagsPart : Shape → List ℕ → ℕ → List ℕ
@@ -23,7 +24,7 @@ tagsPart s v n = part (tagAt s n 0) (16 * s .p) v
 
 -- "no key, `L`, nugget (4), the 18 record bytes, the nugget's P tags"
 unfoldable pub leafOf : Shape → List ℕ → ℕ → List ℕ
-leafOf s v n = blake2s [] (leafMessage n (recordPart v n) (tagsPart s v n))
+leafOf s v n = blake2s [] (leafMessage n (recordPart s v n) (tagsPart s v n))
 
 -- "no key, `T`, node 2i, node 2i + 1"
 unfoldable pub innerOf : List ℕ → List ℕ → List ℕ

@@ -14,8 +14,8 @@ fn leaf(vol: &[u8], s: Shape, n: u32) -> [u8; 32]
     ensures { λ r. ⌜ r ≡ leafOf s (now (vol .entry)) n ⌝ }
 {
     let p = s.p as usize;
-    let record = layout::record_at(n);
-    let record_end = record + 18;
+    let record = layout::record_at(s, n);
+    let record_end = record + layout::width_of(s);
     let tags = layout::tag_at(s, n, 0);
     let tags_end = tags + 16 * p;
     let mut start = [0u8; 5];

@@ -23,7 +23,7 @@ use Rattle.drive.specs.Drive.{shapeOf}
 use Rattle.nuggets.specs.declared.Nugget.{Nugget}
 use Rattle.nuggets.specs.Nugget.{secretFor, keyFor, nuggetOf}
 use Rattle.nuggets.specs.Tests.{goodFlake, passes, flakesUp, flakesIn, pathFor, nuggetRead}
-use Rattle.tree.specs.Path.{recordOf}
+use Rattle.records.specs.Record.{recordOf}
 
 module _ (s : Shape) (v : List ℕ) (g : Nugget) where
   -- the tag compared with the one that the bytes at these places give
@@ -61,7 +61,7 @@ module _ (s : Shape) (v : List ℕ) (g : Nugget) where
     up-start = let k : s .p - 0 ≡ s .p = omega arith in rw k
 
 module _ (d : Drive) (v : List ℕ) (n : ℕ) where
-  pub nugget-is : {r : Record} {secret key : List ℕ} → r ≡ recordOf v n → secret ≡ secretFor d (r .epoch) → key ≡ nuggetKey secret (d .salt) n
+  pub nugget-is : {r : Record} {secret key : List ℕ} → r ≡ recordOf (shapeOf d) v n → secret ≡ secretFor d (r .epoch) → key ≡ nuggetKey secret (d .salt) n
       → record { number = n; key = key; keycount = r .keycount; journal = r .journal } ≡ nuggetOf d v n
   unfolding keyFor
   nugget-is er es ek = rw (ek, es, er) refl

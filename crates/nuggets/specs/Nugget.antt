@@ -14,7 +14,7 @@ use Rattle.keys.specs.Pads.{under}
 use Rattle.drive.specs.declared.Drive.{Drive}
 use Rattle.drive.specs.Drive.{shapeOf, zeros}
 use Rattle.nuggets.specs.declared.Nugget.{Nugget}
-use Rattle.tree.specs.Path.{recordOf}
+use Rattle.records.specs.Record.{recordOf}
 
 -- "its epoch is the head's, or, while changing, the head's or one less. [..] One less means: under the old secret."
 unfoldable pub secretFor : Drive → ℕ → List ℕ
@@ -22,10 +22,10 @@ secretFor d e = pick (eqb e (d .epoch)) (d .present) (d .old)
 
 -- "Nugget key: keyed with the nugget's secret, `N`, salt, nugget (4 bytes)."
 unfoldable pub keyFor : Drive → List ℕ → ℕ → List ℕ
-keyFor d v n = nuggetKey (secretFor d (recordOf v n .epoch)) (d .salt) n
+keyFor d v n = nuggetKey (secretFor d (recordOf (shapeOf d) v n .epoch)) (d .salt) n
 
 abbrev pub nuggetOf : Drive → List ℕ → ℕ → Nugget
-nuggetOf d v n = record { number = n; key = keyFor d v n; keycount = recordOf v n .keycount; journal = recordOf v n .journal }
+nuggetOf d v n = record { number = n; key = keyFor d v n; keycount = recordOf (shapeOf d) v n .keycount; journal = recordOf (shapeOf d) v n .journal }
 
 -- the F bytes that stand for a flake in the volume
 abbrev pub storedIn : Shape → List ℕ → ℕ → ℕ → List ℕ

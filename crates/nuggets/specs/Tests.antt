@@ -13,7 +13,8 @@ use Rattle.answers.specs.declared.Place.the-variants as P
 use Rattle.answers.specs.Numbers.{accepts}
 use Rattle.records.specs.Journal.{bit}
 use Rattle.keys.specs.Tags.{tagOf}
-use Rattle.tree.specs.Path.{pathOf, recordOf}
+use Rattle.tree.specs.Path.{pathOf}
+use Rattle.records.specs.Record.{recordOf}
 use Rattle.drive.specs.declared.Drive.{Drive}
 use Rattle.drive.specs.Drive.{shapeOf, isChanging}
 use Rattle.nuggets.specs.declared.Nugget.{Nugget}
@@ -49,4 +50,4 @@ pathFor d v n = pathOf (shapeOf d) (d .epoch) (isChanging (d .state)) v n
 -- "each: path; [..] flakes"; "Read tests touched present flakes"
 unfoldable pub nuggetRead : Drive → List ℕ → ℕ → ℕ → Answer
 nuggetRead d v n touched =
-    pick (accepts (pathFor d v n)) (flakesOf d v n (bitAnd (recordOf v n .journal) touched)) (pathFor d v n)
+    pick (accepts (pathFor d v n)) (flakesOf d v n (bitAnd (recordOf (shapeOf d) v n .journal) touched)) (pathFor d v n)

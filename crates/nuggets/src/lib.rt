@@ -45,7 +45,7 @@ pub fn nugget_of(d: Drive, vol: &[u8], n: u32) -> Nugget
     requires { ⌜ Lent (shapeOf d) (now vol) × (n < d .n) ⌝ }
     ensures { λ r. ⌜ r ≡ nuggetOf d (now (vol .entry)) n ⌝ }
 {
-    let r = records::read(vol, layout::record_at(n));
+    let r = records::read(vol, drive::shape_of(d), n);
     let secret = secret_for(d, r.epoch);
     let salt = d.salt;
     let key = keys::nugget_key(secret, salt, n);

@@ -26,20 +26,20 @@ use Rattle.answers.proofs.StageLaws.{passed, spared}
 use Rattle.layout.specs.Lent.{Lent}
 
 -- the loop that lays the records: its start, its turn and its end
-pub fresh-none : (v : List ℕ) (count : ℕ) → freshFrom (count - 0) 0 v ≡ freshFrom count 0 v
-fresh-none v count = let e : count - 0 ≡ count = omega arith in rw e
+pub fresh-none : (s : Shape) (v : List ℕ) (count : ℕ) → freshFrom s (count - 0) 0 v ≡ freshFrom s count 0 v
+fresh-none s v count = let e : count - 0 ≡ count = omega arith in rw e
 
-pub fresh-on : (v : List ℕ) (n count : ℕ) → n < count
-    → freshFrom (count - (n + 1)) (n + 1) (sets v (recordAt n) (recordBytes freshRecord)) ≡ freshFrom (count - n) n v
+pub fresh-on : (s : Shape) (v : List ℕ) (n count : ℕ) → n < count
+    → freshFrom s (count - (n + 1)) (n + 1) (sets v (recordAt s n) (recordBytes s freshRecord)) ≡ freshFrom s (count - n) n v
 unfolding freshFrom
-fresh-on v n count h =
+fresh-on s v n count h =
     let e : count - n ≡ suc (count - (n + 1)) = omega arith in
     let f : n + 1 ≡ suc n = omega arith in
     rw (e, f)
 
-pub fresh-end : (v : List ℕ) (n count : ℕ) → count ≤ n → freshFrom (count - n) n v ≡ v
+pub fresh-end : (s : Shape) (v : List ℕ) (n count : ℕ) → count ≤ n → freshFrom s (count - n) n v ≡ v
 unfolding freshFrom
-fresh-end v n count h = let e : count - n ≡ 0 = omega arith in rw e
+fresh-end s v n count h = let e : count - n ≡ 0 = omega arith in rw e
 
 -- what the tests of an accepted format tell
 pub format-lent : (s : Shape) (outside : ℕ) (v : List ℕ) → accepts (formatAnswer s outside v) ≡ true → Lent s v × (outside ≡ counterTop → ⊥)
@@ -63,14 +63,14 @@ module _ (s : Shape) (salt secret : List ℕ) (outside : ℕ) (v : List ℕ) {a 
   format-off t p = (rw (e, t, p), rw (e, t))
 
 -- lengths
-pub length-fresh : (k n : ℕ) (v : List ℕ) → length (freshFrom k n v) ≡ length v
+pub length-fresh : (s : Shape) (k n : ℕ) (v : List ℕ) → length (freshFrom s k n v) ≡ length v
 unfolding freshFrom
-length-fresh zero n v = refl
-length-fresh (suc k) n v = length-fresh k (suc n) (sets v (recordAt n) (recordBytes freshRecord)) ∙ length-sets v (recordAt n) (recordBytes freshRecord)
+length-fresh s zero n v = refl
+length-fresh s (suc k) n v = length-fresh s k (suc n) (sets v (recordAt s n) (recordBytes s freshRecord)) ∙ length-sets v (recordAt s n) (recordBytes s freshRecord)
 
 pub length-bare : (s : Shape) → length (bare s) ≡ lengthOf s
 unfolding bare
-length-bare s = length-fresh (s .n) 0 (zeros (lengthOf s)) ∙ length-replicate (lengthOf s) 0
+length-bare s = length-fresh s (s .n) 0 (zeros (lengthOf s)) ∙ length-replicate (lengthOf s) 0
 
 pub length-planted : (s : Shape) → length (planted s) ≡ lengthOf s
 unfolding planted

@@ -11,18 +11,18 @@ use lib.Seq.{sets, length-sets}
 use lib.Pow.{pow-pos}
 use borrow.Author.Tests.{eq-eqb, eqb-true, eqb-false, lt-ltb}
 use Rattle.base.specs.Lists.{part, same}
-use Rattle.base.proofs.PickLaws.{yes, told, both-on}
-use Rattle.base.proofs.PartLaws.{part-part, part-sets, part-sets-above, part-sets-below}
+use Rattle.base.proofs.PickLaws.{yes, told, both-on, both-left}
+use Rattle.base.proofs.PartLaws.{part-sets, part-sets-above, part-sets-below}
 use Rattle.base.proofs.FoldLaws.{same-refl}
-use Rattle.words.specs.Le.{num}
 use Rattle.answers.specs.declared.Answer.the-variants as A
 use Rattle.answers.specs.Numbers.{accepts}
 use Rattle.layout.specs.declared.Shape.{Shape}
-use Rattle.layout.specs.Shape.{inLimits, leaves}
+use Rattle.layout.specs.Shape.{shape, sized, known, inLimits, leaves, widthOf}
 use Rattle.layout.specs.Parts.{recordAt, tagAt, nodeAt, lengthOf}
-use Rattle.layout.proofs.Places.{record-inside, parts-inside}
+use Rattle.layout.proofs.Limits.{by-numbers}
+use Rattle.layout.proofs.Places.{record-inside, records-above, parts-inside}
 use Rattle.records.specs.Record.{recordBytes, recordIn, wellFormed, Widths}
-use Rattle.records.proofs.RecordLaws.{read-stored}
+use Rattle.records.proofs.RecordLaws.{read-stored, record-told}
 use Rattle.nodes.specs.Nodes.{nodeIn}
 use Rattle.nodes.specs.Alike.{Alike}
 use Rattle.nodes.proofs.Bounds.{node-above}
@@ -42,44 +42,32 @@ use Rattle.opening.proofs.FormatLaws.{format-lent, length-bare, length-
 use Rattle.opening.proofs.Reopens.{Handed, length-head, mounts-back}
 use Rattle.layout.specs.Lent.{Lent}
 
--- the 18 bytes decide the record
-record-alike : (at : ℕ) (v w : List ℕ) → part at 18 v ≡ part at 18 w → recordIn at v ≡ recordIn at w
-unfolding recordIn
-record-alike at v w e =
-    let cell : (a n : ℕ) → a + n ≤ 18 → num (part (at + a) n v) ≡ num (part (at + a) n w) =
-    λ a n h. ap (λ (l : List ℕ). num l) (sym (part-part a n at 18 v h) ∙ ap (λ (l : List ℕ). part a n l) e ∙ part-part a n at 18 w h) in
-    let zero-in : at + 0 ≡ at = omega arith in
-    let first : num (part at 8 v) ≡ num (part at 8 w) = rw zero-in at (cell 0 8 (omega arith)) in
-    let second = cell 8 8 (omega arith) in
-    let third = cell 16 2 (omega arith) in
-    λ i. record { keycount = first i; journal = second i; epoch = third i }
-
 -- records laid from nugget m on leave those before
-fresh-before : (k m n : ℕ) (v : List ℕ) → n < m → part (recordAt n) 18 (freshFrom k m v) ≡ part (recordAt n) 18 v
+fresh-before : (s : Shape) (k m n : ℕ) (v : List ℕ) → n < m → part (recordAt s n) (widthOf s) (freshFrom s k m v) ≡ part (recordAt s n) (widthOf s) v
 unfolding freshFrom
-fresh-before zero m n v h = refl
-fresh-before (suc k) m n v h =
-    fresh-before k (suc m) n (sets v (recordAt m) (recordBytes freshRecord)) (omega arith)
-    ∙ part-sets-below (recordAt n) 18 v (recordAt m) (recordBytes freshRecord) (omega arith)
+fresh-before s zero m n v h = refl
+fresh-before s (suc k) m n v h =
+    fresh-before s k (suc m) n (sets v (recordAt s m) (recordBytes s freshRecord)) (omega arith)
+    ∙ part-sets-below (recordAt s n) (widthOf s) v (recordAt s m) (recordBytes s freshRecord) (records-above s n m h)
 
 fresh-widths : Widths freshRecord
 fresh-widths = record { keycountWidth = omega arith; journalWidth = omega arith; epochWidth = omega arith }
 
 -- and each of theirs is the fresh one
-fresh-at : (k m n : ℕ) (v : List ℕ) → m ≤ n → n < m + k → recordAt n + 18 ≤ length v → recordIn (recordAt n) (freshFrom k m v) ≡ freshRecord
+fresh-at : (s : Shape) (k m n : ℕ) (v : List ℕ) → m ≤ n → n < m + k → recordAt s n + widthOf s ≤ length v → recordIn s (recordAt s n) (freshFrom s k m v) ≡ freshRecord
 unfolding freshFrom
-fresh-at zero m n v a b h = absurd (omega arith)
-fresh-at (suc k) m n v a b h = go (told (eqb n m)) (λ ne. fresh-at k (suc m) n next (omega (arith, ne)) (omega arith) (rw (length-sets v (recordAt m) (recordBytes freshRecord)) h))
+fresh-at s zero m n v a b h = absurd (omega arith)
+fresh-at s (suc k) m n v a b h = go (told (eqb n m)) (λ ne. fresh-at s k (suc m) n next (omega (arith, ne)) (omega arith) (rw (length-sets v (recordAt s m) (recordBytes s freshRecord)) h))
   where
     next : List ℕ
-    next = sets v (recordAt m) (recordBytes freshRecord)
+    next = sets v (recordAt s m) (recordBytes s freshRecord)
 
-    go : (eqb n m ≡ true) ⊎ (eqb n m ≡ false) → ((n ≡ m → ⊥) → recordIn (recordAt n) (freshFrom k (suc m) (sets v (recordAt m) (recordBytes freshRecord))) ≡ freshRecord)
-        → recordIn (recordAt n) (freshFrom k (suc m) (sets v (recordAt m) (recordBytes freshRecord))) ≡ freshRecord
+    go : (eqb n m ≡ true) ⊎ (eqb n m ≡ false) → ((n ≡ m → ⊥) → recordIn s (recordAt s n) (freshFrom s k (suc m) (sets v (recordAt s m) (recordBytes s freshRecord))) ≡ freshRecord)
+        → recordIn s (recordAt s n) (freshFrom s k (suc m) (sets v (recordAt s m) (recordBytes s freshRecord))) ≡ freshRecord
     go (inl e) again =
         let q : n ≡ m = eqb-true n m e in
-        let w = sets v (recordAt n) (recordBytes freshRecord) in
-        rw (← q) (record-alike (recordAt n) (freshFrom k (suc n) w) w (fresh-before k (suc n) n w (omega arith)) ∙ read-stored v (recordAt n) freshRecord fresh-widths h)
+        let w = sets v (recordAt s n) (recordBytes s freshRecord) in
+        rw (← q) (record-told s (recordAt s n) (freshFrom s k (suc n) w) w (fresh-before s k (suc n) n w (omega arith)) ∙ read-stored s v (recordAt s n) freshRecord fresh-widths h)
     go (inr e) again = again (eqb-false n m e)
 
 module _ (s : Shape) (limited : inLimits s ≡ true) where
@@ -90,11 +78,11 @@ module _ (s : Shape) (limited : inLimits s ≡ true) where
   unfolding planted
   planted-good = built-good s (bare s) bare-lent
 
-  pub planted-fresh : (n : ℕ) → n < s .n → recordIn (recordAt n) (planted s) ≡ freshRecord
+  pub planted-fresh : (n : ℕ) → n < s .n → recordIn s (recordAt s n) (planted s) ≡ freshRecord
   unfolding planted bare
   planted-fresh n h =
-      sym (record-alike (recordAt n) (bare s) (planted s) (outside-alike n (built-outside s (bare s)) h .records))
-      ∙ fresh-at (s .n) 0 n (zeros (lengthOf s)) (omega arith) (omega arith) (rw (length-replicate {A = ℕ} (lengthOf s) 0) (omega (arith, record-inside s n h, parts-inside s)))
+      sym (record-told s (recordAt s n) (bare s) (planted s) (outside-alike n (built-outside s (bare s)) h .records))
+      ∙ fresh-at s (s .n) 0 n (zeros (lengthOf s)) (omega arith) (omega arith) (rw (length-replicate {A = ℕ} (lengthOf s) 0) (omega (arith, record-inside s n h, parts-inside s)))
 
   -- with any 104 bytes of head laid over it
   module _ (head : List ℕ) (long : length head ≡ 104) where
@@ -105,7 +93,7 @@ module _ (s : Shape) (limited : inLimits s ≡ true) where
     headed-node i h = above (nodeAt s i) 32 (omega (arith, node-above s i h))
 
     headed-alike : (n : ℕ) → Alike s (planted s) (sets (planted s) 0 head) n
-    headed-alike n = record { records = sym (above (recordAt n) 18 (omega arith)); tags = sym (above (tagAt s n 0) (16 * s .p) (omega arith)) }
+    headed-alike n = record { records = sym (above (recordAt s n) (widthOf s) (omega arith)); tags = sym (above (tagAt s n 0) (16 * s .p) (omega arith)) }
 
     headed-good : AllGood s (sets (planted s) 0 head)
     headed-good i a b =
@@ -116,7 +104,7 @@ module _ (s : Shape) (limited : inLimits s ≡ true) where
     headed-formed : (n : ℕ) → n < s .n → formed s 1 false (sets (planted s) 0 head) n ≡ true
     unfolding wellFormed
     headed-formed n h =
-        let e = sym (record-alike (recordAt n) (planted s) (sets (planted s) 0 head) (headed-alike n .records)) ∙ planted-fresh n h in
+        let e = sym (record-told s (recordAt s n) (planted s) (sets (planted s) 0 head) (headed-alike n .records)) ∙ planted-fresh n h in
         rw e (both-on (lt-ltb 0 (2 ^ s .p) (pow-pos (s .p))) refl)
 
     headed-lent : Lent s (sets (planted s) 0 head)
@@ -125,14 +113,17 @@ module _ (s : Shape) (limited : inLimits s ≡ true) where
     pub headed-whole : wholeOf s 1 false (sets (planted s) 0 head) ≡ A.Accepted
     headed-whole = good-whole s 1 false (sets (planted s) 0 head) headed-lent headed-good headed-formed
 
-module _ (s : Shape) (salt secret : List ℕ) (outside : ℕ) (salted : length salt ≡ 16) (limited : inLimits s ≡ true) where
+module _ (n p f : ℕ) (salt secret : List ℕ) (outside : ℕ) (salted : length salt ≡ 16) (limited : inLimits (shape n p f) ≡ true) where
+  abbrev s : Shape
+  s = shape n p f
+
   head-long : length (headOf (freshDrive s salt secret outside)) ≡ 104
   unfolding freshDrive
   head-long = length-head (freshDrive s salt secret outside) salted
 
-  pub fresh-opens : openingOf (freshDrive s salt secret outside) (freshVolume s salt secret outside) ≡ A.Accepted
+  numbers-open : openingOf (freshDrive s salt secret outside) (freshVolume s salt secret outside) ≡ A.Accepted
   unfolding openingOf inForm headStands freshDrive freshVolume
-  fresh-opens =
+  numbers-open =
       let d = freshDrive s salt secret outside in
       let v = planted s in
       let size : length (sets v 0 (headOf d)) ≡ lengthOf s = length-sets v 0 (headOf d) ∙ length-planted s in
@@ -142,9 +133,28 @@ module _ (s : Shape) (salt secret : List ℕ) (outside : ℕ) (salted : length s
       (yes _ (eq-eqb (length (sets v 0 (headOf d))) (lengthOf s) size)
       (yes _ (both-on (ap (λ (l : List ℕ). same l (headOf d)) first ∙ same-refl (headOf d)) (ap (λ (l : List ℕ). same l (d .node)) node ∙ same-refl (d .node))) refl))
 
-  pub fresh-whole : wholeIn (freshDrive s salt secret outside) (freshVolume s salt secret outside) ≡ A.Accepted
+  numbers-whole : wholeIn (freshDrive s salt secret outside) (freshVolume s salt secret outside) ≡ A.Accepted
   unfolding freshDrive freshVolume
-  fresh-whole = headed-whole s limited (headOf (freshDrive s salt secret outside)) head-long
+  numbers-whole = headed-whole s limited (headOf (freshDrive s salt secret outside)) head-long
+
+-- a shape in limits is its N, P and F under version 1 and ChaCha20, and only such a one has been formatted
+numbers-limited : (s : Shape) → inLimits s ≡ true → inLimits (shape (s .n) (s .p) (s .f)) ≡ true
+unfolding inLimits sized known
+numbers-limited s e = both-on (both-left (sized s) (known s) e) refl
+
+pub fresh-by : (Q : Shape → Type 0) (s : Shape) → inLimits s ≡ true → ((n p f : ℕ) → inLimits (shape n p f) ≡ true → Q (shape n p f)) → Q s
+fresh-by Q s e x = by-numbers Q s e (x (s .n) (s .p) (s .f) (numbers-limited s e))
+
+module _ (s : Shape) (salt secret : List ℕ) (outside : ℕ) (salted : length salt ≡ 16) (limited : inLimits s ≡ true) where
+  pub fresh-opens : openingOf (freshDrive s salt secret outside) (freshVolume s salt secret outside) ≡ A.Accepted
+  fresh-opens =
+      fresh-by (λ (z : Shape). openingOf (freshDrive z salt secret outside) (freshVolume z salt secret outside) ≡ A.Accepted) s limited
+      (λ n p f l. numbers-open n p f salt secret outside salted l)
+
+  pub fresh-whole : wholeIn (freshDrive s salt secret outside) (freshVolume s salt secret outside) ≡ A.Accepted
+  fresh-whole =
+      fresh-by (λ (z : Shape). wholeIn (freshDrive z salt secret outside) (freshVolume z salt secret outside) ≡ A.Accepted) s limited
+      (λ n p f l. numbers-whole n p f salt secret outside salted l)
 
   fresh-handed : (old : List ℕ) → outside < counterTop → Handed (freshDrive s salt secret outside) old
   unfolding freshDrive

@@ -37,13 +37,13 @@ abbrev pub freshRecord : Record
 freshRecord = record { keycount = 0; journal = 0; epoch = 1 }
 
 -- the records of k nuggets from nugget n on
-unfoldable pub freshFrom : ℕ → ℕ → List ℕ → List ℕ
-freshFrom zero n v = v
-freshFrom (suc k) n v = freshFrom k (suc n) (sets v (recordAt n) (recordBytes freshRecord))
+unfoldable pub freshFrom : Shape → ℕ → ℕ → List ℕ → List ℕ
+freshFrom s zero n v = v
+freshFrom s (suc k) n v = freshFrom s k (suc n) (sets v (recordAt s n) (recordBytes s freshRecord))
 
 -- zeros and the fresh records
 unfoldable pub bare : Shape → List ℕ
-bare s = freshFrom (s .n) 0 (zeros (lengthOf s))
+bare s = freshFrom s (s .n) 0 (zeros (lengthOf s))
 
 -- with the tree over them
 unfoldable pub planted : Shape → List ℕ

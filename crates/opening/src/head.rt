@@ -29,6 +29,8 @@ pub fn shape_in(vol: &[u8]) -> Shape
         n: words::load32(vol, 8),
         p: words::load(vol, 12, 2) as u32,
         f: words::load(vol, 14, 2) as u32,
+        version: 1,
+        cipher: 0,
     }
 }
 

@@ -48,7 +48,7 @@ fn lay_bare(vol: &mut [u8], s: Shape)
             journal: 0,
             epoch: 1,
         };
-        records::store(&mut *vol, layout::record_at(n), fresh);
+        records::store(&mut *vol, s, n, fresh);
         n += 1;
     }
 }
@@ -85,7 +85,13 @@ pub fn format(
 ) -> Done
     ensures { λ r. ⌜ (r ≡ formatDone (shape n p f) salt secret outside (now (vol .entry))) × (now (vol .exit) ≡ formatVolume (shape n p f) salt secret outside (now (vol .entry))) ⌝ }
 {
-    let s = Shape { n: n, p: p, f: f };
+    let s = Shape {
+        n: n,
+        p: p,
+        f: f,
+        version: 1,
+        cipher: 0,
+    };
     let a = format_tests(vol, s, outside);
     if answers::accepted(a) {
         lay_bare(&mut *vol, s);

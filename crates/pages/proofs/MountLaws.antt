@@ -15,10 +15,10 @@ use Rattle.base.proofs.PickLaws.{yes, told, both-left, both-right}
 use Rattle.answers.specs.declared.Answer.the-variants as A
 use Rattle.answers.specs.Numbers.{accepts}
 use Rattle.layout.specs.declared.Shape.{Shape}
-use Rattle.layout.specs.Shape.{inLimits, leaves}
+use Rattle.layout.specs.Shape.{inLimits, leaves, widthOf}
 use Rattle.layout.specs.Parts.{lengthOf}
 use Rattle.layout.proofs.Height.{leaves-enough}
-use Rattle.layout.proofs.Limits.{Limits, limits}
+use Rattle.layout.proofs.Limits.{Limits, limits, width-ge}
 use Rattle.layout.specs.Lent.{Lent}
 use Rattle.drive.specs.declared.Done.{Done}
 use Rattle.drive.specs.Drive.{shapeOf}
@@ -55,6 +55,7 @@ few-nuggets s v l h =
     let m : Limits s = limits s (l .limited) in
     let flakes : s .n * 1 ≤ s .n * s .p = mul-le-mul-left (s .n) (m .flakes) in
     let bytes : s .n * s .p * 64 ≤ s .n * s .p * s .f = mul-le-mul-left (s .n * s .p) (m .wide) in
+    let records : s .n * 18 ≤ s .n * widthOf s = mul-le-mul-left (s .n) (width-ge s) in
     let tree : s .n ≤ leaves (s .n) = leaves-enough (s .n) (omega (arith, m .few)) in
     omega (arith, l .size)
 

@@ -11,11 +11,10 @@ use borrow.Author.Tests.{eq-eqb, ne-eqb}
 use Rattle.base.specs.Pick.{pick}
 use Rattle.records.specs.Journal.{bit}
 use Rattle.records.specs.declared.Record.{Record}
-use Rattle.records.specs.Record.{recordIn}
-use Rattle.layout.specs.Parts.{recordAt}
+use Rattle.records.specs.Record.{recordOf}
+use Rattle.layout.specs.declared.Shape.{Shape}
 use Rattle.drive.specs.declared.Drive.{Drive}
-use Rattle.drive.specs.Drive.{isChanging}
-use Rattle.tree.specs.Path.{recordOf}
+use Rattle.drive.specs.Drive.{shapeOf, isChanging}
 use Rattle.line.specs.Decimal.{decimal, longDecimal, widthIn}
 use Rattle.line.specs.Texts.{t-flakes}
 use Rattle.line.specs.Lines.{Put, newline}
@@ -162,7 +161,7 @@ pub lines-le : (d : Drive) (v : List ℕ) (k : ℕ) → d .p ≤ 64 → length (
 unfolding nuggetLines
 lines-le d v zero h = omega arith
 lines-le d v (suc k) h =
-    omega (arith, length-append (nuggetLines d v k) (nuggetLine d (recordOf v k) k), lines-le d v k h, line-le d (recordOf v k) k h)
+    omega (arith, length-append (nuggetLines d v k) (nuggetLine d (recordOf (shapeOf d) v k) k), lines-le d v k h, line-le d (recordOf (shapeOf d) v k) k h)
 
 pub lines-reach : (d : Drive) (v : List ℕ) (k : ℕ) {s x : List ℕ} {at r : ℕ} → Put s at (nuggetLines d v k) r x → d .p ≤ 64 → r ≤ at + 300 * k
 lines-reach d v k f h = omega (arith, f .behind, lines-le d v k h)
@@ -172,11 +171,11 @@ pub lines-start : (d : Drive) (v s : List ℕ) (at : ℕ) → Put s at (nuggetLi
 unfolding nuggetLines
 lines-start d v s at = put-none s at
 
-pub lines-turn : (d : Drive) (v : List ℕ) (n : ℕ) {s x y : List ℕ} {at next k a : ℕ} {r : Record} → Put s at (nuggetLines d v n) next x
-    → a ≡ recordAt n → r ≡ recordIn a v → Put x next (nuggetLine d r n) k y → Put s at (nuggetLines d v (n + 1)) k y
+pub lines-turn : (d : Drive) (v : List ℕ) (n : ℕ) {s x y : List ℕ} {at next k : ℕ} {z : Shape} {r : Record} → Put s at (nuggetLines d v n) next x
+    → z ≡ shapeOf d → r ≡ recordOf z v n → Put x next (nuggetLine d r n) k y → Put s at (nuggetLines d v (n + 1)) k y
 unfolding nuggetLines
 lines-turn d v n {x = x} {y = y} {next = next} {k = k} f ea er g =
-    let h : Put x next (nuggetLine d (recordOf v n) n) k y = rw (er, ea) at g in
+    let h : Put x next (nuggetLine d (recordOf (shapeOf d) v n) n) k y = rw (er, ea) at g in
     rw (add-one n) (put-then _ _ f h)
 
 -- the last two lines

@@ -10,8 +10,8 @@ use Rattle.answers.specs.Numbers.{accepts}
 use Rattle.records.specs.declared.Record.{Record}
 use Rattle.records.specs.Journal.{bit}
 use Rattle.drive.specs.declared.Drive.{Drive}
-use Rattle.drive.specs.Drive.{isChanging}
-use Rattle.tree.specs.Path.{recordOf}
+use Rattle.drive.specs.Drive.{shapeOf, isChanging}
+use Rattle.records.specs.Record.{recordOf}
 use Rattle.line.specs.Decimal.{decimal, longDecimal}
 use Rattle.line.specs.Texts.{t-flakes}
 use Rattle.line.specs.Lines.{newline}
@@ -64,7 +64,7 @@ nuggetLine d r n = nuggetText d r n ++ newline
 -- the lines of the first k nuggets
 unfoldable pub nuggetLines : Drive → List ℕ → ℕ → List ℕ
 nuggetLines d v zero = []
-nuggetLines d v (suc k) = nuggetLines d v k ++ nuggetLine d (recordOf v k) k
+nuggetLines d v (suc k) = nuggetLines d v k ++ nuggetLine d (recordOf (shapeOf d) v k) k
 
 -- `counter=5`: the outside counter that the head's counter was held against
 abbrev pub counterText : ℕ → List ℕ

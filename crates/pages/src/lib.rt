@@ -93,7 +93,7 @@ fn put_nuggets(out: &mut [u8], at: usize, d: Drive, vol: &[u8]) -> usize
     let mut next = at;
     let mut n = 0;
     while n < count {
-        let r = records::read(vol, layout::record_at(n));
+        let r = records::read(vol, drive::shape_of(d), n);
         next = put_nugget(&mut *out, next, d, r, n);
         n += 1;
     }

@@ -116,7 +116,19 @@ pub extern "C" fn ngt_path(
 )
     ensures { λ _. ⌜ now (answer .exit) ≡ answerImage (pathAnswer (shape n p f) epoch changing (now (vol .entry)) nugget) ⌝ }
 {
-    let a = path(vol, Shape { n, p, f }, epoch, changing, nugget);
+    let a = path(
+        vol,
+        Shape {
+            n,
+            p,
+            f,
+            version: 1,
+            cipher: 0,
+        },
+        epoch,
+        changing,
+        nugget,
+    );
     *answer = images::answer_image(a);
 }
 
@@ -132,7 +144,18 @@ pub extern "C" fn ngt_whole(
 )
     ensures { λ _. ⌜ now (answer .exit) ≡ answerImage (wholeAnswer (shape n p f) epoch changing (now (vol .entry))) ⌝ }
 {
-    let a = whole(vol, Shape { n, p, f }, epoch, changing);
+    let a = whole(
+        vol,
+        Shape {
+            n,
+            p,
+            f,
+            version: 1,
+            cipher: 0,
+        },
+        epoch,
+        changing,
+    );
     *answer = images::answer_image(a);
 }
 
@@ -140,7 +163,13 @@ pub extern "C" fn ngt_whole(
 pub extern "C" fn ngt_renew(vol: &mut [u8], n: u32, p: u32, f: u32, nugget: u32)
     ensures { λ _. ⌜ now (vol .exit) ≡ renewedBytes (shape n p f) nugget (now (vol .entry)) ⌝ }
 {
-    let s = Shape { n, p, f };
+    let s = Shape {
+        n,
+        p,
+        f,
+        version: 1,
+        cipher: 0,
+    };
     let a = lent_nugget(vol, s, nugget);
     if answers::accepted(a) {
         tree::renew(vol, s, nugget);
@@ -151,7 +180,13 @@ pub extern "C" fn ngt_renew(vol: &mut [u8], n: u32, p: u32, f: u32, nugget: u32)
 pub extern "C" fn ngt_build(vol: &mut [u8], n: u32, p: u32, f: u32)
     ensures { λ _. ⌜ now (vol .exit) ≡ builtBytes (shape n p f) (now (vol .entry)) ⌝ }
 {
-    let s = Shape { n, p, f };
+    let s = Shape {
+        n,
+        p,
+        f,
+        version: 1,
+        cipher: 0,
+    };
     let a = lent(vol, s);
     if answers::accepted(a) {
         tree::build(vol, s);

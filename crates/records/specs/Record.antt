@@ -5,6 +5,8 @@ use mathlib.Core.Bool.{Bool}
 use mathlib.Core.List.{List, [], _∷_}
 use lib.Dec.{eqb, ltb}
 use Rattle.base.specs.Pick.{both, either}
+use Rattle.layout.specs.declared.Shape.{Shape}
+use Rattle.layout.specs.Parts.{recordAt}
 use Rattle.codec.specs.Row.{Field, number, Values, _&_, row, rowIn}
 use Rattle.records.specs.declared.Record.{Record}
 
@@ -18,13 +20,17 @@ recordValues r = r .keycount & r .journal & r .epoch & tt
 abbrev pub recordFrom : Values recordRow → Record
 recordFrom (k, (j, (e, _))) = record { keycount = k; journal = j; epoch = e }
 
--- the 18 bytes of a record
-unfoldable pub recordBytes : Record → List ℕ
-recordBytes r = row recordRow (recordValues r)
+-- the bytes of a record
+unfoldable pub recordBytes : Shape → Record → List ℕ
+recordBytes s r = row recordRow (recordValues r)
 
--- the record whose 18 bytes stand at a place of a list
-unfoldable pub recordIn : ℕ → List ℕ → Record
-recordIn at v = recordFrom (rowIn recordRow at 0 v)
+-- the record whose bytes stand at a place of a list
+unfoldable pub recordIn : Shape → ℕ → List ℕ → Record
+recordIn s at v = recordFrom (rowIn recordRow at 0 v)
+
+-- record n of a volume
+abbrev pub recordOf : Shape → List ℕ → ℕ → Record
+recordOf s v n = recordIn s (recordAt s n) v
 
 -- "no bit at or above P is set"
 abbrev pub noneFrom : ℕ → ℕ → Bool

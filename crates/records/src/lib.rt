@@ -1,12 +1,16 @@
 // A nugget's record, its journal as a set of flakes, and the rule of a write on one nugget.
-// It touches `base` and `words` alone.
+// It touches `base`, `words`, `codec` and `layout`.
+use layout::Shape;
 ghost use mathlib.Core.Path.{_≡_};
 ghost use mathlib.Core.Bool.{false};
-ghost use Prim.Native.Nat.{_+_, _≤_};
+ghost use Prim.Native.Nat.{_+_, _<_, _≤_};
 ghost use lib.ListN.{length};
 ghost use lib.Seq.{sets};
+ghost use Rattle.layout.specs.Shape.{widthOf};
+ghost use Rattle.layout.specs.Parts.{recordAt};
+ghost use Rattle.layout.specs.Lent.{Lent};
 ghost use Rattle.records.specs.Journal.{bit, union, shareNone, flakesFrom, allFlakes, present};
-ghost use Rattle.records.specs.Record.{recordBytes, recordIn, noneFrom, epochFits, wellFormed};
+ghost use Rattle.records.specs.Record.{recordBytes, recordIn, recordOf, noneFrom, epochFits, wellFormed};
 ghost use Rattle.records.specs.Rule.{wayOf, rekeys, enciphered, turned, atTop};
 
 pub struct Record {
@@ -22,10 +26,26 @@ pub enum Way {
     Rekey(u64),
 }
 
+// Record n.
+pub fn read(vol: &[u8], s: Shape, n: u32) -> Record
+    requires { ⌜ Lent s (now vol) × (n < s .n) ⌝ }
+    ensures { λ r. ⌜ r ≡ recordOf s (now (vol .entry)) n ⌝ }
+{
+    read_at(vol, s, layout::record_at(s, n))
+}
+
+// Record n becomes r.
+pub fn store(vol: &mut [u8], s: Shape, n: u32, r: Record)
+    requires { ⌜ Lent s (now vol) × (n < s .n) ⌝ }
+    ensures { λ _. ⌜ now (vol .exit) ≡ sets (now (vol .entry)) (recordAt s n) (recordBytes s r) ⌝ }
+{
+    store_at(&mut *vol, s, layout::record_at(s, n), r)
+}
+
 // The record at `at`.
-pub fn read(vol: &[u8], at: usize) -> Record
-    requires { ⌜ at + 18 ≤ length (now vol) ⌝ }
-    ensures { λ r. ⌜ r ≡ recordIn at (now (vol .entry)) ⌝ }
+fn read_at(vol: &[u8], s: Shape, at: usize) -> Record
+    requires { ⌜ at + widthOf s ≤ length (now vol) ⌝ }
+    ensures { λ r. ⌜ r ≡ recordIn s at (now (vol .entry)) ⌝ }
 {
     Record {
         keycount: words::load(vol, at, 8),
@@ -35,9 +55,9 @@ pub fn read(vol: &[u8], at: usize) -> Record
 }
 
 // The record's bytes laid at `at`.
-pub fn store(vol: &mut [u8], at: usize, r: Record)
-    requires { ⌜ at + 18 ≤ length (now vol) ⌝ }
-    ensures { λ _. ⌜ now (vol .exit) ≡ sets (now (vol .entry)) at (recordBytes r) ⌝ }
+fn store_at(vol: &mut [u8], s: Shape, at: usize, r: Record)
+    requires { ⌜ at + widthOf s ≤ length (now vol) ⌝ }
+    ensures { λ _. ⌜ now (vol .exit) ≡ sets (now (vol .entry)) at (recordBytes s r) ⌝ }
 {
     let keycount = r.keycount;
     let journal = r.journal;

@@ -13,7 +13,7 @@ use Rattle.drive.specs.declared.Drive.{Drive}
 use Rattle.drive.specs.Drive.{shapeOf, isChanging, counterTop}
 use Rattle.nuggets.specs.Tests.{pathFor, flakesOf}
 use Rattle.changes.specs.Rekey.{epochTop, leftIn}
-use Rattle.tree.specs.Path.{recordOf}
+use Rattle.records.specs.Record.{recordOf}
 
 -- "9, 10, 15, 13"
 unfoldable pub beginTests : Drive → List ℕ → Answer
@@ -26,9 +26,9 @@ beginTests d secret =
 -- "12, 13, 14, 7 flakes"
 unfoldable pub moveTests : Drive → List ℕ → ℕ → Answer
 moveTests d v n =
-    pick (eqb (recordOf v n .epoch) (d .epoch)) A.Moved
+    pick (eqb (recordOf (shapeOf d) v n .epoch) (d .epoch)) A.Moved
     (pick (eqb (d .counter) counterTop) A.CounterTop
-    (pick (atTop sweepWay (recordOf v n)) A.KeycountTop (flakesOf d v n (recordOf v n .journal))))
+    (pick (atTop sweepWay (recordOf (shapeOf d) v n)) A.KeycountTop (flakesOf d v n (recordOf (shapeOf d) v n .journal))))
 
 -- "7 path, 12, 13, 14, 7 flakes"
 unfoldable pub nuggetTests : Drive → List ℕ → ℕ → Answer

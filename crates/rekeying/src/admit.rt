@@ -46,7 +46,7 @@ fn move_tests(d: Drive, vol: &[u8], n: u32) -> Answer
     requires { ⌜ Lent (shapeOf d) (now vol) × (n < d .n) ⌝ }
     ensures { λ r. ⌜ r ≡ moveTests d (now (vol .entry)) n ⌝ }
 {
-    let r = records::read(vol, layout::record_at(n));
+    let r = records::read(vol, drive::shape_of(d), n);
     if r.epoch == d.epoch {
         return Answer::Moved;
     }
@@ -95,7 +95,7 @@ fn left_in(d: Drive, vol: &[u8]) -> u32
     requires { ⌜ Lent (shapeOf d) (now vol) ⌝ }
     ensures { λ r. ⌜ r ≡ leftIn d (now (vol .entry)) ⌝ }
 {
-    d.n - reports::moved_in(vol, d.n, d.epoch)
+    d.n - reports::moved_in(vol, drive::shape_of(d), d.epoch)
 }
 
 // "7 whole, 11, 13"

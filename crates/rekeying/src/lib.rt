@@ -13,7 +13,7 @@ ghost use Rattle.layout.specs.Lent.{Lent};
 ghost use Rattle.records.specs.Rule.{sweepWay, atTop};
 ghost use Rattle.drive.specs.Drive.{shapeOf, counterTop};
 ghost use Rattle.changes.specs.Rekey.{epochTop, begunDrive, beginDone, beginVolume, sweepWork, sweepDone, sweepVolume, finishedDrive, finishDone, finishVolume};
-ghost use Rattle.tree.specs.Path.{recordOf};
+ghost use Rattle.records.specs.Record.{recordOf};
 
 // "state changing, epoch plus 1, the old secret kept"
 fn begun(d: Drive, secret: [u8; 32]) -> Drive
@@ -80,7 +80,7 @@ pub fn begin(d: Drive, vol: &mut [u8], secret: [u8; 32]) -> Done
 
 // All that a sweep stores before the head: flakes and tags of the nugget, its record, its leaf and path.
 fn rekey(d: Drive, vol: &mut [u8], n: u32)
-    requires { ⌜ Lent (shapeOf d) (now vol) × (n < d .n) × (atTop sweepWay (recordOf (now vol) n) ≡ false) ⌝ }
+    requires { ⌜ Lent (shapeOf d) (now vol) × (n < d .n) × (atTop sweepWay (recordOf (shapeOf d) (now vol) n) ≡ false) ⌝ }
     ensures { λ _. ⌜ now (vol .exit) ≡ sweepWork d (now (vol .entry)) n ⌝ }
 {
     let none = [0u8; 0];

@@ -23,7 +23,7 @@ use Rattle.drive.specs.Drive.{shapeOf, isChanging}
 use Rattle.drive.specs.Opening.{inForm, openingOf}
 use Rattle.drive.proofs.HeadLaws.{form-limits}
 use Rattle.drive.proofs.OpeningLaws.{opening-lent}
-use Rattle.tree.specs.Path.{recordOf}
+use Rattle.records.specs.Record.{recordOf}
 use Rattle.reports.specs.Report.{reportAnswer}
 use Rattle.reports.specs.Stored.{isFlake, storedAnswer}
 use Rattle.answers.proofs.StageLaws.{both-stages, passed, accepted-is}
@@ -40,7 +40,7 @@ lent-if d v x h =
 -- an accepted report
 pub record Told (d : Drive) (v : List ℕ) : Type 0 where
   pub lent : Lent (shapeOf d) v
-  pub journals : (m : ℕ) → m < d .n → recordOf v m .journal < 2 ^ d .p
+  pub journals : (m : ℕ) → m < d .n → recordOf (shapeOf d) v m .journal < 2 ^ d .p
 
 pub report-is : (d : Drive) (v : List ℕ) → accepts (reportAnswer d v) ≡ true → Told d v
 unfolding reportAnswer andThen
@@ -50,7 +50,7 @@ report-is d v h =
     let whole : w ≡ A.Accepted = accepted-is w (q .1) in
     record {
       lent = opening-lent d v (q .0);
-      journals = λ m l. formed-journal (d .p) (d .epoch) (isChanging (d .state)) (recordOf v m) (whole-formed (shapeOf d) (d .epoch) (isChanging (d .state)) v whole m l);
+      journals = λ m l. formed-journal (d .p) (d .epoch) (isChanging (d .state)) (recordOf (shapeOf d) v m) (whole-formed (shapeOf d) (d .epoch) (isChanging (d .state)) v whole m l);
     }
 
 -- a stored flake that is shown

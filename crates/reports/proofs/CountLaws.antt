@@ -10,43 +10,42 @@ use lib.Pow.{pow-mono}
 use lib.Dec.{eqb}
 use borrow.Author.Tests.{eq-eqb, ne-eqb}
 use Rattle.base.specs.Pick.{pick}
-use Rattle.layout.specs.Parts.{recordAt}
+use Rattle.layout.specs.declared.Shape.{Shape}
 use Rattle.records.specs.Journal.{many, present}
-use Rattle.records.specs.Record.{recordIn}
+use Rattle.records.specs.Record.{recordOf}
 use Rattle.records.specs.declared.Record.{Record}
 use Rattle.records.proofs.CountLaws.{many-le, present-le, present-more}
-use Rattle.tree.specs.Path.{recordOf}
 use Rattle.reports.specs.declared.told.Counts.{Counts}
 use Rattle.reports.specs.Counts.{isMoved, movedIn, flakesIn, countOf, none, plus, countsIn}
 
 -- before the first turn
-pub moved-none : (e : ℕ) (v : List ℕ) → 0 ≡ movedIn e v 0
+pub moved-none : (s : Shape) (e : ℕ) (v : List ℕ) → 0 ≡ movedIn s e v 0
 unfolding many
-moved-none e v = refl
+moved-none s e v = refl
 
-pub counts-none : (p e : ℕ) (v : List ℕ) → none ≡ countsIn p e v 0
+pub counts-none : (s : Shape) (p e : ℕ) (v : List ℕ) → none ≡ countsIn s p e v 0
 unfolding countsIn
-counts-none p e v = refl
+counts-none s p e v = refl
 
 -- a turn at nugget i, whose record r was read at its place
-pub moved-one : (e : ℕ) (v : List ℕ) (i : ℕ) {m at : ℕ} {r : Record} → m ≡ movedIn e v i → at ≡ recordAt i → r ≡ recordIn at v → r .epoch ≡ e
-    → m + 1 ≡ movedIn e v (i + 1)
+pub moved-one : (s : Shape) (e : ℕ) (v : List ℕ) (i : ℕ) {m : ℕ} {r : Record} → m ≡ movedIn s e v i → r ≡ recordOf s v i → r .epoch ≡ e
+    → m + 1 ≡ movedIn s e v (i + 1)
 unfolding many
-moved-one e v i em ea er ee =
-    let q : recordOf v i .epoch ≡ e = rw (er, ea) at ee in
-    rw (em, add-one i, eq-eqb (recordOf v i .epoch) e q)
+moved-one s e v i em er ee =
+    let q : recordOf s v i .epoch ≡ e = rw er at ee in
+    rw (em, add-one i, eq-eqb (recordOf s v i .epoch) e q)
 
-pub moved-same : (e : ℕ) (v : List ℕ) (i : ℕ) {m at : ℕ} {r : Record} → m ≡ movedIn e v i → at ≡ recordAt i → r ≡ recordIn at v → (r .epoch ≡ e → ⊥)
-    → m ≡ movedIn e v (i + 1)
+pub moved-same : (s : Shape) (e : ℕ) (v : List ℕ) (i : ℕ) {m : ℕ} {r : Record} → m ≡ movedIn s e v i → r ≡ recordOf s v i → (r .epoch ≡ e → ⊥)
+    → m ≡ movedIn s e v (i + 1)
 unfolding many
-moved-same e v i em ea er ne =
-    let q : recordOf v i .epoch ≡ e → ⊥ = rw (er, ea) at ne in
-    em ∙ rw (add-one i, ne-eqb (recordOf v i .epoch) e q) (omega arith)
+moved-same s e v i em er ne =
+    let q : recordOf s v i .epoch ≡ e → ⊥ = rw er at ne in
+    em ∙ rw (add-one i, ne-eqb (recordOf s v i .epoch) e q) (omega arith)
 
-pub counts-more : (p e : ℕ) (v : List ℕ) (i : ℕ) {c k m : Counts} {at : ℕ} {r : Record} → c ≡ countsIn p e v i → at ≡ recordAt i → r ≡ recordIn at v
-    → k ≡ countOf p e r → m ≡ plus c k → m ≡ countsIn p e v (i + 1)
+pub counts-more : (s : Shape) (p e : ℕ) (v : List ℕ) (i : ℕ) {c k m : Counts} {r : Record} → c ≡ countsIn s p e v i → r ≡ recordOf s v i
+    → k ≡ countOf p e r → m ≡ plus c k → m ≡ countsIn s p e v (i + 1)
 unfolding countsIn
-counts-more p e v i ec ea er ek em = rw (em, ec, ek, er, ea, add-one i)
+counts-more s p e v i ec er ek em = rw (em, ec, ek, er, add-one i)
 
 -- of a record that has moved, and of one that has not
 pub count-one : (p e : ℕ) (r : Record) {k : ℕ} → k ≡ present p (r .journal) → r .epoch ≡ e
@@ -60,19 +59,19 @@ unfolding countOf
 count-none p e r ek ne = rw (ne-eqb (r .epoch) e ne, ek)
 
 -- no more have moved than there are
-pub moved-le : (e : ℕ) (v : List ℕ) (n : ℕ) → movedIn e v n ≤ n
-moved-le e v n = many-le n (isMoved e v)
+pub moved-le : (s : Shape) (e : ℕ) (v : List ℕ) (n : ℕ) → movedIn s e v n ≤ n
+moved-le s e v n = many-le n (isMoved s e v)
 
 -- the counts are those of finish and of the listing
-pub counts-moved : (p e : ℕ) (v : List ℕ) (n : ℕ) → countsIn p e v n .moved ≡ movedIn e v n
+pub counts-moved : (s : Shape) (p e : ℕ) (v : List ℕ) (n : ℕ) → countsIn s p e v n .moved ≡ movedIn s e v n
 unfolding countsIn countOf many
-counts-moved p e v zero = refl
-counts-moved p e v (suc n) = rw (counts-moved p e v n)
+counts-moved s p e v zero = refl
+counts-moved s p e v (suc n) = rw (counts-moved s p e v n)
 
-pub counts-flakes : (p e : ℕ) (v : List ℕ) (n : ℕ) → countsIn p e v n .flakes ≡ flakesIn p v n
+pub counts-flakes : (s : Shape) (p e : ℕ) (v : List ℕ) (n : ℕ) → countsIn s p e v n .flakes ≡ flakesIn s p v n
 unfolding countsIn countOf flakesIn
-counts-flakes p e v zero = refl
-counts-flakes p e v (suc n) = rw (counts-flakes p e v n)
+counts-flakes s p e v zero = refl
+counts-flakes s p e v (suc n) = rw (counts-flakes s p e v n)
 
 -- counts of n records with at most p flakes each
 pub record Counted (p n : ℕ) (c : Counts) : Type 0 where
@@ -98,24 +97,24 @@ one-more p n c false k l h =
       done-all = λ e. absurd (omega (arith, h .moved-few));
     }
 
-pub counts-stand : (p e : ℕ) (v : List ℕ) (n : ℕ) → Counted p n (countsIn p e v n)
+pub counts-stand : (s : Shape) (p e : ℕ) (v : List ℕ) (n : ℕ) → Counted p n (countsIn s p e v n)
 unfolding countsIn countOf
-counts-stand p e v zero = record { moved-few = omega arith; flakes-few = omega arith; done-le = omega arith; done-all = λ e. refl }
-counts-stand p e v (suc n) =
-    one-more p n (countsIn p e v n) (isMoved e v n) (present p (recordOf v n .journal)) (present-le p (recordOf v n .journal)) (counts-stand p e v n)
+counts-stand s p e v zero = record { moved-few = omega arith; flakes-few = omega arith; done-le = omega arith; done-all = λ e. refl }
+counts-stand s p e v (suc n) =
+    one-more p n (countsIn s p e v n) (isMoved s e v n) (present p (recordOf s v n .journal)) (present-le p (recordOf s v n .journal)) (counts-stand s p e v n)
 
 -- no sum of a turn rolls over
-pub counts-fit : (e : ℕ) (v : List ℕ) (i : ℕ) (r : Record) {c k : Counts} → i < 16384 → c ≡ countsIn 64 e v i → k ≡ countOf 64 e r
+pub counts-fit : (s : Shape) (e : ℕ) (v : List ℕ) (i : ℕ) (r : Record) {c k : Counts} → i < 16384 → c ≡ countsIn s 64 e v i → k ≡ countOf 64 e r
     → (c .moved + k .moved < 2 ^ 32) × (c .flakes + k .flakes < 2 ^ 32) × (c .done + k .done < 2 ^ 32)
 unfolding countOf
-counts-fit e v i r l ec ek =
-    let h = one-more 64 i (countsIn 64 e v i) (eqb (r .epoch) e) (present 64 (r .journal)) (present-le 64 (r .journal)) (counts-stand 64 e v i) in
+counts-fit s e v i r l ec ek =
+    let h = one-more 64 i (countsIn s 64 e v i) (eqb (r .epoch) e) (present 64 (r .journal)) (present-le 64 (r .journal)) (counts-stand s 64 e v i) in
     rw (ec, ek) (omega (arith, h .moved-few), omega (arith, h .flakes-few), omega (arith, h .flakes-few, h .done-le))
 
 -- where no journal has a bit at or above P, the ones of its word are its flakes below P
-pub counts-below : (p e : ℕ) (v : List ℕ) (n : ℕ) → p ≤ 64 → ((m : ℕ) → m < n → recordOf v m .journal < 2 ^ p) → countsIn 64 e v n ≡ countsIn p e v n
+pub counts-below : (s : Shape) (p e : ℕ) (v : List ℕ) (n : ℕ) → p ≤ 64 → ((m : ℕ) → m < n → recordOf s v m .journal < 2 ^ p) → countsIn s 64 e v n ≡ countsIn s p e v n
 unfolding countsIn countOf
-counts-below p e v zero h f = refl
-counts-below p e v (suc n) h f =
-    let low : recordOf v n .journal < 2 ^ p = f n (omega arith) in
-    rw (counts-below p e v n h (λ m l. f m (omega arith)), present-more p 64 (recordOf v n .journal) low (lt-of-lt-of-le low (pow-mono h)))
+counts-below s p e v zero h f = refl
+counts-below s p e v (suc n) h f =
+    let low : recordOf s v n .journal < 2 ^ p = f n (omega arith) in
+    rw (counts-below s p e v n h (λ m l. f m (omega arith)), present-more p 64 (recordOf s v n .journal) low (lt-of-lt-of-le low (pow-mono h)))

@@ -15,7 +15,8 @@ use Rattle.answers.specs.Numbers.{accepts}
 use Rattle.layout.specs.Parts.{lengthOf, flakeAt}
 use Rattle.layout.proofs.Limits.{limits}
 use Rattle.records.specs.Journal.{many, present}
-use Rattle.tree.specs.Path.{recordOf}
+use Rattle.records.specs.Record.{recordOf}
+use Rattle.layout.specs.declared.Shape.{Shape}
 use Rattle.drive.specs.declared.Drive.{Drive}
 use Rattle.drive.specs.Drive.{shapeOf}
 use Rattle.drive.specs.Opening.{openingOf}
@@ -44,24 +45,24 @@ pub many-not : (n : ℕ) (g : ℕ → Bool) → n - many n g ≡ many n (λ i. n
 many-not n g = omega (arith, many-rest n g)
 
 -- "present flakes in moved nuggets", nugget by nugget
-unfoldable pub doneIn : ℕ → ℕ → List ℕ → ℕ → ℕ
-doneIn p e v zero = 0
-doneIn p e v (suc n) = doneIn p e v n + pick (eqb (recordOf v n .epoch) e) (present p (recordOf v n .journal)) 0
+unfoldable pub doneIn : Shape → ℕ → ℕ → List ℕ → ℕ → ℕ
+doneIn s p e v zero = 0
+doneIn s p e v (suc n) = doneIn s p e v n + pick (eqb (recordOf s v n .epoch) e) (present p (recordOf s v n .journal)) 0
 
-done-is : (p e : ℕ) (v : List ℕ) (n : ℕ) → doneIn p e v n ≡ countsIn p e v n .done
+done-is : (s : Shape) (p e : ℕ) (v : List ℕ) (n : ℕ) → doneIn s p e v n ≡ countsIn s p e v n .done
 unfolding countsIn countOf doneIn
-done-is p e v zero = refl
-done-is p e v (suc n) = rw (done-is p e v n)
+done-is s p e v zero = refl
+done-is s p e v (suc n) = rw (done-is s p e v n)
 
 module _ (d : Drive) (v : List ℕ) where
   -- "Report gives N, nuggets moved (epoch equal to the head's), left, flakes present, and share"
   pub record Fields (r : Report) : Type 0 where
     pub answer-told : r .answer ≡ A.Accepted
     pub n-told : r .n ≡ d .n
-    pub moved-told : r .moved ≡ many (d .n) (λ i. eqb (recordOf v i .epoch) (d .epoch))
-    pub left-told : r .left ≡ many (d .n) (λ i. not (eqb (recordOf v i .epoch) (d .epoch)))
-    pub flakes-told : r .flakes ≡ flakesIn (d .p) v (d .n)
-    pub done-told : r .done ≡ doneIn (d .p) (d .epoch) v (d .n)
+    pub moved-told : r .moved ≡ many (d .n) (λ i. eqb (recordOf (shapeOf d) v i .epoch) (d .epoch))
+    pub left-told : r .left ≡ many (d .n) (λ i. not (eqb (recordOf (shapeOf d) v i .epoch) (d .epoch)))
+    pub flakes-told : r .flakes ≡ flakesIn (shapeOf d) (d .p) v (d .n)
+    pub done-told : r .done ≡ doneIn (shapeOf d) (d .p) (d .epoch) v (d .n)
     -- document 02, Item 1, without a flake and with some
     pub empty-told : r .flakes ≡ 0 → r .share ≡ r .moved * 10000 / r .n
     pub share-told : (r .flakes ≡ 0 → ⊥) → r .share ≡ min (pick (eqb (r .left) 0) 10000 9999) (r .done * 10000 / r .flakes)
@@ -69,18 +70,18 @@ module _ (d : Drive) (v : List ℕ) where
   pub report-exact : reportAnswer d v ≡ A.Accepted → Fields (reportOf d v)
   unfolding shareOf
   report-exact e =
-      let c = countsIn (d .p) (d .epoch) v (d .n) in
-      let stand = counts-stand (d .p) (d .epoch) v (d .n) in
+      let c = countsIn (shapeOf d) (d .p) (d .epoch) v (d .n) in
+      let stand = counts-stand (shapeOf d) (d .p) (d .epoch) v (d .n) in
       let some = limits (shapeOf d) (report-is d v (ap accepts e) .lent .limited) .some in
-      let moved = counts-moved (d .p) (d .epoch) v (d .n) in
+      let moved = counts-moved (shapeOf d) (d .p) (d .epoch) v (d .n) in
       rw (report-accepted d v (ap accepts e))
       (record {
         answer-told = e;
         n-told = refl;
         moved-told = moved;
-        left-told = ap (λ (m : ℕ). d .n - m) moved ∙ many-not (d .n) (λ i. eqb (recordOf v i .epoch) (d .epoch));
-        flakes-told = counts-flakes (d .p) (d .epoch) v (d .n);
-        done-told = sym (done-is (d .p) (d .epoch) v (d .n));
+        left-told = ap (λ (m : ℕ). d .n - m) moved ∙ many-not (d .n) (λ i. eqb (recordOf (shapeOf d) v i .epoch) (d .epoch));
+        flakes-told = counts-flakes (shapeOf d) (d .p) (d .epoch) v (d .n);
+        done-told = sym (done-is (shapeOf d) (d .p) (d .epoch) v (d .n));
         empty-told = share-empty (d .p) (d .n) c some stand;
         share-told = λ ne. rw (cap-left (d .p) (d .n) c some stand, exact-flakes (d .n) c ne) refl;
       })

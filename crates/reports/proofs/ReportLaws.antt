@@ -21,13 +21,13 @@ use Rattle.reports.proofs.AnswerLaws.{report-is}
 
 module _ (d : Drive) (v : List ℕ) where
   abbrev counts : Counts
-  counts = countsIn (d .p) (d .epoch) v (d .n)
+  counts = countsIn (shapeOf d) (d .p) (d .epoch) v (d .n)
 
   stand : Counted (d .p) (d .n) counts
-  stand = counts-stand (d .p) (d .epoch) v (d .n)
+  stand = counts-stand (shapeOf d) (d .p) (d .epoch) v (d .n)
 
   -- accepted: the counts of the records
-  pub report-accepted : accepts (reportAnswer d v) ≡ true → reportOf d v ≡ counted (reportAnswer d v) (d .n) (countsIn (d .p) (d .epoch) v (d .n))
+  pub report-accepted : accepts (reportAnswer d v) ≡ true → reportOf d v ≡ counted (reportAnswer d v) (d .n) (countsIn (shapeOf d) (d .p) (d .epoch) v (d .n))
   unfolding reportOf
   report-accepted h = yes _ h refl
 
@@ -37,7 +37,7 @@ module _ (d : Drive) (v : List ℕ) where
   report-refused h = no _ h refl
 
   -- the code's counts are those
-  pub told-is : {a : Answer} {c : Counts} {h : ℕ} → accepts (reportAnswer d v) ≡ true → a ≡ reportAnswer d v → c ≡ countsIn 64 (d .epoch) v (d .n)
+  pub told-is : {a : Answer} {c : Counts} {h : ℕ} → accepts (reportAnswer d v) ≡ true → a ≡ reportAnswer d v → c ≡ countsIn (shapeOf d) 64 (d .epoch) v (d .n)
       → h ≡ shareOf (d .n) c
       → _≡_ {A = Report}
       (record { answer = a; n = d .n; moved = c .moved; left = d .n - c .moved; flakes = c .flakes; share = h; done = c .done })
@@ -45,7 +45,7 @@ module _ (d : Drive) (v : List ℕ) where
   told-is q ea ec eh =
       let is = report-is d v q in
       let l : Limits (shapeOf d) = limits (shapeOf d) (is .lent .limited) in
-      rw (eh, ec, ea, counts-below (d .p) (d .epoch) v (d .n) (l .narrow) (is .journals)) (sym (report-accepted q))
+      rw (eh, ec, ea, counts-below (shapeOf d) (d .p) (d .epoch) v (d .n) (l .narrow) (is .journals)) (sym (report-accepted q))
 
   pub refused-is : {a : Answer} → accepts (reportAnswer d v) ≡ false → a ≡ reportAnswer d v → refused a ≡ reportOf d v
   refused-is q e = rw e (sym (report-refused q))

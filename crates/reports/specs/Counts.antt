@@ -4,23 +4,24 @@ use mathlib.Core.Bool.{Bool}
 use mathlib.Core.List.{List}
 use lib.Dec.{eqb, ltb}
 use Rattle.base.specs.Pick.{pick}
+use Rattle.layout.specs.declared.Shape.{Shape}
 use Rattle.records.specs.declared.Record.{Record}
 use Rattle.records.specs.Journal.{many, present}
-use Rattle.tree.specs.Path.{recordOf}
+use Rattle.records.specs.Record.{recordOf}
 use Rattle.reports.specs.declared.told.Counts.{Counts}
 
 -- "moved (epoch equal to the head's)"
-abbrev pub isMoved : ℕ → List ℕ → ℕ → Bool
-isMoved epoch v n = eqb (recordOf v n .epoch) epoch
+abbrev pub isMoved : Shape → ℕ → List ℕ → ℕ → Bool
+isMoved s epoch v n = eqb (recordOf s v n .epoch) epoch
 
 -- "nuggets moved": how many of the first k
-abbrev pub movedIn : ℕ → List ℕ → ℕ → ℕ
-movedIn epoch v k = many k (isMoved epoch v)
+abbrev pub movedIn : Shape → ℕ → List ℕ → ℕ → ℕ
+movedIn s epoch v k = many k (isMoved s epoch v)
 
 -- "flakes present": of each of the first k nuggets, how many flakes below p are in its journal
-unfoldable pub flakesIn : ℕ → List ℕ → ℕ → ℕ
-flakesIn p v zero = 0
-flakesIn p v (suc k) = flakesIn p v k + present p (recordOf v k .journal)
+unfoldable pub flakesIn : Shape → ℕ → List ℕ → ℕ → ℕ
+flakesIn s p v zero = 0
+flakesIn s p v (suc k) = flakesIn s p v k + present p (recordOf s v k .journal)
 
 -- what one record counts for: its nugget if that has moved, its present flakes, and these once more if the nugget has moved
 unfoldable pub countOf : ℕ → ℕ → Record → Counts
@@ -35,9 +36,9 @@ abbrev pub plus : Counts → Counts → Counts
 plus a b = record { moved = a .moved + b .moved; flakes = a .flakes + b .flakes; done = a .done + b .done }
 
 -- the counts of the first k records
-unfoldable pub countsIn : ℕ → ℕ → List ℕ → ℕ → Counts
-countsIn p epoch v zero = none
-countsIn p epoch v (suc k) = plus (countsIn p epoch v k) (countOf p epoch (recordOf v k))
+unfoldable pub countsIn : Shape → ℕ → ℕ → List ℕ → ℕ → Counts
+countsIn s p epoch v zero = none
+countsIn s p epoch v (suc k) = plus (countsIn s p epoch v k) (countOf p epoch (recordOf s v k))
 
 -- Document 02, Item 1: "present flakes in moved nuggets × 10,000 / all present flakes, rounded down; with no flake
 -- present the nugget share stands": hundredths of a percent

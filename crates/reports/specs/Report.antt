@@ -27,7 +27,7 @@ refused a = record { answer = a; n = 0; moved = 0; left = 0; flakes = 0; share =
 
 -- the report under an answer
 abbrev pub reportAt : Answer → Drive → List ℕ → Report
-reportAt a d v = pick (accepts a) (counted a (d .n) (countsIn (d .p) (d .epoch) v (d .n))) (refused a)
+reportAt a d v = pick (accepts a) (counted a (d .n) (countsIn (shapeOf d) (d .p) (d .epoch) v (d .n))) (refused a)
 
 unfoldable pub reportOf : Drive → List ℕ → Report
 reportOf d v = reportAt (reportAnswer d v) d v

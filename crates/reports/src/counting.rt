@@ -1,10 +1,10 @@
 // The counts of a report, in one pass over the records, and the share.
 use crate::told::Counts;
+use layout::Shape;
 use records::Record;
 ghost use mathlib.Core.Path.{_≡_};
-ghost use Prim.Native.Nat.{_+_, _^_, _<_, _≤_};
-ghost use lib.ListN.{length};
-ghost use Rattle.layout.specs.Parts.{recordAt};
+ghost use Prim.Native.Nat.{_+_, _^_, _<_};
+ghost use Rattle.layout.specs.Lent.{Lent};
 ghost use Rattle.reports.specs.Counts.{countOf, plus, countsIn, capOf, exactOf, shareOf};
 
 pub fn count_of(r: Record, epoch: u16) -> Counts
@@ -37,10 +37,11 @@ fn plus(a: Counts, b: Counts) -> Counts
 }
 
 // No shape has more nuggets, so no sum of counts rolls over.
-pub fn counts_in(vol: &[u8], n: u32, epoch: u16) -> Counts
-    requires { ⌜ (recordAt n ≤ length (now vol)) × (n ≤ 16384) ⌝ }
-    ensures { λ c. ⌜ c ≡ countsIn 64 epoch (now (vol .entry)) n ⌝ }
+pub fn counts_in(vol: &[u8], s: Shape, epoch: u16) -> Counts
+    requires { ⌜ Lent s (now vol) ⌝ }
+    ensures { λ c. ⌜ c ≡ countsIn s 64 epoch (now (vol .entry)) (s .n) ⌝ }
 {
+    let n = s.n;
     let mut c = Counts {
         moved: 0,
         flakes: 0,
@@ -48,7 +49,7 @@ pub fn counts_in(vol: &[u8], n: u32, epoch: u16) -> Counts
     };
     let mut i = 0;
     while i < n {
-        let r = records::read(vol, layout::record_at(i));
+        let r = records::read(vol, s, i);
         c = plus(c, count_of(r, epoch));
         i += 1;
     }

@@ -8,26 +8,26 @@ pub use counting::count_of;
 pub use counting::counts_in;
 pub use counting::share_of;
 use drive::Drive;
+use layout::Shape;
 pub use told::Counts;
 pub use told::Report;
 ghost use mathlib.Core.Path.{_≡_};
-ghost use Prim.Native.Nat.{_≤_};
-ghost use lib.ListN.{length};
 ghost use denote.Ref.{ptr};
-ghost use Rattle.layout.specs.Parts.{recordAt};
+ghost use Rattle.layout.specs.Lent.{Lent};
 ghost use Rattle.reports.specs.Counts.{movedIn};
 ghost use Rattle.reports.specs.Report.{reportAnswer, reportOf};
 ghost use Rattle.reports.specs.Stored.{isFlake, storedAnswer, storedFlake, storedAt, onward};
 
-// How many of the first n nuggets have this epoch.
-pub fn moved_in(vol: &[u8], n: u32, epoch: u16) -> u32
-    requires { ⌜ recordAt n ≤ length (now vol) ⌝ }
-    ensures { λ r. ⌜ r ≡ movedIn epoch (now (vol .entry)) n ⌝ }
+// How many nuggets have this epoch.
+pub fn moved_in(vol: &[u8], s: Shape, epoch: u16) -> u32
+    requires { ⌜ Lent s (now vol) ⌝ }
+    ensures { λ r. ⌜ r ≡ movedIn s epoch (now (vol .entry)) (s .n) ⌝ }
 {
+    let n = s.n;
     let mut moved = 0;
     let mut i = 0;
     while i < n {
-        let r = records::read(vol, layout::record_at(i));
+        let r = records::read(vol, s, i);
         i += 1;
         if r.epoch == epoch {
             moved += 1;
@@ -53,7 +53,7 @@ pub fn report(d: Drive, vol: &[u8]) -> Report
 {
     let answer = report_answer(d, vol);
     if answers::accepted(answer) {
-        let c = counting::counts_in(vol, d.n, d.epoch);
+        let c = counting::counts_in(vol, drive::shape_of(d), d.epoch);
         let share = counting::share_of(d.n, c);
         return Report {
             answer: answer,

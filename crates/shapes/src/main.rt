@@ -8,7 +8,13 @@ fn field(name: &[u8], x: u32) {
 }
 
 fn tell(n: u32, p: u32, f: u32) {
-    let s = Shape { n, p, f };
+    let s = Shape {
+        n,
+        p,
+        f,
+        version: 1,
+        cipher: 0,
+    };
     field(b"N ", n);
     field(b", P ", p);
     field(b", F ", f);

@@ -9,10 +9,10 @@ use lib.Dec.{ltb}
 use borrow.Author.Tests.{ltb-true, ltb-false}
 use Rattle.base.specs.Lists.{part}
 use Rattle.base.proofs.PickLaws.{told, clash}
-use Rattle.layout.specs.Shape.{leaves}
+use Rattle.layout.specs.Shape.{leaves, widthOf}
 use Rattle.layout.specs.Parts.{recordAt, tagAt, nodeAt}
 use Rattle.layout.specs.declared.Shape.{Shape}
-use Rattle.layout.proofs.Places.{apart, record-inside}
+use Rattle.layout.proofs.Places.{apart, record-inside, records-above}
 use Rattle.nodes.specs.Alike.{Alike}
 use Rattle.nodes.proofs.Bounds.{tags-inside, node-below, node-above}
 use Rattle.nodes.proofs.MadeLaws.{made-alike}
@@ -44,10 +44,14 @@ agrees-beside s n v w l h x =
       others = λ m k ne. other m k ne (told (ltb m n));
     }
   where
-    record-alike : (m : ℕ) → m < s .n → (m ≡ n → ⊥) → part (recordAt m) 18 v ≡ part (recordAt m) 18 w
+    record-alike : (m : ℕ) → m < s .n → (m ≡ n → ⊥) → part (recordAt s m) (widthOf s) v ≡ part (recordAt s m) (widthOf s) w
     record-alike m k ne =
-        part-equal (recordAt m) 18 v w (x .long) (rw (l .size) (omega (arith, record-inside s m k)))
-        (λ j p q. x .elsewhere j (λ c d. omega (arith, ne)) (λ c d. omega (arith, record-inside s m k)))
+        part-equal (recordAt s m) (widthOf s) v w (x .long) (rw (l .size) (omega (arith, record-inside s m k)))
+        (λ j p q. x .elsewhere j (λ c d. apart-records j p q c d (told (ltb m n))) (λ c d. omega (arith, record-inside s m k)))
+      where
+        apart-records : (j : ℕ) → recordAt s m ≤ j → j < recordAt s m + widthOf s → recordAt s n ≤ j → j < recordAt s n + widthOf s → (ltb m n ≡ true) ⊎ (ltb m n ≡ false) → ⊥
+        apart-records j p q c d (inl e) = omega (arith, records-above s m n (ltb-true m n e))
+        apart-records j p q c d (inr e) = omega (arith, records-above s n m (omega (arith, ne, ltb-false m n e)))
 
     tags-alike : (m : ℕ) → m < s .n → (m * s .p + s .p ≤ n * s .p) ⊎ (n * s .p + s .p ≤ m * s .p) → part (tagAt s m 0) (16 * s .p) v ≡ part (tagAt s m 0) (16 * s .p) w
     tags-alike m k (inl z) =

@@ -9,13 +9,12 @@ use lib.ListN.{length}
 use borrow.Author.Tests.{le-leb, lt-leb, lt-ltb, le-ltb}
 use Rattle.base.proofs.PickLaws.{yes, no, both-on, both-off}
 use Rattle.layout.specs.Shape.{heightOf, leaves}
-use Rattle.layout.specs.Parts.{recordAt}
 use Rattle.layout.specs.declared.Shape.{Shape}
 use Rattle.answers.specs.declared.Answer.{Answer}
 use Rattle.answers.specs.declared.Answer.the-variants as A
 use Rattle.answers.specs.declared.Place.the-variants as P
 use Rattle.answers.specs.Numbers.{accepts}
-use Rattle.records.specs.Record.{recordIn, wellFormed}
+use Rattle.records.specs.Record.{recordOf, wellFormed}
 use Rattle.records.specs.declared.Record.{Record}
 use Rattle.nodes.specs.Made.{goodNode, storeNode}
 use Rattle.tree.specs.Path.{goodRecord, climbed, pathOf, Rises}
@@ -102,15 +101,15 @@ module _ (s : Shape) (v : List ℕ) (i : ℕ) where
   bad-bad a e = sym (no _ a (no _ e refl))
 
 module _ (s : Shape) (epoch : ℕ) (changing : Bool) (v : List ℕ) where
-  pub record-on : (n : ℕ) {at l : ℕ} {r : Record} {ok : Bool} → at ≡ recordAt n → r ≡ recordIn at v → wellFormed (s .p) epoch changing r ≡ true → l ≡ leaves (s .n)
+  pub record-on : (n : ℕ) {l : ℕ} {r : Record} {ok : Bool} → r ≡ recordOf s v n → wellFormed (s .p) epoch changing r ≡ true → l ≡ leaves (s .n)
       → ok ≡ goodNode s v (l + n) → ok ≡ goodRecord s epoch changing v n
   unfolding goodRecord
-  record-on n ea er ew el eo = rw (eo, el) (sym (both-on (rw (er, ea) at ew) refl))
+  record-on n er ew el eo = rw (eo, el) (sym (both-on (rw er at ew) refl))
 
-  pub record-off : (n : ℕ) {at : ℕ} {r : Record} → at ≡ recordAt n → r ≡ recordIn at v → wellFormed (s .p) epoch changing r ≡ false
+  pub record-off : (n : ℕ) {r : Record} → r ≡ recordOf s v n → wellFormed (s .p) epoch changing r ≡ false
       → false ≡ goodRecord s epoch changing v n
   unfolding goodRecord
-  record-off n ea er ew = sym (both-off _ (rw (er, ea) at ew))
+  record-off n er ew = sym (both-off _ (rw er at ew))
 
   recordsFrom-suc : (k m n : ℕ) → k ≡ suc m → goodRecord s epoch changing v n ≡ true → recordsFrom s epoch changing v m (n + 1) ≡ recordsFrom s epoch changing v k n
   unfolding recordsFrom

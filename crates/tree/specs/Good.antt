@@ -6,7 +6,7 @@ use Prim.Native.Nat.{ℕ, zero, suc, _+_, _*_, _/_, _<_, _≤_}
 use lib.Dec.{eqb}
 use lib.ListN.{length, getD}
 use Rattle.base.specs.Pick.{either}
-use Rattle.layout.specs.Shape.{heightOf, leaves}
+use Rattle.layout.specs.Shape.{heightOf, leaves, widthOf}
 use Rattle.layout.specs.declared.Shape.{Shape}
 use Rattle.layout.specs.Parts.{recordAt, tagAt}
 use Rattle.nodes.specs.Nodes.{nodeIn}
@@ -38,4 +38,4 @@ pub record Beside (s : Shape) (E : ℕ → Type 0) (v w : List ℕ) : Type 0 whe
 -- the volumes differ in no byte outside the record and the tags of nugget n
 pub record Agrees (s : Shape) (n : ℕ) (v w : List ℕ) : Type 0 where
   pub long : length w ≡ length v
-  pub elsewhere : (j : ℕ) → (recordAt n ≤ j → j < recordAt n + 18 → ⊥) → (tagAt s n 0 ≤ j → j < tagAt s n 0 + 16 * s .p → ⊥) → getD v j 0 ≡ getD w j 0
+  pub elsewhere : (j : ℕ) → (recordAt s n ≤ j → j < recordAt s n + widthOf s → ⊥) → (tagAt s n 0 ≤ j → j < tagAt s n 0 + 16 * s .p → ⊥) → getD v j 0 ≡ getD w j 0

@@ -4,22 +4,16 @@ use mathlib.Core.List.{List}
 use Prim.Native.Nat.{ℕ, zero, suc, _+_, _*_, _/_, _^_, _<_, _≤_}
 use Rattle.base.specs.Pick.{pick, both}
 use Rattle.layout.specs.Shape.{heightOf, leaves}
-use Rattle.layout.specs.Parts.{recordAt}
 use Rattle.layout.specs.declared.Shape.{Shape}
 use Rattle.answers.specs.declared.Answer.{Answer}
 use Rattle.answers.specs.declared.Answer.the-variants as A
 use Rattle.answers.specs.declared.Place.the-variants as P
-use Rattle.records.specs.Record.{recordIn, wellFormed}
+use Rattle.records.specs.Record.{recordOf, wellFormed}
 use Rattle.nodes.specs.Made.{goodNode}
-use Rattle.records.specs.declared.Record.{Record}
-
--- record n
-abbrev pub recordOf : List ℕ → ℕ → Record
-recordOf v n = recordIn (recordAt n) v
 
 -- it is well formed, under the head's epoch and state
 abbrev pub formed : Shape → ℕ → Bool → List ℕ → ℕ → Bool
-formed s epoch changing v n = wellFormed (s .p) epoch changing (recordOf v n)
+formed s epoch changing v n = wellFormed (s .p) epoch changing (recordOf s v n)
 
 -- and its leaf is node L + n
 unfoldable pub goodRecord : Shape → ℕ → Bool → List ℕ → ℕ → Bool

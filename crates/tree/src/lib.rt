@@ -17,7 +17,7 @@ fn good_record(vol: &[u8], s: Shape, epoch: u16, changing: bool, n: u32) -> bool
     requires { ⌜ Lent s (now vol) × (n < s .n) ⌝ }
     ensures { λ r. ⌜ r ≡ goodRecord s epoch changing (now (vol .entry)) n ⌝ }
 {
-    let r = records::read(vol, layout::record_at(n));
+    let r = records::read(vol, s, n);
     if records::well_formed(r, s.p, epoch, changing) {
         nodes::good(vol, s, (layout::leaves_of(s.n) as u32) + n)
     } else {

@@ -40,7 +40,7 @@ use Rattle.changes.specs.Write.{writeWay, writeAnswer, writes, writeWork, writt
 use Rattle.changes.proofs.SpanLaws.{still-to, idle-below, idle-above, tested-idle, tested-next, tested-stays}
 use Rattle.writing.specs.declared.Span.{Span}
 use Rattle.writing.specs.Span.{spanOf}
-use Rattle.tree.specs.Path.{recordOf}
+use Rattle.records.specs.Record.{recordOf}
 
 -- what the code's numbers have to know of the range
 pub record Inside (s : Shape) (o len : ℕ) : Type 0 where
@@ -66,7 +66,7 @@ pub span-is : (s : Shape) (o len : ℕ) {first last : Spot} → first ≡ spotAt
 span-is s o len e g = rw (e, g) refl
 
 -- the way of a nugget, by what the calls gave
-pub way-is : (d : Drive) (v : List ℕ) (o len n : ℕ) {r : Record} {s : Shape} {t : ℕ} {w : Way} → r ≡ recordOf v n → s ≡ shapeOf d → t ≡ touchedOf s o len n → w ≡ wayOf r t (d .epoch)
+pub way-is : (d : Drive) (v : List ℕ) (o len n : ℕ) {r : Record} {s : Shape} {t : ℕ} {w : Way} → r ≡ recordOf (shapeOf d) v n → s ≡ shapeOf d → t ≡ touchedOf s o len n → w ≡ wayOf r t (d .epoch)
     → w ≡ writeWay d v o len n
 way-is d v o len n er es et ew = ew ∙ rw (et, er, es)
 
@@ -79,14 +79,14 @@ module _ (d : Drive) (v : List ℕ) (n : ℕ) where
   pub rekey-top : {a : Answer} {g : Nugget} → a ≡ pathFor d v n → accepts a ≡ true → g ≡ nuggetOf d v n → g .keycount ≡ 2 ^ 64 - 1 → A.KeycountTop ≡ nuggetChange d v n sweepWay
   unfolding nuggetChange atTop
   rekey-top e h eg k =
-      let top : recordOf v n .keycount ≡ 2 ^ 64 - 1 = ap (λ (x : Nugget). x .keycount) (sym eg) ∙ k in
+      let top : recordOf (shapeOf d) v n .keycount ≡ 2 ^ 64 - 1 = ap (λ (x : Nugget). x .keycount) (sym eg) ∙ k in
       sym (goes-on (pathFor d v n) _ (ap accepts (sym e) ∙ h) ∙ yes _ (eq-eqb _ _ top) refl)
 
   pub rekey-flakes : {a r : Answer} {g : Nugget} {s : Shape} → a ≡ pathFor d v n → accepts a ≡ true → g ≡ nuggetOf d v n → (g .keycount ≡ 2 ^ 64 - 1 → ⊥) → s ≡ shapeOf d
       → r ≡ flakesIn s v g (g .journal) → r ≡ nuggetChange d v n sweepWay
   unfolding nuggetChange atTop
   rekey-flakes {g = g} e h eg k es er =
-      let low : recordOf v n .keycount ≡ 2 ^ 64 - 1 → ⊥ = λ q. k (ap (λ (x : Nugget). x .keycount) eg ∙ q) in
+      let low : recordOf (shapeOf d) v n .keycount ≡ 2 ^ 64 - 1 → ⊥ = λ q. k (ap (λ (x : Nugget). x .keycount) eg ∙ q) in
       er
       ∙ ap (λ (x : Shape). flakesIn x v g (g .journal)) es
       ∙ ap (λ (x : Nugget). flakesIn (shapeOf d) v x (x .journal)) eg

@@ -6,10 +6,11 @@ use Prim.Native.Nat.{ℕ, _+_, _-_, _<_}
 use Rattle.layout.specs.declared.Shape.{Shape}
 use Rattle.layout.specs.Spots.{spotAt}
 use Rattle.records.specs.Rule.{atTop}
+use Rattle.drive.specs.Drive.{shapeOf}
 use Rattle.drive.specs.declared.Drive.{Drive}
 use Rattle.changes.specs.Write.{writeWay}
 use Rattle.writing.specs.declared.Span.{Span}
-use Rattle.tree.specs.Path.{recordOf}
+use Rattle.records.specs.Record.{recordOf}
 
 -- from the nugget of the first byte to behind that of the last
 abbrev pub spanOf : Shape → ℕ → ℕ → Span
@@ -17,4 +18,4 @@ spanOf s o len = record { first = spotAt s o .nugget; end = spotAt s (o + (len -
 
 -- no nugget is at 14: "a rekey needed and the keycount at its top"
 abbrev pub Room : Drive → List ℕ → ℕ → ℕ → Type 0
-Room d v o len = (n : ℕ) → n < d .n → atTop (writeWay d v o len n) (recordOf v n) ≡ false
+Room d v o len = (n : ℕ) → n < d .n → atTop (writeWay d v o len n) (recordOf (shapeOf d) v n) ≡ false

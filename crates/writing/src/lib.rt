@@ -43,8 +43,9 @@ fn way_at(d: Drive, vol: &[u8], o: usize, len: usize, n: u32) -> Way
     requires { ⌜ Lent (shapeOf d) (now vol) × (0 < len) × (o + len ≤ capacity (shapeOf d)) × (n < d .n) ⌝ }
     ensures { λ r. ⌜ r ≡ writeWay d (now (vol .entry)) o len n ⌝ }
 {
-    let r = records::read(vol, layout::record_at(n));
-    let t = nuggets::touched(drive::shape_of(d), o, len, n);
+    let s = drive::shape_of(d);
+    let r = records::read(vol, s, n);
+    let t = nuggets::touched(s, o, len, n);
     records::way_of(r, t, d.epoch)
 }
 
@@ -134,7 +135,7 @@ fn lay_span(d: Drive, vol: &mut [u8], o: usize, bytes: &[u8])
 // Their records.
 fn mark_span(d: Drive, vol: &mut [u8], o: usize, len: usize)
     requires { ⌜ Lent (shapeOf d) (now vol) × (0 < len) × (o + len ≤ capacity (shapeOf d)) × Room d (now vol) o len ⌝ }
-    ensures { λ _. ⌜ now (vol .exit) ≡ markedTo (d .epoch) (writeWay d (now (vol .entry)) o len) (now (vol .entry)) (d .n) (now (vol .entry)) ⌝ }
+    ensures { λ _. ⌜ now (vol .exit) ≡ markedTo (shapeOf d) (d .epoch) (writeWay d (now (vol .entry)) o len) (now (vol .entry)) (d .n) (now (vol .entry)) ⌝ }
 {
     let span = span_of(drive::shape_of(d), o, len);
     let mut n = span.first;

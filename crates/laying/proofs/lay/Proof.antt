@@ -4,16 +4,16 @@ use borrow.Author.Needs.{needs}
 use Rattle.laying.proofs.lay.Statement.{statement}
 use Rattle.laying.proofs.lay.Tie as tie
 
-record-at-requires : tie.Need-record-at-requires
-record-at-requires c κs = search needs
+shape-of-requires : tie.Need-shape-of-requires
+shape-of-requires c κs = search needs
 
 read-requires : tie.Need-read-requires
-read-requires c κs = search needs
+read-requires c κs = rw (c .shape-of .ensures) (c .before .before .before .before .pre .0, c .before .before .before .before .pre .1)
 
 turn-requires : tie.Need-turn-requires
 turn-requires c κs =
     let a = c .before .before .before .before .before .args in
-    top-not (a .way) (read-is (a .vol .now) (a .n) (c .read .ensures) (c .before .record-at .ensures)) (c .before .before .before .before .before .pre .3)
+    top-not (a .way) (read-is (a .vol .now) (a .n) (c .read .ensures) (c .before .shape-of .ensures)) (c .before .before .before .before .before .pre .3)
 
 enciphers-requires : tie.Need-enciphers-requires
 enciphers-requires c κs = search needs
@@ -27,13 +27,13 @@ same-length c = search needs
 returns : tie.Need-returns
 returns c =
     let a = c .before .before .before .before .before .before .before .before .before .before .before .args in
-    lay-is (a .d) (a .vol .now) (a .n) (a .way) (a .o) (a .bytes .now) (read-is (a .vol .now) (a .n) (c .before .before .before .before .before .before .read .ensures) (c .before .before .before .before .before .before .before .record-at .ensures)) (c .before .before .before .before .before .turn .ensures) (c .before .before .before .before .enciphers .ensures) (c .before .before .lay-flakes .ensures)
+    lay-is (a .d) (a .vol .now) (a .n) (a .way) (a .o) (a .bytes .now) (read-is (a .vol .now) (a .n) (c .before .before .before .before .before .before .read .ensures) (c .before .before .before .before .before .before .before .shape-of .ensures)) (c .before .before .before .before .before .turn .ensures) (c .before .before .before .before .enciphers .ensures) (c .before .before .lay-flakes .ensures)
 
 pub lay-spec : {M : Type 1} → statement M
 lay-spec =
     tie.close
     (tie.spec
-    record-at-requires
+    shape-of-requires
     read-requires
     turn-requires
     enciphers-requires

@@ -3,7 +3,8 @@ use mathlib.Core.Path.{sym, _∙_}
 use borrow.Author.Needs.{needs}
 use Rattle.laying.proofs.mark.Statement.{statement}
 use Rattle.laying.proofs.mark.Tie as tie
-use Rattle.tree.specs.Path.{recordOf}
+use Rattle.records.specs.Record.{recordOf}
+use Rattle.drive.specs.Drive.{shapeOf}
 
 idle-requires : tie.Need-idle-requires
 idle-requires c κs = search needs
@@ -11,21 +12,21 @@ idle-requires c κs = search needs
 returns : tie.Need-returns
 returns c =
     let a = c .before .before .before .args in
-    marked-not (a .d .epoch) (a .way) (recordOf (a .vol .now) (a .n)) (a .n) (a .vol .now) (sym (c .before .idle .ensures) ∙ c .if1 .taken)
+    marked-not (shapeOf (a .d)) (a .d .epoch) (a .way) (recordOf (shapeOf (a .d)) (a .vol .now) (a .n)) (a .n) (a .vol .now) (sym (c .before .idle .ensures) ∙ c .if1 .taken)
 
-record-at-requires : tie.Need-record-at-requires
-record-at-requires c κs = search needs
+shape-of-requires : tie.Need-shape-of-requires
+shape-of-requires c κs = search needs
 
 read-requires : tie.Need-read-requires
-read-requires c κs = search needs
+read-requires c κs = rw (c .before .shape-of .ensures) (c .before .before .before .before .before .pre .0, c .before .before .before .before .before .pre .1)
 
 turn-requires : tie.Need-turn-requires
 turn-requires c κs =
     let a = c .before .before .before .before .before .before .args in
-    top-not (a .way) (read-is (a .vol .now) (a .n) (c .read .ensures) (c .before .before .record-at .ensures)) (c .before .before .before .before .before .before .pre .2)
+    top-not (a .way) (read-is (a .vol .now) (a .n) (c .read .ensures) (c .before .before .shape-of .ensures)) (c .before .before .before .before .before .before .pre .2)
 
 store-requires : tie.Need-store-requires
-store-requires c κs = search needs
+store-requires c κs = rw (c .before .before .before .before .shape-of .ensures) (c .before .before .before .before .before .before .before .before .pre .0, c .before .before .before .before .before .before .before .before .pre .1)
 
 same-length : tie.Need-same-length
 same-length c = search needs
@@ -33,7 +34,7 @@ same-length c = search needs
 returns-2 : tie.Need-returns-2
 returns-2 c =
     let a = c .before .before .before .before .before .before .before .before .before .before .before .args in
-    marked-is (a .d .epoch) (a .way) (recordOf (a .vol .now) (a .n)) (a .n) (a .vol .now) (sym (c .before .before .before .before .before .before .before .before .before .idle .ensures) ∙ c .before .before .before .before .before .before .before .before .if1 .left) (c .before .before .before .before .before .before .before .record-at .ensures) (read-is (a .vol .now) (a .n) (c .before .before .before .before .before .read .ensures) (c .before .before .before .before .before .before .before .record-at .ensures)) (c .before .before .before .before .turn .ensures) (c .before .before .store .ensures)
+    marked-is (shapeOf (a .d)) (a .d .epoch) (a .way) (recordOf (shapeOf (a .d)) (a .vol .now) (a .n)) (a .n) (a .vol .now) (sym (c .before .before .before .before .before .before .before .before .before .idle .ensures) ∙ c .before .before .before .before .before .before .before .before .if1 .left) (c .before .before .before .before .before .before .before .shape-of .ensures) (read-is (a .vol .now) (a .n) (c .before .before .before .before .before .read .ensures) (c .before .before .before .before .before .before .before .shape-of .ensures)) (c .before .before .before .before .turn .ensures) (c .before .before .store .ensures)
 
 pub mark-spec : {M : Type 1} → statement M
 mark-spec =
@@ -41,7 +42,7 @@ mark-spec =
     (tie.spec
     idle-requires
     returns
-    record-at-requires
+    shape-of-requires
     read-requires
     turn-requires
     store-requires

@@ -1,16 +1,16 @@
-use Rattle.records.specs.Record.{recordIn}
-use Prim.Native.Nat.{ℕ}
+use Rattle.records.specs.Record.{recordOf}
+use Rattle.layout.specs.declared.Shape.{Shape}
 use mathlib.Core.Path.{_∙_, ap}
 use Rattle.nuggets.proofs.TestLaws.{nugget-is}
 use borrow.Author.Needs.{needs}
 use Rattle.nuggets.proofs.nugget_of.Statement.{statement}
 use Rattle.nuggets.proofs.nugget_of.Tie as tie
 
-record-at-requires : tie.Need-record-at-requires
-record-at-requires c κs = search needs
+shape-of-requires : tie.Need-shape-of-requires
+shape-of-requires c κs = search needs
 
 read-requires : tie.Need-read-requires
-read-requires c κs = search needs
+read-requires c κs = rw (c .shape-of .ensures) (c .before .before .pre .0, c .before .before .pre .1)
 
 secret-for-requires : tie.Need-secret-for-requires
 secret-for-requires c κs = search needs
@@ -19,9 +19,9 @@ nugget-key-requires : tie.Need-nugget-key-requires
 nugget-key-requires c κs = search needs
 
 returns : tie.Need-returns
-returns c = nugget-is (c .before .before .before .before .before .before .args .d) (c .before .before .before .before .before .before .args .vol .now) (c .before .before .before .before .before .before .args .n) (c .before .before .before .read .ensures ∙ ap (λ (x : ℕ). recordIn x (c .before .before .before .before .before .before .args .vol .now)) (c .before .before .before .before .record-at .ensures)) (c .before .before .secret-for .ensures) (c .nugget-key .ensures)
+returns c = nugget-is (c .before .before .before .before .before .before .args .d) (c .before .before .before .before .before .before .args .vol .now) (c .before .before .before .before .before .before .args .n) (c .before .before .before .read .ensures ∙ ap (λ (x : Shape). recordOf x (c .before .before .before .before .before .before .args .vol .now) (c .before .before .before .before .before .before .args .n)) (c .before .before .before .before .shape-of .ensures)) (c .before .before .secret-for .ensures) (c .nugget-key .ensures)
 
 pub nugget-of-spec : {M : Type 1} → statement M
 nugget-of-spec =
     tie.close
-    (tie.spec record-at-requires read-requires secret-for-requires nugget-key-requires returns)
+    (tie.spec shape-of-requires read-requires secret-for-requires nugget-key-requires returns)

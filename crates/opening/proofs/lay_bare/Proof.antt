@@ -1,8 +1,6 @@
 use Rattle.opening.proofs.FormatLaws.{fresh-none, fresh-on, fresh-end}
-use Rattle.opening.specs.Format.{freshFrom, freshRecord, bare}
-use lib.Seq.{sets}
+use Rattle.opening.specs.Format.{freshFrom, bare}
 use mathlib.Core.List.{List}
-use Rattle.records.specs.Record.{recordBytes}
 use Rattle.drive.specs.Drive.{zeros}
 use borrow.Author.Needs.{needs}
 use lib.ListN.{length}
@@ -13,22 +11,21 @@ use Rattle.opening.proofs.lay_bare.Statement.{statement}
 use Rattle.opening.proofs.lay_bare.Tie as tie
 
 abbrev Inv-loop : tie.InvT-loop
-Inv-loop vol₀ count n₀ vol n = (n ≤ count) × (length vol ≡ length vol₀) × (freshFrom (count - n) n vol ≡ freshFrom count 0 vol₀)
+Inv-loop vol₀ s count n₀ vol n = (n ≤ count) × (length vol ≡ length vol₀) × (freshFrom s (count - n) n vol ≡ freshFrom s count 0 vol₀)
 
 abbrev μ-loop : tie.MeasureT-loop
-μ-loop vol₀ count n₀ vol n = count - n
+μ-loop vol₀ s count n₀ vol n = count - n
 
 clear-requires : tie.Need-clear-requires Inv-loop μ-loop
 clear-requires c κs = search needs
 
 loop-holds : tie.Need-loop-holds Inv-loop μ-loop
-loop-holds c = (omega arith, refl, fresh-none _ _)
-
-record-at-requires : tie.Need-record-at-requires Inv-loop μ-loop
-record-at-requires c κs = search needs
+loop-holds c = (omega arith, refl, fresh-none _ _ _)
 
 store-requires : tie.Need-store-requires Inv-loop μ-loop
-store-requires c κs = search needs
+store-requires c κs =
+    let pre = c .before .before .before .before .before .before .before .before .pre in
+    (record { limited = pre .limited; size = c .before .before .loop .inv .1 ∙ c .before .before .before .before .before .clear .kept .0 ∙ pre .size }, c .before .loop-test .taken)
 
 add-n : tie.Need-add-n Inv-loop μ-loop
 add-n c = search needs
@@ -38,12 +35,12 @@ loop-less c = search needs
 
 loop-again : tie.Need-loop-again Inv-loop μ-loop
 loop-again c =
-    let l = c .before .before .before .before .before .before .loop in
-    let count = c .before .before .before .before .before .before .before .before .before .before .before .before .args .s .n in
-    let laid = c .before .before .store .ensures ∙ ap (λ (at : ℕ). sets (l .vol) at (recordBytes freshRecord)) (c .before .before .before .record-at .ensures) in (
-      omega (arith, c .before .before .before .before .before .loop-test .taken),
+    let l = c .before .before .before .before .before .loop in
+    let s = c .before .before .before .before .before .before .before .before .before .before .before .args .s in
+    let h = c .before .before .before .before .loop-test .taken in (
+      omega (arith, h),
       c .before .before .store .kept .0 ∙ l .inv .1,
-      ap (λ (w : List ℕ). freshFrom (count - (l .n + 1)) (l .n + 1) w) laid ∙ fresh-on (l .vol) (l .n) count (c .before .before .before .before .before .loop-test .taken) ∙ l .inv .2,
+      ap (λ (w : List ℕ). freshFrom s (s .n - (l .n + 1)) (l .n + 1) w) (c .before .before .store .ensures) ∙ fresh-on s (l .vol) (l .n) (s .n) h ∙ l .inv .2,
     )
 
 same-length : tie.Need-same-length Inv-loop μ-loop
@@ -53,7 +50,7 @@ returns : tie.Need-returns Inv-loop μ-loop
 unfolding bare
 returns c =
     let s = c .before .before .before .before .before .before .before .args .s in
-    sym (fresh-end _ _ _ (c .loop-test .left)) ∙ c .before .loop .inv .2 ∙ ap (λ (z : List ℕ). freshFrom (s .n) 0 z) (c .before .before .before .before .clear .ensures ∙ ap (λ (k : ℕ). zeros k) (c .before .before .before .before .before .before .before .pre .size))
+    sym (fresh-end _ _ _ _ (c .loop-test .left)) ∙ c .before .loop .inv .2 ∙ ap (λ (z : List ℕ). freshFrom s (s .n) 0 z) (c .before .before .before .before .clear .ensures ∙ ap (λ (k : ℕ). zeros k) (c .before .before .before .before .before .before .before .pre .size))
 
 pub lay-bare-spec : {M : Type 1} → statement M
 lay-bare-spec =
@@ -63,7 +60,6 @@ lay-bare-spec =
     μ-loop
     clear-requires
     loop-holds
-    record-at-requires
     store-requires
     add-n
     loop-less

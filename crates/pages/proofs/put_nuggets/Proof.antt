@@ -2,7 +2,6 @@ use borrow.Author.Needs.{needs}
 use Rattle.pages.proofs.PageLaws.{lines-start, lines-turn, lines-le}
 use Rattle.pages.specs.Page.{nuggetLines}
 use Rattle.layout.proofs.Limits.{Limits, limits}
-use Rattle.layout.proofs.Places.{record-inside, parts-inside}
 use Rattle.drive.specs.Drive.{shapeOf}
 use Rattle.line.specs.Lines.{Put}
 use lib.ListN.{length}
@@ -21,11 +20,11 @@ abbrev μ-loop : tie.MeasureT-loop
 loop-holds : tie.Need-loop-holds Inv-loop μ-loop
 loop-holds c = (omega arith, refl, lines-start _ _ _ _)
 
-record-at-requires : tie.Need-record-at-requires Inv-loop μ-loop
-record-at-requires c κs = search needs
+shape-of-requires : tie.Need-shape-of-requires Inv-loop μ-loop
+shape-of-requires c κs = search needs
 
 read-requires : tie.Need-read-requires Inv-loop μ-loop
-read-requires c κs = let a = c .before .before .before .before .before .args in omega (arith, c .record-at .ensures, record-inside (shapeOf (a .d)) (c .before .before .loop .n) (omega arith), parts-inside (shapeOf (a .d)), c .before .before .before .before .before .pre .0 .size)
+read-requires c κs = rw (c .shape-of .ensures) (c .before .before .before .before .before .pre .0, omega arith)
 
 put-nugget-requires : tie.Need-put-nugget-requires Inv-loop μ-loop
 put-nugget-requires c κs = let a = c .before .before .before .before .before .before .before .args in let l : Limits (shapeOf (a .d)) = limits (shapeOf (a .d)) (c .before .before .before .before .before .before .before .pre .0 .limited) in let t = c .before .before .before .before .loop in (l .narrow, omega (arith, t .inv .2 .behind, lines-le (a .d) (a .vol .now) (t .n) (l .narrow), c .before .before .before .before .before .before .before .pre .1))
@@ -37,7 +36,7 @@ loop-less : tie.Need-loop-less Inv-loop μ-loop
 loop-less c = search needs
 
 loop-again : tie.Need-loop-again Inv-loop μ-loop
-loop-again c = let t = c .before .before .before .before .before .before .before .loop in let a = c .before .before .before .before .before .before .before .before .before .before .args in (omega arith, c .before .before .put-nugget .kept .0 ∙ t .inv .1, lines-turn (a .d) (a .vol .now) (t .n) (t .inv .2) (c .before .before .before .before .before .record-at .ensures) (c .before .before .before .before .read .ensures) (c .before .before .put-nugget .ensures))
+loop-again c = let t = c .before .before .before .before .before .before .before .loop in let a = c .before .before .before .before .before .before .before .before .before .before .args in (omega arith, c .before .before .put-nugget .kept .0 ∙ t .inv .1, lines-turn (a .d) (a .vol .now) (t .n) (t .inv .2) (c .before .before .before .before .before .shape-of .ensures) (c .before .before .before .before .read .ensures) (c .before .before .put-nugget .ensures))
 
 same-length : tie.Need-same-length Inv-loop μ-loop
 same-length c = search needs
@@ -52,7 +51,7 @@ put-nuggets-spec =
     Inv-loop
     μ-loop
     loop-holds
-    record-at-requires
+    shape-of-requires
     read-requires
     put-nugget-requires
     add-n

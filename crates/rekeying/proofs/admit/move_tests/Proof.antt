@@ -3,32 +3,30 @@ use Rattle.nuggets.specs.declared.Nugget.{Nugget}
 use Rattle.nuggets.specs.Nugget.{nuggetOf}
 use Rattle.nuggets.specs.Tests.{flakesIn}
 use Rattle.records.specs.declared.Record.{Record}
-use Rattle.records.specs.Record.{recordIn}
+use Rattle.records.specs.Record.{recordOf}
 use Rattle.records.specs.Rule.{sweepWay, atTop}
 use Rattle.layout.specs.declared.Shape.{Shape}
 use Rattle.drive.specs.Drive.{shapeOf}
-use Prim.Native.Nat.{ℕ}
 use Rattle.base.proofs.PickLaws.{yes, no}
 use borrow.Author.Tests.{eq-eqb, ne-eqb}
 use mathlib.Core.Path.{_≡_, refl, sym, _∙_, ap}
 use borrow.Author.Needs.{needs}
 use Rattle.rekeying.proofs.admit.move_tests.Statement.{statement}
 use Rattle.rekeying.proofs.admit.move_tests.Tie as tie
-use Rattle.tree.specs.Path.{recordOf}
 
-record-at-requires : tie.Need-record-at-requires
-record-at-requires c κs = search needs
+shape-of-requires : tie.Need-shape-of-requires
+shape-of-requires c κs = search needs
 
 read-requires : tie.Need-read-requires
-read-requires c κs = search needs
+read-requires c κs = rw (c .shape-of .ensures) (c .before .before .pre .0, c .before .before .pre .1)
 
 returns : tie.Need-returns
 unfolding moveTests
 returns c =
     let d = c .before .before .before .before .before .before .args .d in
     let v = c .before .before .before .before .before .before .args .vol .now in
-    let r : c .before .before .before .read .result ≡ recordOf v (c .before .before .before .before .before .before .args .n) = c .before .before .before .read .ensures ∙ ap (λ (x : ℕ). recordIn x v) (c .before .before .before .before .record-at .ensures) in
-    let e : c .before .before .before .read .result .epoch ≡ recordOf v (c .before .before .before .before .before .before .args .n) .epoch = ap (λ (x : Record). x .epoch) r in
+    let r : c .before .before .before .read .result ≡ recordOf (shapeOf d) v (c .before .before .before .before .before .before .args .n) = c .before .before .before .read .ensures ∙ ap (λ (x : Shape). recordOf x v (c .before .before .before .before .before .before .args .n)) (c .before .before .before .before .shape-of .ensures) in
+    let e : c .before .before .before .read .result .epoch ≡ recordOf (shapeOf d) v (c .before .before .before .before .before .before .args .n) .epoch = ap (λ (x : Record). x .epoch) r in
     sym (yes _ (eq-eqb _ _ (sym e ∙ c .if1 .taken)) refl)
 
 returns-2 : tie.Need-returns-2
@@ -36,8 +34,8 @@ unfolding moveTests
 returns-2 c =
     let d = c .before .before .before .before .before .before .before .before .args .d in
     let v = c .before .before .before .before .before .before .before .before .args .vol .now in
-    let r : c .before .before .before .before .before .read .result ≡ recordOf v (c .before .before .before .before .before .before .before .before .args .n) = c .before .before .before .before .before .read .ensures ∙ ap (λ (x : ℕ). recordIn x v) (c .before .before .before .before .before .before .record-at .ensures) in
-    let e : c .before .before .before .before .before .read .result .epoch ≡ recordOf v (c .before .before .before .before .before .before .before .before .args .n) .epoch = ap (λ (x : Record). x .epoch) r in
+    let r : c .before .before .before .before .before .read .result ≡ recordOf (shapeOf d) v (c .before .before .before .before .before .before .before .before .args .n) = c .before .before .before .before .before .read .ensures ∙ ap (λ (x : Shape). recordOf x v (c .before .before .before .before .before .before .before .before .args .n)) (c .before .before .before .before .before .before .shape-of .ensures) in
+    let e : c .before .before .before .before .before .read .result .epoch ≡ recordOf (shapeOf d) v (c .before .before .before .before .before .before .before .before .args .n) .epoch = ap (λ (x : Record). x .epoch) r in
     sym (no _ (ne-eqb _ _ (λ q. c .before .before .if1 .left (e ∙ q))) (yes _ (eq-eqb _ _ (c .if2 .taken)) refl))
 
 at-top-requires : tie.Need-at-top-requires
@@ -48,40 +46,40 @@ unfolding moveTests
 returns-3 c =
     let d = c .before .before .before .before .before .before .before .before .before .before .args .d in
     let v = c .before .before .before .before .before .before .before .before .before .before .args .vol .now in
-    let r : c .before .before .before .before .before .before .before .read .result ≡ recordOf v (c .before .before .before .before .before .before .before .before .before .before .args .n) = c .before .before .before .before .before .before .before .read .ensures ∙ ap (λ (x : ℕ). recordIn x v) (c .before .before .before .before .before .before .before .before .record-at .ensures) in
-    let e : c .before .before .before .before .before .before .before .read .result .epoch ≡ recordOf v (c .before .before .before .before .before .before .before .before .before .before .args .n) .epoch = ap (λ (x : Record). x .epoch) r in
+    let r : c .before .before .before .before .before .before .before .read .result ≡ recordOf (shapeOf d) v (c .before .before .before .before .before .before .before .before .before .before .args .n) = c .before .before .before .before .before .before .before .read .ensures ∙ ap (λ (x : Shape). recordOf x v (c .before .before .before .before .before .before .before .before .before .before .args .n)) (c .before .before .before .before .before .before .before .before .shape-of .ensures) in
+    let e : c .before .before .before .before .before .before .before .read .result .epoch ≡ recordOf (shapeOf d) v (c .before .before .before .before .before .before .before .before .before .before .args .n) .epoch = ap (λ (x : Record). x .epoch) r in
     sym (no _ (ne-eqb _ _ (λ q. c .before .before .before .before .if1 .left (e ∙ q))) (no _ (ne-eqb _ _ (c .before .before .if2 .left)) (yes _ (ap (λ (x : Record). atTop sweepWay x) (sym r) ∙ sym (c .before .at-top .ensures) ∙ c .if3 .taken) refl)))
 
 nugget-of-requires : tie.Need-nugget-of-requires
 nugget-of-requires c κs = search needs
 
-shape-of-requires : tie.Need-shape-of-requires
-shape-of-requires c κs = search needs
+shape-of-requires-2 : tie.Need-shape-of-requires-2
+shape-of-requires-2 c κs = search needs
 
 flakes-requires : tie.Need-flakes-requires
-flakes-requires c κs = rw (c .shape-of .ensures, c .before .nugget-of .ensures) (c .before .before .before .before .before .before .before .before .before .before .before .before .pre .0, c .before .before .before .before .before .before .before .before .before .before .before .before .pre .1)
+flakes-requires c κs = rw (c .shape-of2 .ensures, c .before .nugget-of .ensures) (c .before .before .before .before .before .before .before .before .before .before .before .before .pre .0, c .before .before .before .before .before .before .before .before .before .before .before .before .pre .1)
 
 returns-4 : tie.Need-returns-4
 unfolding moveTests
 returns-4 c =
     let d = c .before .before .before .before .before .before .before .before .before .before .before .before .before .args .d in
     let v = c .before .before .before .before .before .before .before .before .before .before .before .before .before .args .vol .now in
-    let r : c .before .before .before .before .before .before .before .before .before .before .read .result ≡ recordOf v (c .before .before .before .before .before .before .before .before .before .before .before .before .before .args .n) = c .before .before .before .before .before .before .before .before .before .before .read .ensures ∙ ap (λ (x : ℕ). recordIn x v) (c .before .before .before .before .before .before .before .before .before .before .before .record-at .ensures) in
-    let e : c .before .before .before .before .before .before .before .before .before .before .read .result .epoch ≡ recordOf v (c .before .before .before .before .before .before .before .before .before .before .before .before .before .args .n) .epoch = ap (λ (x : Record). x .epoch) r in
-    let f : c .flakes .result ≡ flakesIn (shapeOf d) v (nuggetOf d v (c .before .before .before .before .before .before .before .before .before .before .before .before .before .args .n)) (recordOf v (c .before .before .before .before .before .before .before .before .before .before .before .before .before .args .n) .journal) = c .flakes .ensures ∙ ap (λ (x : Shape). flakesIn x v (c .before .before .nugget-of .result) (c .before .before .before .before .before .before .before .before .before .before .read .result .journal)) (c .before .shape-of .ensures) ∙ ap (λ (x : Nugget). flakesIn (shapeOf d) v x (c .before .before .before .before .before .before .before .before .before .before .read .result .journal)) (c .before .before .nugget-of .ensures) ∙ ap (λ (x : Record). flakesIn (shapeOf d) v (nuggetOf d v (c .before .before .before .before .before .before .before .before .before .before .before .before .before .args .n)) (x .journal)) r in
+    let r : c .before .before .before .before .before .before .before .before .before .before .read .result ≡ recordOf (shapeOf d) v (c .before .before .before .before .before .before .before .before .before .before .before .before .before .args .n) = c .before .before .before .before .before .before .before .before .before .before .read .ensures ∙ ap (λ (x : Shape). recordOf x v (c .before .before .before .before .before .before .before .before .before .before .before .before .before .args .n)) (c .before .before .before .before .before .before .before .before .before .before .before .shape-of .ensures) in
+    let e : c .before .before .before .before .before .before .before .before .before .before .read .result .epoch ≡ recordOf (shapeOf d) v (c .before .before .before .before .before .before .before .before .before .before .before .before .before .args .n) .epoch = ap (λ (x : Record). x .epoch) r in
+    let f : c .flakes .result ≡ flakesIn (shapeOf d) v (nuggetOf d v (c .before .before .before .before .before .before .before .before .before .before .before .before .before .args .n)) (recordOf (shapeOf d) v (c .before .before .before .before .before .before .before .before .before .before .before .before .before .args .n) .journal) = c .flakes .ensures ∙ ap (λ (x : Shape). flakesIn x v (c .before .before .nugget-of .result) (c .before .before .before .before .before .before .before .before .before .before .read .result .journal)) (c .before .shape-of2 .ensures) ∙ ap (λ (x : Nugget). flakesIn (shapeOf d) v x (c .before .before .before .before .before .before .before .before .before .before .read .result .journal)) (c .before .before .nugget-of .ensures) ∙ ap (λ (x : Record). flakesIn (shapeOf d) v (nuggetOf d v (c .before .before .before .before .before .before .before .before .before .before .before .before .before .args .n)) (x .journal)) r in
     f ∙ sym (no _ (ne-eqb _ _ (λ q. c .before .before .before .before .before .before .before .if1 .left (e ∙ q))) (no _ (ne-eqb _ _ (c .before .before .before .before .before .if2 .left)) (no _ (ap (λ (x : Record). atTop sweepWay x) (sym r) ∙ sym (c .before .before .before .before .at-top .ensures) ∙ c .before .before .before .if3 .left) refl)))
 
 pub move-tests-spec : {M : Type 1} → statement M
 move-tests-spec =
     tie.close
     (tie.spec
-    record-at-requires
+    shape-of-requires
     read-requires
     returns
     returns-2
     at-top-requires
     returns-3
     nugget-of-requires
-    shape-of-requires
+    shape-of-requires-2
     flakes-requires
     returns-4)

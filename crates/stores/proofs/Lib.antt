@@ -1,0 +1,2 @@
+pub mod WorkLaws
+pub mod CallLaws
