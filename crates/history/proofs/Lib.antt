@@ -1,7 +1,6 @@
 pub mod Counts
 pub mod Quiet
 pub mod Runs
-pub mod Taken
 pub mod View
 pub mod Heads
 pub mod After
