@@ -10,7 +10,6 @@ use lib.Dec.{eqb}
 use lib.ListN.{length, getD}
 use borrow.Author.Tests.{eqb-false}
 use Rattle.base.proofs.TabLaws.{tab-ext}
-use Rattle.answers.specs.declared.Answer.the-variants as A
 use Rattle.answers.specs.Numbers.{accepts}
 use Rattle.answers.proofs.StageLaws.{accepted-is}
 use Rattle.layout.specs.Lent.{Lent}

@@ -6,7 +6,6 @@ use Prim.Native.Nat.{ℕ}
 use lib.ListN.{length}
 use Rattle.base.specs.Pick.{both}
 use Rattle.base.proofs.PickLaws.{no, both-off}
-use Rattle.answers.specs.declared.Answer.the-variants as A
 use Rattle.answers.specs.Numbers.{accepts}
 use Rattle.drive.specs.declared.Drive.{Drive}
 use Rattle.changes.specs.Write.{writeAnswer, writes, writeDone, writeVolume, writePads}
