@@ -1,4 +1,5 @@
-"""Draws crates.txt as a Mermaid picture: an arrow to each crate that is touched and isn't reached through another one.
+"""Draws crates.txt as a Mermaid picture: its groups, and an arrow to each crate that is touched and isn't reached through
+another one.
 
 `python3 docs/picture.py` prints it. `python3 docs/picture.py README.md` says whether the page has it.
 """
@@ -12,6 +13,13 @@ def crates(text):
     return {name.strip(): below.split() for name, below in named}
 
 
+def groups(text):
+    """Each group's name and its crates; a line `## NAME` begins one."""
+    for part in text.split("\n## ")[1:]:
+        name, _, rest = part.partition("\n")
+        yield name, list(crates(rest))
+
+
 def reached(below, name):
     """All that a crate stands over."""
     found = set()
@@ -20,8 +28,11 @@ def reached(below, name):
     return found
 
 
-def picture(below):
+def picture(text):
+    below = crates(text)
     lines = ["graph TD"]
+    for i, (name, named) in enumerate(groups(text)):
+        lines += [f'    subgraph g{i}["{name}"]', *(f"        {crate}" for crate in named), "    end"]
     for name, touched in below.items():
         through = set().union(*(reached(below, other) for other in touched)) if touched else set()
         for other in touched:
@@ -32,7 +43,7 @@ def picture(below):
 
 def main(words):
     root = pathlib.Path(__file__).resolve().parent.parent
-    drawn = picture(crates((root / "crates.txt").read_text()))
+    drawn = picture((root / "crates.txt").read_text())
     if not words:
         print(drawn)
         return 0

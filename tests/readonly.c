@@ -2,6 +2,9 @@
  * be written, right before a page that can't be touched. Only what is always stored (the answer, a report, a span, the drive
  * of a format or mount) and the buffer of an accepted read can be written.
  *
+ * Calls that are given no bytes of something (an empty buffer, an empty volume) are made once more with a null pointer for it:
+ * "A pointer whose length is 0 may be null."
+ *
  * Its argument is a file of specimens: for each the volume's length (4 bytes), the drive's image, the volume. Which calls change
  * nothing is found on a copy first; there a refusal has to leave everything as it came. The last line counts the calls. */
 #include "../include/ngt.h"
@@ -33,6 +36,7 @@ struct given {
 struct place {
     uint8_t *image, *vol, *buf, *one, *two, *made, *answer, *report, *span;
     size_t length;
+    int null; /* a buffer of no bytes is a null pointer */
 };
 
 struct pages {
@@ -40,7 +44,7 @@ struct pages {
     size_t size;
 };
 
-static size_t passed, failed, refused, page;
+static size_t passed, failed, refused, nulls, page;
 static int seen[KINDS][16];
 static sigjmp_buf back;
 static uint64_t state = 88172645463325252u;
@@ -79,7 +83,7 @@ static void guard(struct pages p, int how) {
 }
 
 static uint32_t make(const struct given *g, const struct place *at) {
-    uint8_t *end = at->buf + ROOM - g->length;
+    uint8_t *end = at->null && g->length == 0 ? NULL : at->buf + ROOM - g->length;
     switch (g->kind) {
     case FORMAT: return ngt_format(at->vol, at->length, g->n, g->p, g->f, at->one + 16, at->two, g->number, at->made, at->answer);
     case MOUNT: return ngt_mount(at->vol, at->length, at->one, at->two, g->number, at->made, at->answer);
@@ -181,6 +185,23 @@ static void one_call(const struct given *g, const struct place *copy, const stru
         memcpy(copy->buf, at->buf, ROOM);
 }
 
+/* The call once more, with a null pointer for a buffer of no bytes, or for a volume of none: the same answer, and no fault. */
+static void null_call(const struct given *g, const struct place *at, int volume, size_t specimen) {
+    struct place bare = *at, given = *at;
+    if (volume)
+        given.vol = at->vol + at->length, given.length = bare.length = 0, bare.vol = NULL;
+    bare.null = 1;
+    if (sigsetjmp(back, 1)) {
+        fails("a fault at a null pointer", names[g->kind], specimen, 0);
+        return;
+    }
+    uint32_t number = make(g, &given);
+    if (make(g, &bare) != number || (volume && number != 1 && number != 2))
+        fails("another answer to a null pointer", names[g->kind], specimen, number);
+    else
+        passed++, nulls++;
+}
+
 static void all_reached(void) {
     for (int kind = 0; kind < KINDS; kind++) {
         const char *at = reached[kind];
@@ -225,10 +246,14 @@ int main(int count, char **words) {
         for (size_t made = 0; made < 8 * WANTED / specimens && refused + failed < (k + 1) * WANTED / specimens; made++) {
             struct given g = some(at.image);
             one_call(&g, &copy, &at, at.image, at.vol, one, two, k);
+            if (g.length == 0 && (g.kind == READ || g.kind == WRITE))
+                null_call(&g, &at, 0, k);
+            if (made % 16 == 0)
+                null_call(&g, &at, 1, k);
         }
     }
     all_reached();
-    printf("readonly: %zu calls refused, %zu accepted that change nothing\n", refused, passed - refused);
+    printf("readonly: %zu calls refused, %zu accepted that change nothing, %zu with a null pointer\n", refused, passed - refused - nulls, nulls);
     if (refused + failed < WANTED)
         fails("too few refusals", "all", specimens, 0);
     printf("%zu passed, %zu failed\n", passed, failed);

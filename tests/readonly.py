@@ -1,7 +1,8 @@
 """100,000 calls that may store nothing, on pages that can't be written and before pages that can't be touched.
 
 The specimens are made here by the second program: garbage, garbage under a right seal, and volumes with a history, whole,
-damaged and too short. `readonly.c` makes the calls, against the archive as it is shipped. NGT_SEED sets the seed.
+damaged and too short. `readonly.c` makes the calls, against the archive as it is shipped; those that are given no bytes of
+something also with a null pointer for it. NGT_SEED sets the seed.
 """
 import os
 import pathlib

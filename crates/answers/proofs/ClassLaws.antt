@@ -1,4 +1,4 @@
--- The class of each range of numbers, and answers told apart by number and what they carry.
+-- The class of each range of numbers.
 use mathlib.Core.Path.{_≡_, refl}
 use Prim.Native.Nat.{ℕ, _≤_}
 use native.Mathlib.Omega.{arith}

@@ -26,11 +26,6 @@ both-stages a next e = go (told (accepts a))
     go (inl h) = (h, ap accepts (sym (goes-on a next h)) ∙ e)
     go (inr h) = absurd (clash e (ap accepts (stops a next h) ∙ h))
 
--- a stage's next test, with what follows the stage
-pub past : (b : Bool) (x : Answer) {y : Answer} (r next : Answer) → accepts r ≡ false → andThen x next ≡ y → andThen (pick b x r) next ≡ pick b y r
-past true x r next f e = e
-past false x r next f e = stops r next f
-
 -- a test of an answer that accepts held, and what comes behind it accepts
 pub passed : (b : Bool) (x r : Answer) → accepts r ≡ false → accepts (pick b x r) ≡ true → (b ≡ true) × (accepts x ≡ true)
 passed true x r f e = (refl, e)
@@ -83,3 +78,11 @@ accepted-is A.Moved e = absurd (clash e refl)
 accepted-is A.CounterTop e = absurd (clash e refl)
 accepted-is A.KeycountTop e = absurd (clash e refl)
 accepted-is A.EpochTop e = absurd (clash e refl)
+
+-- a stage before one that accepts has the last word
+pub first-answers : (a next : Answer) → next ≡ A.Accepted → andThen a next ≡ a
+first-answers a next e = go (told (accepts a))
+  where
+    go : (accepts a ≡ true) ⊎ (accepts a ≡ false) → andThen a next ≡ a
+    go (inl h) = goes-on a next h ∙ e ∙ sym (accepted-is a h)
+    go (inr h) = stops a next h

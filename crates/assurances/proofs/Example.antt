@@ -12,13 +12,12 @@ use Rattle.base.proofs.TabLaws.{tab-ext}
 use Rattle.answers.specs.declared.Answer.the-variants as A
 use Rattle.answers.specs.Numbers.{accepts}
 use Rattle.layout.specs.declared.Shape.{Shape}
-use Rattle.layout.specs.Shape.{shape, sized, known, widthOf, inLimits, heightOf, heightFrom}
-use Rattle.layout.specs.Parts.{lengthOf}
+use Rattle.layout.specs.Shape.{shape}
 use Rattle.drive.specs.declared.Drive.{Drive}
-use Rattle.drive.specs.Drive.{shapeOf, zeros, counterTop}
+use Rattle.drive.specs.Drive.{shapeOf, counterTop}
 use Rattle.drive.specs.Opening.{openingOf}
 use Rattle.drive.proofs.OpeningLaws.{blank-form, blank-limits}
-use Rattle.opening.specs.Format.{formatAnswer, freshDrive}
+use Rattle.opening.specs.Format.{freshDrive}
 use Rattle.records.specs.Record.{recordOf}
 use Rattle.reading.specs.Read.{readAnswer, readBuffer}
 use Rattle.reports.specs.Report.{reportAnswer}
@@ -32,6 +31,7 @@ use Rattle.history.specs.Step.{answerTo, step}
 use Rattle.history.specs.History.{Start, begun, run, history, among}
 use Rattle.history.specs.Answers.{changing, hasMoved, isLeft, nuggetsLeft, Columns, columns, columnsOf, columnsAfter, allAccepted, reportOn}
 use Rattle.history.proofs.Counts.{many-none}
+use Rattle.history.proofs.Starts.{one-nugget}
 use Rattle.history.proofs.Sound.{Sound}
 use Rattle.history.proofs.Steps.{start-sound, begun-drive, step-sound, sound, mount-same}
 use Rattle.history.proofs.Table.{exactly}
@@ -206,33 +206,16 @@ module _ (w : World) (x : At w (columns false 1 1 (secretOf 0))) where
       (both-on (ap accepts ok₄) (mounted-on w₄ (secretOf 9) rest₄ (x₄ .sounds) end)))))))
 
 -- there is such a drive
-abbrev small : Shape
-small = shape 1 2 64
-
-format-accepts : formatAnswer small 0 (zeros (lengthOf small)) ≡ A.Accepted
-unfolding formatAnswer inLimits sized known widthOf heightOf heightFrom
-format-accepts = refl
-
 fresh : Start
-fresh =
-    record {
-      shape = small;
-      salt = zeros 16;
-      secret = secretOf 0;
-      outside = 0;
-      given = zeros (lengthOf small);
-      salted = refl;
-      low = omega arith;
-      accepted = format-accepts;
-    }
+fresh = one-nugget (secretOf 0)
 
 at-start : At (begun fresh) (columns false 1 1 (secretOf 0))
-unfolding freshDrive fresh
+unfolding freshDrive one-nugget fresh
 at-start = record { sounds = start-sound fresh; shaped = ap shapeOf (begun-drive fresh); tells = columns-start fresh }
 
 reads : let w = history fresh example in
     readBuffer (w .drive) (w .vol) 63 (0 ∷ 0 ∷ 0 ∷ []) ≡ bytes
-unfolding run among tab fresh
+unfolding run among tab one-nugget fresh
 reads =
     let w = history fresh example in
     let s = shape-kept fresh example .0 in
@@ -244,7 +227,7 @@ reads =
     ∙ tab-ext 3 (λ i. w .contents (63 + i)) (λ i. getD bytes i 0) (λ i h. written-last fresh [] (mount (secretOf 9) ∷ rest₁) 63 bytes i h (ok₁ (begun fresh) at-start) refl)
 
 pub exampled : Example
-unfolding fresh
+unfolding one-nugget fresh
 exampled = (fresh, refl, all-accepted (begun fresh) at-start, reads)
 
 -- the example up to its sweep

@@ -18,7 +18,7 @@ use Rattle.reports.specs.Report.{reportAnswer, reportOf}
 use Rattle.reports.specs.Stored.{isFlake, storedAnswer, storedFlake}
 use Rattle.changes.specs.Laid.{over}
 use Rattle.changes.specs.Write.{writeAnswer, writes, writtenDrive, writeDone, writeVolume, writePads}
-use Rattle.changes.specs.Rekey.{beginAnswer, begunDrive, beginDone, beginVolume, sweepAnswer, sweepDone, sweepVolume, sweepPads, finishAnswer, finishedDrive, finishDone, finishVolume}
+use Rattle.changes.specs.Rekey.{beginTests, beginAnswer, begunDrive, beginDone, beginVolume, sweepAnswer, sweepDone, sweepVolume, sweepPads, finishTests, finishAnswer, finishedDrive, finishDone, finishVolume}
 use Rattle.changes.proofs.Exact.{yes-same}
 use Rattle.history.specs.World.{World, Call, mount, read, write, begin, sweep, finish, report, stored}
 use Rattle.history.specs.Step.{answerTo, left, overlaid, mounted, step, changesBy}
@@ -51,7 +51,7 @@ module _ (w : World) (any : List ℕ) (steady : isChanging (w .drive .state) ≡
   Same c = (answerTo u c ≡ answerTo w c) × AlikeButOld (step u c) (step w c) × (changesBy w c ≡ true → step u c ≡ step w c)
 
   begin-answer : (secret : List ℕ) → beginAnswer e v secret ≡ beginAnswer d v secret
-  unfolding beginAnswer
+  unfolding beginAnswer beginTests
   begin-answer secret = rw (opens d any v steady) refl
 
   sweep-answer : (n : ℕ) → sweepAnswer e v n ≡ sweepAnswer d v n
@@ -59,7 +59,7 @@ module _ (w : World) (any : List ℕ) (steady : isChanging (w .drive .state) ≡
   sweep-answer n = rw (opens d any v steady, steady) refl
 
   finish-answer : finishAnswer e v ≡ finishAnswer d v
-  unfolding finishAnswer
+  unfolding finishAnswer finishTests
   finish-answer = rw (opens d any v steady) refl
 
   -- each step by the answer to the other drive

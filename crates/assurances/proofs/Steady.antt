@@ -29,7 +29,7 @@ use Rattle.tree.proofs.PathLaws.{path-belongs}
 use Rattle.drive.specs.declared.Drive.{Drive}
 use Rattle.drive.specs.declared.State.{State}
 use Rattle.drive.specs.declared.State.the-variants.{Steady, Changing}
-use Rattle.drive.specs.Drive.{shapeOf, isChanging, keptOld, counterTop}
+use Rattle.drive.specs.Drive.{shapeOf, isChanging, counterTop}
 use Rattle.drive.specs.Head.{checkFor, frontIn, headOf}
 use Rattle.drive.specs.Opening.{inForm, headStands, openingOf}
 use Rattle.drive.proofs.OpeningLaws.{opening-lent}

@@ -9,7 +9,7 @@ use Rattle.base.specs.Lists.{tab}
 use Rattle.words.specs.Word.{add32, rotr}
 use Rattle.blake2s.specs.declared.rounds.Quad.{Quad}
 
--- 2.6: "IV[i] = floor(2**w * frac(sqrt(prime(i+1))))", listed in appendix C.2
+-- 2.6: word i is the first 32 bits behind the point of the square root of a prime, of the first eight in turn; appendix D lists them
 unfoldable pub iv : List ℕ
 iv =
     0x6A09E667

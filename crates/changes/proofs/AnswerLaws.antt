@@ -28,17 +28,18 @@ use Rattle.reports.specs.Counts.{movedIn}
 use Rattle.reports.proofs.CountLaws.{moved-le}
 use Rattle.changes.specs.Change.{idles, nuggetChange}
 use Rattle.changes.specs.Write.{writeWay, writeAnswer}
-use Rattle.changes.specs.Rekey.{epochTop, beginAnswer, sweepAnswer, leftIn, finishAnswer}
+use Rattle.changes.specs.Rekey.{epochTop, beginTests, beginAnswer, moveTests, nuggetTests, sweepAnswer, leftIn, finishTests, finishAnswer}
 use Rattle.changes.proofs.SpanLaws.{tested-each, change-room}
 
 pub record Begins (d : Drive) (v : List ℕ) : Type 0 where
   pub opens : openingOf d v ≡ A.Accepted
   pub lent : Lent (shapeOf d) v
+  pub steady : isChanging (d .state) ≡ false
   pub epochRoom : d .epoch ≡ epochTop → ⊥
   pub counterRoom : d .counter ≡ counterTop → ⊥
 
 pub begin-told : (d : Drive) (v secret : List ℕ) → accepts (beginAnswer d v secret) ≡ true → Begins d v
-unfolding beginAnswer
+unfolding beginAnswer beginTests
 begin-told d v secret e =
     let opened = both-stages (openingOf d v) _ e in
     let steady = spared (isChanging (d .state)) A.State _ refl (opened .1) in
@@ -48,6 +49,7 @@ begin-told d v secret e =
     record {
       opens = accepted-is (openingOf d v) (opened .0);
       lent = opening-lent d v (opened .0);
+      steady = steady .0;
       epochRoom = eqb-false (d .epoch) epochTop (epoch .0);
       counterRoom = eqb-false (d .counter) counterTop (counter .0);
     }
@@ -56,6 +58,7 @@ begin-told d v secret e =
 pub record Moves (d : Drive) (v : List ℕ) (n : ℕ) : Type 0 where
   pub opens : openingOf d v ≡ A.Accepted
   pub lent : Lent (shapeOf d) v
+  pub changing : isChanging (d .state) ≡ true
   pub inside : n < d .n
   pub path : pathFor d v n ≡ A.Accepted
   pub counterRoom : d .counter ≡ counterTop → ⊥
@@ -63,7 +66,7 @@ pub record Moves (d : Drive) (v : List ℕ) (n : ℕ) : Type 0 where
   pub flakes : flakesOf d v n (recordOf (shapeOf d) v n .journal) ≡ A.Accepted
 
 pub sweep-told : (d : Drive) (v : List ℕ) (n : ℕ) → accepts (sweepAnswer d v n) ≡ true → Moves d v n
-unfolding sweepAnswer
+unfolding sweepAnswer nuggetTests moveTests
 sweep-told d v n e =
     let opened = both-stages (openingOf d v) _ e in
     let changing = passed (isChanging (d .state)) _ A.State refl (opened .1) in
@@ -75,6 +78,7 @@ sweep-told d v n e =
     record {
       opens = accepted-is (openingOf d v) (opened .0);
       lent = opening-lent d v (opened .0);
+      changing = changing .0;
       inside = ltb-true n (d .n) (below .0);
       path = accepted-is (pathFor d v n) (path .0);
       counterRoom = eqb-false (d .counter) counterTop (counter .0);
@@ -85,13 +89,14 @@ sweep-told d v n e =
 pub record Finishes (d : Drive) (v : List ℕ) : Type 0 where
   pub opens : openingOf d v ≡ A.Accepted
   pub lent : Lent (shapeOf d) v
+  pub changing : isChanging (d .state) ≡ true
   pub whole : wholeOf (shapeOf d) (d .epoch) (isChanging (d .state)) v ≡ A.Accepted
   pub counterRoom : d .counter ≡ counterTop → ⊥
   -- "finish with nuggets left" is refused
   pub allMoved : movedIn (shapeOf d) (d .epoch) v (d .n) ≡ d .n
 
 pub finish-told : (d : Drive) (v : List ℕ) → accepts (finishAnswer d v) ≡ true → Finishes d v
-unfolding finishAnswer
+unfolding finishAnswer finishTests
 finish-told d v e =
     let opened = both-stages (openingOf d v) _ e in
     let changing = passed (isChanging (d .state)) _ A.State refl (opened .1) in
@@ -101,6 +106,7 @@ finish-told d v e =
     record {
       opens = accepted-is (openingOf d v) (opened .0);
       lent = opening-lent d v (opened .0);
+      changing = changing .0;
       whole = accepted-is (wholeOf (shapeOf d) (d .epoch) (isChanging (d .state)) v) (whole .0);
       counterRoom = eqb-false (d .counter) counterTop (counter .0);
       allMoved = omega (arith, ltb-false 0 (leftIn d v) (none .0), moved-le (shapeOf d) (d .epoch) v (d .n));

@@ -26,12 +26,13 @@ use Rattle.drive.specs.declared.State.the-variants.{Steady, Changing}
 use Rattle.drive.specs.Drive.{shapeOf, isChanging, keptOld, zeros, counterTop}
 use Rattle.drive.specs.Opening.{openingOf}
 use Rattle.nuggets.specs.Tests.{flakesOf, pathFor}
-use Rattle.nuggets.specs.Touched.{fitsIn}
+use Rattle.drive.proofs.OpeningLaws.{opening-lent}
+use Rattle.nuggets.proofs.TouchLaws.{fits-leb}
 use Rattle.reports.specs.Counts.{isMoved}
 use Rattle.reports.proofs.Exact.{many-not}
 use Rattle.changes.specs.Change.{idles, nuggetChange, testedTo, advanced}
 use Rattle.changes.specs.Write.{writeWay, writeAnswer}
-use Rattle.changes.specs.Rekey.{beginAnswer, begunDrive, sweepAnswer, leftIn, finishAnswer, finishedDrive}
+use Rattle.changes.specs.Rekey.{beginTests, beginAnswer, begunDrive, moveTests, nuggetTests, sweepAnswer, leftIn, finishTests, finishAnswer, finishedDrive}
 
 -- every test that could call drive or volume altered passes
 pub record Clean (d : Drive) (v : List ℕ) : Type 0 where
@@ -77,23 +78,24 @@ module _ (d : Drive) (v : List ℕ) (x : Clean d v) where
 
   pub write-exact : (o len : ℕ) → writeAnswer d v o len
       ≡ pick (leb (o + len) (d .n * d .p * d .f)) (pick (eqb len 0) A.Accepted (pick (eqb (d .counter) (2 ^ 64 - 1)) A.CounterTop A.Accepted)) A.PastEnd
-  unfolding writeAnswer andThen fitsIn
+  unfolding writeAnswer andThen
   write-exact o len =
       yes _ (ap accepts (x .opens))
+      (rw (fits-leb (shapeOf d) o len (opening-lent d v (ap accepts (x .opens)) .limited))
       (yes-same (leb (o + len) (d .n * d .p * d .f)) _
-      (λ fits. no-same (eqb len 0) _ (λ some. no-same (eqb (d .counter) counterTop) _ (λ low. tested-taken low (writeWay d v o len) (d .n) (omega arith)))))
+      (λ fits. no-same (eqb len 0) _ (λ some. no-same (eqb (d .counter) counterTop) _ (λ low. tested-taken low (writeWay d v o len) (d .n) (omega arith))))))
 
   pub begin-exact : (secret : List ℕ) → beginAnswer d v secret
       ≡ pick (isChanging (d .state)) A.State
       (pick (same secret (d .present)) A.SameSecret (pick (eqb (d .epoch) 65535) A.EpochTop (pick (eqb (d .counter) (2 ^ 64 - 1)) A.CounterTop A.Accepted)))
-  unfolding beginAnswer andThen
+  unfolding beginAnswer beginTests andThen
   begin-exact secret = yes _ (ap accepts (x .opens)) refl
 
   pub sweep-exact : (n : ℕ) → sweepAnswer d v n
       ≡ pick (isChanging (d .state))
       (pick (ltb n (d .n)) (pick (eqb (recordOf (shapeOf d) v n .epoch) (d .epoch)) A.Moved (pick (eqb (d .counter) (2 ^ 64 - 1)) A.CounterTop A.Accepted)) A.PastEnd)
       A.State
-  unfolding sweepAnswer andThen
+  unfolding sweepAnswer nuggetTests moveTests andThen
   sweep-exact n =
       yes _ (ap accepts (x .opens))
       (yes-same (isChanging (d .state)) _
@@ -110,7 +112,7 @@ module _ (d : Drive) (v : List ℕ) (x : Clean d v) where
   pub finish-exact : let left = many (d .n) (λ i. not (eqb (recordOf (shapeOf d) v i .epoch) (d .epoch))) in
       finishAnswer d v
       ≡ pick (isChanging (d .state)) (pick (ltb 0 left) (A.Left left) (pick (eqb (d .counter) (2 ^ 64 - 1)) A.CounterTop A.Accepted)) A.State
-  unfolding finishAnswer andThen
+  unfolding finishAnswer finishTests andThen
   finish-exact = yes _ (ap accepts (x .opens)) (rw (x .whole, left-counted) refl)
 
 -- "Begin takes a new secret: state changing, epoch plus 1, the old secret kept."

@@ -1,19 +1,17 @@
 -- A nugget's encipherings and a call's, laid: which flakes and tags they put, and what they leave.
-use mathlib.Core.Path.{_≡_, ap, sym, _∙_}
+use mathlib.Core.Path.{_≡_, _∙_}
 use mathlib.Core.Bool.{Bool}
 use mathlib.Core.List.{List}
 use Prim.Native.Nat.{ℕ, _+_, _*_, _<_, _≤_}
 use native.Mathlib.Omega.{arith}
 use Rattle.base.specs.Lists.{part}
-use Rattle.base.proofs.PartLaws.{part-part}
-use Rattle.words.specs.Le.{num}
 use Rattle.layout.specs.declared.Shape.{Shape}
 use Rattle.layout.specs.Shape.{leaves, widthOf}
 use Rattle.layout.specs.Parts.{recordAt, tagsAt, tagAt, flakeAt, nodeAt}
 use Rattle.layout.proofs.Places.{record-inside}
 use Rattle.records.specs.declared.Record.{Record}
 use Rattle.records.specs.declared.Way.{Way}
-use Rattle.records.specs.Record.{recordIn, recordOf}
+use Rattle.records.specs.Record.{recordOf}
 use Rattle.records.proofs.RecordLaws.{record-told}
 use Rattle.records.specs.Listing.{Entry, padsOf, padsTo}
 use Rattle.nodes.specs.Nodes.{nodeIn}

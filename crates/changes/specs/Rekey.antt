@@ -29,13 +29,16 @@ abbrev pub epochTop : ℕ
 epochTop = 65535
 
 -- "Begin: 9, 10, 15, 13."
-unfoldable pub beginAnswer : Drive → List ℕ → List ℕ → Answer
-beginAnswer d v secret =
-    andThen (openingOf d v)
-    (pick (isChanging (d .state)) A.State
+unfoldable pub beginTests : Drive → List ℕ → Answer
+beginTests d secret =
+    pick (isChanging (d .state)) A.State
     (pick (same secret (d .present)) A.SameSecret
     (pick (eqb (d .epoch) epochTop) A.EpochTop
-    (pick (eqb (d .counter) counterTop) A.CounterTop A.Accepted))))
+    (pick (eqb (d .counter) counterTop) A.CounterTop A.Accepted)))
+
+-- "All others start 1, 2, 7 head."
+unfoldable pub beginAnswer : Drive → List ℕ → List ℕ → Answer
+beginAnswer d v secret = andThen (openingOf d v) (beginTests d secret)
 
 -- "Begin takes a new secret: state changing, epoch plus 1, the old secret kept."
 unfoldable pub begunDrive : Drive → List ℕ → Drive
@@ -61,18 +64,22 @@ beginDone d v secret =
 unfoldable pub beginVolume : Drive → List ℕ → List ℕ → List ℕ
 beginVolume d v secret = pick (accepts (beginAnswer d v secret)) (settled (begunDrive d secret) v) v
 
+-- "12, 13, 14, 7 flakes"
+unfoldable pub moveTests : Drive → List ℕ → ℕ → Answer
+moveTests d v n =
+    pick (eqb (recordOf (shapeOf d) v n .epoch) (d .epoch)) A.Moved
+    (pick (eqb (d .counter) counterTop) A.CounterTop
+    (pick (atTop sweepWay (recordOf (shapeOf d) v n)) A.KeycountTop (flakesOf d v n (recordOf (shapeOf d) v n .journal))))
+
+-- "7 path", and those
+unfoldable pub nuggetTests : Drive → List ℕ → ℕ → Answer
+nuggetTests d v n = andThen (pathFor d v n) (moveTests d v n)
+
 -- "Sweep: 9, 8, 7 path, 12, 13, 14, 7 flakes."
 unfoldable pub sweepAnswer : Drive → List ℕ → ℕ → Answer
 sweepAnswer d v n =
     andThen (openingOf d v)
-    (pick (isChanging (d .state))
-    (pick (ltb n (d .n))
-    (andThen (pathFor d v n)
-    (pick (eqb (recordOf (shapeOf d) v n .epoch) (d .epoch)) A.Moved
-    (pick (eqb (d .counter) counterTop) A.CounterTop
-    (pick (atTop sweepWay (recordOf (shapeOf d) v n)) A.KeycountTop (flakesOf d v n (recordOf (shapeOf d) v n .journal))))))
-    A.PastEnd)
-    A.State)
+    (pick (isChanging (d .state)) (pick (ltb n (d .n)) (nuggetTests d v n) A.PastEnd) A.State)
 
 -- "Sweep takes a nugget and rekeys it with T empty.": the way of each nugget
 abbrev pub sweepWays : ℕ → ℕ → Way
@@ -100,15 +107,16 @@ sweepPads d v n = pick (accepts (sweepAnswer d v n)) (padsFor d v (sweepWays n))
 abbrev pub leftIn : Drive → List ℕ → ℕ
 leftIn d v = d .n - movedIn (shapeOf d) (d .epoch) v (d .n)
 
+-- "7 whole, 11, 13"
+unfoldable pub finishTests : Drive → List ℕ → Answer
+finishTests d v =
+    andThen (wholeOf (shapeOf d) (d .epoch) (isChanging (d .state)) v)
+    (pick (ltb 0 (leftIn d v)) (A.Left (leftIn d v))
+    (pick (eqb (d .counter) counterTop) A.CounterTop A.Accepted))
+
 -- "Finish: 9, 7 whole, 11, 13."
 unfoldable pub finishAnswer : Drive → List ℕ → Answer
-finishAnswer d v =
-    andThen (openingOf d v)
-    (pick (isChanging (d .state))
-    (andThen (wholeOf (shapeOf d) (d .epoch) (isChanging (d .state)) v)
-    (pick (ltb 0 (leftIn d v)) (A.Left (leftIn d v))
-    (pick (eqb (d .counter) counterTop) A.CounterTop A.Accepted)))
-    A.State)
+finishAnswer d v = andThen (openingOf d v) (pick (isChanging (d .state)) (finishTests d v) A.State)
 
 -- "Finish makes the state steady and zeroes the check."
 unfoldable pub finishedDrive : Drive → Drive

@@ -1,15 +1,15 @@
 -- Laws of rows: length, fields one by one, read back, stored back, and a run of stores.
-use Prim.{Unit, tt}
+use Prim.{tt}
 use mathlib.Core.Path.{_≡_, refl, sym, _∙_, ap}
 use mathlib.Core.List.{List, [], _∷_, _++_}
-use Prim.Native.Nat.{ℕ, zero, suc, _+_, _^_, _<_, _≤_}
+use Prim.Native.Nat.{ℕ, zero, suc, _+_, _≤_}
 use native.Mathlib.Nat.{add-zero}
 use native.Mathlib.Omega.{arith}
 use lib.ListN.{length, take, drop, length-append}
 use lib.Seq.{sets, take-all, take-at, drop-at, take-take, drop-drop}
 use Rattle.base.specs.Lists.{part}
 use Rattle.base.proofs.PartLaws.{length-part, part-part, part-front, part-append, part-sets, sets-append, sets-full}
-use Rattle.words.specs.Le.{num, le, Bytes}
+use Rattle.words.specs.Le.{Bytes}
 use Rattle.words.proofs.LeLaws.{length-le, num-le, num-lt, le-num, bytes-part}
 use Rattle.codec.specs.Row.{Field, number, string, wide, Value, put, got, FieldLong, FieldFits, Values, AllLong, AllFit, width, row, from, rowIn, storing, RowStands}
 

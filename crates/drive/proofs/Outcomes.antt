@@ -34,8 +34,5 @@ epoch-fits κs a x y u v p q = (agree p q, refl)
 pub in-form : OneOutcome fn.in_form.ended fn.in_form.Reads.Post
 in-form κs a x y u v p q = (agree p q, refl)
 
-pub head-stands : OneOutcome fn.head_stands.ended fn.head_stands.Reads.Post
-head-stands κs a x y u v p q = (agree p q, refl)
-
 pub opening : OneOutcome fn.opening.ended fn.opening.Reads.Post
 opening κs a x y u v p q = (agree p q, refl)

@@ -192,7 +192,7 @@ pub fn in_form(d: Drive) -> bool
 }
 
 // Test 7 head, of a volume as long as the drive's shape asks.
-pub fn head_stands(d: Drive, vol: &[u8]) -> bool
+fn head_stands(d: Drive, vol: &[u8]) -> bool
     requires { ⌜ (inLimits (shapeOf d) ≡ true) × (length (now vol) ≡ lengthOf (shapeOf d)) ⌝ }
     ensures { λ r. ⌜ r ≡ headStands d (now (vol .entry)) ⌝ }
 {

@@ -4,10 +4,8 @@ use mathlib.Core.List.{List, [], _∷_}
 use Prim.Native.Nat.{ℕ, _+_}
 use native.Mathlib.Omega.{arith}
 use lib.ListN.{length}
-use Rattle.answers.specs.declared.Answer.the-variants as A
-use Rattle.layout.specs.Shape.{sized, known, widthOf, inLimits, heightOf, heightFrom}
+use Rattle.layout.specs.Shape.{widthOf, heightOf, heightFrom}
 use Rattle.layout.specs.declared.Shape.{Shape}
-use Rattle.layout.specs.Parts.{lengthOf}
 use Rattle.line.specs.Decimal.{digits, widthIn, decimal}
 use Rattle.line.specs.Lines.{shareText}
 use Rattle.records.specs.declared.Record.{Record}
@@ -16,12 +14,12 @@ use Rattle.records.specs.Rule.{wayOf, enciphered, keycountAfter, journalAfter}
 use Rattle.drive.specs.Drive.{shapeOf}
 use Rattle.drive.specs.Drive.{zeros}
 use Rattle.nuggets.specs.Touched.{meets, touchedOf}
-use Rattle.opening.specs.Format.{formatAnswer}
+use Rattle.history.proofs.Starts.{one-nugget}
 use Rattle.history.specs.World.{World, write}
 use Rattle.history.specs.Step.{step}
 use Rattle.history.specs.History.{Start, begun, run}
 use Rattle.reports.specs.Counts.{exactOf, shareOf}
-use Rattle.figures.specs.Figures.{small, Fresh, countsOf, Figures}
+use Rattle.figures.specs.Figures.{Fresh, countsOf, Figures}
 use Rattle.figures.proofs.Writes.{Holds, starts-so, holds-on, one-present}
 
 -- what the table shows of a drive of that shape
@@ -45,24 +43,9 @@ unfolding touchedOf flakesWith meets wayOf shareNone enciphered keycountAfter jo
 after-eleven x a fresh la = holds-on (begun x) (starts-so x (fresh .shaped)) 60 10 a la (omega arith) (omega arith) (omega (arith, fresh .room))
 
 -- there are such drives
-format-accepts : formatAnswer small 0 (zeros (lengthOf small)) ≡ A.Accepted
-unfolding formatAnswer inLimits sized known widthOf heightOf heightFrom
-format-accepts = refl
-
 pub some : (x : Start) × Fresh 3 x
-some = (
-  record {
-    shape = small;
-    salt = zeros 16;
-    secret = zeros 32;
-    outside = 0;
-    given = zeros (lengthOf small);
-    salted = refl;
-    low = omega arith;
-    accepted = format-accepts;
-  },
-  record { shaped = refl; room = omega arith },
-)
+unfolding one-nugget
+some = (one-nugget (zeros 32), record { shaped = refl; room = omega arith })
 
 pub figures : Figures
 unfolding widthOf heightOf heightFrom exactOf shareOf shareText decimal digits widthIn run many bit

@@ -1,7 +1,7 @@
 pub mod Counts
+pub mod Starts
 pub mod Quiet
 pub mod Runs
-pub mod Taken
 pub mod View
 pub mod Heads
 pub mod After

@@ -18,12 +18,12 @@ use Rattle.drive.specs.Drive.{shapeOf, counterTop}
 use Rattle.opening.proofs.Reopens.{length-head}
 use Rattle.changes.specs.Change.{advanced}
 use Rattle.changes.specs.Rekey.{epochTop, beginAnswer, begunDrive, beginDone, beginVolume, sweepAnswer, sweepWays, sweptDrive, sweepDone, sweepVolume, finishedDrive, finishDone}
+use Rattle.changes.proofs.AnswerLaws.{Moves, begin-told, sweep-told}
 use Rattle.changes.proofs.SettleLaws.{settled-record}
 use Rattle.changes.proofs.SweepLaws.{way-own, way-other}
 use Rattle.history.specs.World.{World, begin, sweep, finish}
 use Rattle.history.specs.Step.{answerTo, left, step}
 use Rattle.history.specs.Answers.{changing, hasMoved, nuggetsLeft}
-use Rattle.history.proofs.Taken.{begins, Sweeps, sweeps}
 use Rattle.history.proofs.Sound.{Sound}
 use Rattle.history.proofs.Ways.{swept-turns}
 use Rattle.history.proofs.Table.{exactly}
@@ -65,7 +65,7 @@ module _ (w : World) (x : Sound w) where
   unfolding step left beginVolume beginDone begunDrive
   begin-moves-none secret e n h =
       let taken : accepts (beginAnswer (w .drive) (w .vol) secret) ≡ true = ap accepts e in
-      let was = steady-epoch (begins (w .drive) (w .vol) secret taken .steady) n h in
+      let was = steady-epoch (begin-told (w .drive) (w .vol) secret taken .steady) n h in
       let kept = settled-record (shapeOf (w .drive)) (begunDrive (w .drive) secret) (w .vol) (length-head (begunDrive (w .drive) secret) (x .handed .salt-long)) n in
       rw (taken, kept) (ne-eqb (recordOf (shapeOf (w .drive)) (w .vol) n .epoch) (w .drive .epoch + 1) (λ z. omega (arith, z, was)))
 
@@ -81,8 +81,8 @@ module _ (w : World) (x : Sound w) where
     taken : accepts (sweepAnswer (w .drive) (w .vol) n) ≡ true
     taken = ap accepts e
 
-    pub sweep-tells : Sweeps (w .drive) (w .vol) n
-    sweep-tells = sweeps (w .drive) (w .vol) n taken
+    pub sweep-tells : Moves (w .drive) (w .vol) n
+    sweep-tells = sweep-told (w .drive) (w .vol) n taken
 
     -- each record is the one turned in its nugget's way
     swept-record : (m : ℕ) → m < w .drive .n → recordOf (shapeOf (step w (sweep n) .drive)) (step w (sweep n) .vol) m ≡ turned (sweepWays n m) (w .drive .epoch) (recordOf (shapeOf (w .drive)) (w .vol) m)

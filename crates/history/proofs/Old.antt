@@ -13,6 +13,8 @@ use Rattle.base.proofs.PickLaws.{yes, no, told}
 use Rattle.base.proofs.FoldLaws.{same-true, same-refl}
 use Rattle.blake2s.specs.Hash.{blake2s}
 use Rattle.answers.specs.declared.Answer.the-variants as A
+use Rattle.answers.specs.Numbers.{accepts}
+use Rattle.answers.proofs.StageLaws.{goes-on, first-answers}
 use Rattle.records.specs.Journal.{bit}
 use Rattle.records.specs.Listing.{Entry}
 use Rattle.keys.specs.Keys.{checkOf, sealOf}
@@ -23,7 +25,7 @@ use Rattle.drive.specs.declared.State.{State}
 use Rattle.drive.specs.declared.State.the-variants.{Steady, Changing}
 use Rattle.drive.specs.Drive.{shapeOf, isChanging, keptOld, zeros}
 use Rattle.drive.specs.Head.{checkFor, checkIn}
-use Rattle.opening.specs.Mount.{saltIn, epochIn, checkBytes, sealBytes, openedDrive, sealed, checked, mountAnswer, mountDone}
+use Rattle.opening.specs.Mount.{saltIn, epochIn, checkBytes, sealBytes, openedDrive, sealed, checked, formOf, keysOf, restOf, mountAnswer, mountDone}
 use Rattle.opening.proofs.HeadBack.{Opened, opened}
 use Rattle.opening.proofs.Reopens.{drive-back}
 use Rattle.ledger.specs.Ledger.{secretAt, entryAt}
@@ -103,13 +105,13 @@ module _ (w : World) (x : Sound w) where
       ∙ ap (λ (n : List ℕ). same (sealOf (w .secret) (part 0 72 v) n) (sealOf present (part 0 72 v) n)) node-is
 
   mounts : (present old : List ℕ) (outside : ℕ) → mountAnswer v present old outside ≡ mountDue w present old outside
-  unfolding mountAnswer openedDrive
+  unfolding mountAnswer formOf restOf keysOf openedDrive
   mounts present old outside =
-      yes _ (le-leb 104 (length v) (tests .head-long))
-      (yes _ (tests .has-mark)
-      (yes _ (tests .fits)
-      (yes _ (tests .long)
-      (rw (seal-test present old, check-test present old, tests .counter, tests .whole) refl))))
+      let form : formOf v ≡ A.Accepted =
+      yes _ (le-leb 104 (length v) (tests .head-long)) (yes _ (tests .has-mark) (yes _ (tests .fits) (yes _ (tests .long) refl))) in
+      goes-on _ _ (ap accepts form)
+      ∙ first-answers (keysOf (openedDrive v present old) v outside) _ (tests .whole)
+      ∙ rw (seal-test present old, check-test present old, tests .counter) refl
 
 pub mounts-exactly : MountsExactly
 mounts-exactly start calls present old outside = mounts (history start calls) (sound start calls) present old outside

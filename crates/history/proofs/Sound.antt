@@ -4,6 +4,7 @@ use mathlib.Core.Bool.{true}
 use mathlib.Core.List.{List, [], _++_, append-nil}
 use Prim.Native.Nat.{ℕ, _+_, _^_, _<_, _≤_}
 use native.Mathlib.Omega.{arith}
+use borrow.Author.Tests.{eqb-true}
 use Rattle.base.proofs.TabLaws.{tab-ext}
 use Rattle.layout.specs.declared.Shape.{Shape}
 use Rattle.layout.specs.Spots.{offsetAt}
@@ -15,8 +16,10 @@ use Rattle.drive.specs.Drive.{shapeOf, isChanging, zeros, counterTop}
 use Rattle.drive.specs.Opening.{epochFits}
 use Rattle.nuggets.specs.Nugget.{secretFor}
 use Rattle.opening.proofs.Reopens.{Handed}
+use Rattle.reports.specs.Counts.{isMoved}
 use Rattle.changes.specs.Change.{settled}
 use Rattle.changes.specs.Rekey.{begunDrive, finishedDrive}
+use Rattle.changes.proofs.AnswerLaws.{Begins, Finishes}
 use Rattle.ledger.specs.Totals.{risen}
 use Rattle.ledger.specs.Ledger.{Ledger, secretAt}
 use Rattle.ledger.specs.Invariant.{Inv}
@@ -28,8 +31,8 @@ use Rattle.ledger.proofs.OnwardLaws.{onward-kept}
 use Rattle.history.specs.World.{World}
 use Rattle.history.specs.Step.{left}
 use Rattle.history.specs.Demands.{plainIn}
+use Rattle.history.proofs.Counts.{many-all}
 use Rattle.history.proofs.Quiet.{Untouched}
-use Rattle.history.proofs.Taken.{Begins, Finishes}
 use Rattle.history.proofs.View.{kitOf, viewOf, ledgerOf}
 use Rattle.history.proofs.Heads.{headed, headed-record, headed-stored, headed-untouched, begin-fits, finish-fits}
 use Rattle.records.specs.Record.{recordOf}
@@ -57,6 +60,10 @@ plain-same s a b e n f = tab-ext (s .f) (λ i. a (offsetAt s n f i)) (λ i. b (o
 -- room for one more
 pub counter-room : (k : ℕ) → k < 256 ^ 8 → (k ≡ counterTop → ⊥) → k + 1 < 256 ^ 8
 counter-room k h top = omega (arith, h, top)
+
+-- nothing is left: each record has the head's epoch
+all-moved : (d : Drive) (v : List ℕ) → Finishes d v → (n : ℕ) → n < d .n → recordOf (shapeOf d) v n .epoch ≡ d .epoch
+all-moved d v b n h = eqb-true (recordOf (shapeOf d) v n .epoch) (d .epoch) (many-all (d .n) (isMoved (shapeOf d) (d .epoch) v) (b .allMoved) n h)
 
 module _ (w : World) (x : Sound w) where
   -- nothing listed, no keycount risen
@@ -131,7 +138,7 @@ module _ (w : World) (x : Sound w) where
         headed-untouched d (w .vol) (x .untouched) (x .handed .salt-long) state epoch counter present old fits (calm .stillFormed) (calm .sameSecrets)
 
   -- an accepted begin
-  pub begun-keeps : (secret : List ℕ) → Begins (w .drive)
+  pub begun-keeps : (secret : List ℕ) → Begins (w .drive) (w .vol)
       → Keeps w (left w (begunDrive (w .drive) secret) (settled (begunDrive (w .drive) secret) (w .vol)) [] secret (w .secret) (w .contents))
   unfolding left begunDrive after-head
   begun-keeps secret b =
@@ -145,8 +152,8 @@ module _ (w : World) (x : Sound w) where
         sound = record {
           untouched = head-untouched (Changing (d .epoch)) (d .epoch + 1) (d .counter + 1) secret (d .present) up (begin-fits d (w .vol) (x .untouched) (b .steady)) calm;
           handed = record {
-            epoch-lt = omega (arith, x .handed .epoch-lt, b .epoch-low);
-            counter-lt = counter-room (d .counter) (x .handed .counter-lt) (b .counter-low);
+            epoch-lt = omega (arith, x .handed .epoch-lt, b .epochRoom);
+            counter-lt = counter-room (d .counter) (x .handed .counter-lt) (b .counterRoom);
             salt-long = x .handed .salt-long;
             kept = sym (x .present);
           };
@@ -166,14 +173,14 @@ module _ (w : World) (x : Sound w) where
       let l = ledgerOf w in
       let up : d .counter ≤ d .counter + 1 = omega arith in
       let m = after-head Steady (d .epoch) (d .counter + 1) (d .present) (zeros 32) up in
-      let turn : Finished (kitOf d) l m = record { noneLeft = b .moved; epochKept = refl; presentKept = refl } in
+      let turn : Finished (kitOf d) l m = record { noneLeft = all-moved d (w .vol) b; epochKept = refl; presentKept = refl } in
       let calm = finish-calm (kitOf d) l m (x .inv) (head-kept Steady (d .epoch) (d .counter + 1) (d .present) (zeros 32) up) turn in
       record {
         sound = record {
           untouched = head-untouched Steady (d .epoch) (d .counter + 1) (d .present) (zeros 32) up (finish-fits d (w .vol) (x .untouched) (b .changing)) calm;
           handed = record {
             epoch-lt = x .handed .epoch-lt;
-            counter-lt = counter-room (d .counter) (x .handed .counter-lt) (b .counter-low);
+            counter-lt = counter-room (d .counter) (x .handed .counter-lt) (b .counterRoom);
             salt-long = x .handed .salt-long;
             kept = refl;
           };

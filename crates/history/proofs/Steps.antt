@@ -33,6 +33,7 @@ use Rattle.changes.specs.Laid.{over}
 use Rattle.changes.specs.Change.{settled}
 use Rattle.changes.specs.Write.{writes, writeAnswer, writeDone, writeVolume, writePads}
 use Rattle.changes.specs.Rekey.{beginAnswer, beginDone, beginVolume, sweepAnswer, sweepDone, sweepVolume, sweepPads, finishAnswer, finishDone, finishVolume}
+use Rattle.changes.proofs.AnswerLaws.{begin-told, sweep-told, finish-told, write-told}
 use Rattle.changes.proofs.SettleLaws.{settled-record}
 use Rattle.ledger.specs.Invariant.{Inv}
 use Rattle.ledger.proofs.CalmLaws.{starts}
@@ -42,7 +43,6 @@ use Rattle.history.specs.Step.{oldFor, overlaid, mounted, step}
 use Rattle.history.specs.History.{Start, begun, run, history}
 use Rattle.history.specs.Demands.{plainIn}
 use Rattle.history.proofs.Quiet.{Untouched, whole-quiet}
-use Rattle.history.proofs.Taken.{begins, sweeps, finishes, writes-some}
 use Rattle.history.proofs.View.{kitOf, viewOf, ledgerOf}
 use Rattle.history.proofs.Sound.{Sound, Keeps, same-keeps, begun-keeps, finished-keeps}
 use Rattle.history.proofs.Ways.{written-keeps, swept-keeps}
@@ -162,7 +162,7 @@ module _ (w : World) (x : Sound w) where
       go (inl e) =
           let accepted = both-left (accepts (writeAnswer (w .drive) (w .vol) o (length bytes))) _ e in
           let some : 0 < length bytes = ltb-true 0 (length bytes) (both-right (accepts (writeAnswer (w .drive) (w .vol) o (length bytes))) _ e) in
-          rw e (written-keeps w x o bytes (writes-some (w .drive) (w .vol) o (length bytes) some accepted) (overlaid w o bytes) (λ a. yes _ accepted refl))
+          rw e (written-keeps w x o bytes (write-told (w .drive) (w .vol) o (length bytes) some accepted) (overlaid w o bytes) (λ a. yes _ accepted refl))
       go (inr e) =
           rw e
           (same-keeps w x (overlaid w o bytes) (λ a. none-over (accepts (writeAnswer (w .drive) (w .vol) o (length bytes))) o bytes a (w .contents a) e))
@@ -172,7 +172,7 @@ module _ (w : World) (x : Sound w) where
   begin-keeps secret = go (told (accepts (beginAnswer (w .drive) (w .vol) secret)))
     where
       go : (accepts (beginAnswer (w .drive) (w .vol) secret) ≡ true) ⊎ (accepts (beginAnswer (w .drive) (w .vol) secret) ≡ false) → Keeps w (step w (begin secret))
-      go (inl e) = rw e (begun-keeps w x secret (begins (w .drive) (w .vol) secret e))
+      go (inl e) = rw e (begun-keeps w x secret (begin-told (w .drive) (w .vol) secret e))
       go (inr e) = rw e (same-keeps w x (w .contents) (λ a. refl))
 
   sweep-keeps : (n : ℕ) → Keeps w (step w (sweep n))
@@ -180,7 +180,7 @@ module _ (w : World) (x : Sound w) where
   sweep-keeps n = go (told (accepts (sweepAnswer (w .drive) (w .vol) n)))
     where
       go : (accepts (sweepAnswer (w .drive) (w .vol) n) ≡ true) ⊎ (accepts (sweepAnswer (w .drive) (w .vol) n) ≡ false) → Keeps w (step w (sweep n))
-      go (inl e) = rw e (swept-keeps w x n (sweeps (w .drive) (w .vol) n e))
+      go (inl e) = rw e (swept-keeps w x n (sweep-told (w .drive) (w .vol) n e))
       go (inr e) = rw e (same-keeps w x (w .contents) (λ a. refl))
 
   finish-keeps : Keeps w (step w finish)
@@ -188,7 +188,7 @@ module _ (w : World) (x : Sound w) where
   finish-keeps = go (told (accepts (finishAnswer (w .drive) (w .vol))))
     where
       go : (accepts (finishAnswer (w .drive) (w .vol)) ≡ true) ⊎ (accepts (finishAnswer (w .drive) (w .vol)) ≡ false) → Keeps w (step w finish)
-      go (inl e) = rw e (finished-keeps w x (finishes (w .drive) (w .vol) e))
+      go (inl e) = rw e (finished-keeps w x (finish-told (w .drive) (w .vol) e))
       go (inr e) = rw e (same-keeps w x (w .contents) (λ a. refl))
 
 unchanged : (w : World) → Sound w → Keeps w w

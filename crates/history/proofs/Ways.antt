@@ -28,11 +28,11 @@ use Rattle.changes.specs.Laid.{over, written}
 use Rattle.changes.specs.Change.{padsFor, settled}
 use Rattle.changes.specs.Write.{writeWay, newContents, writeWork, writtenDrive}
 use Rattle.changes.specs.Rekey.{sweepWays, sweepWork, sweptDrive}
+use Rattle.changes.proofs.AnswerLaws.{Moves, Granted}
 use Rattle.ledger.proofs.TurnLaws.{sweep-fits, write-fits}
 use Rattle.history.specs.World.{World}
 use Rattle.history.specs.Step.{left}
 use Rattle.history.specs.Demands.{plainIn}
-use Rattle.history.proofs.Taken.{Sweeps, Writes}
 use Rattle.history.proofs.View.{reads-plain}
 use Rattle.history.proofs.Sound.{Sound, Keeps, plain-same}
 use Rattle.history.proofs.Changed.{Ready, worked-turns, worked-keeps}
@@ -71,7 +71,7 @@ unfolding atTop
 idle-room r = refl
 
 module _ (w : World) (x : Sound w) where
-  module _ (o : ℕ) (bytes : List ℕ) (b : Writes (w .drive) (w .vol) o (length bytes)) (after : ℕ → ℕ) (laid : (a : ℕ) → after a ≡ over o bytes a (w .contents a)) where
+  module _ (o : ℕ) (bytes : List ℕ) (b : Granted (w .drive) (w .vol) o (length bytes)) (after : ℕ → ℕ) (laid : (a : ℕ) → after a ≡ over o bytes a (w .contents a)) where
     abbrev ways : ℕ → Way
     ways = writeWay (w .drive) (w .vol) o (length bytes)
 
@@ -94,7 +94,7 @@ module _ (w : World) (x : Sound w) where
         record {
           fits = λ n h. write-fits (w .drive .p) (w .drive .epoch) (recordOf (shapeOf (w .drive)) (w .vol) n) (touchedOf (shapeOf (w .drive)) o (length bytes) n) (touched-low n);
           room = b .room;
-          low = b .counter-low;
+          low = b .counterRoom;
           news = λ n f h l.
               ap (λ (was : List ℕ). written (shapeOf (w .drive)) o bytes n f was) (reads-plain (w .drive) (w .vol) (w .listing) (w .retired) (w .contents) (x .inv) n f h l)
               ∙ written-plain (shapeOf (w .drive)) o bytes n f (w .contents)
@@ -110,19 +110,19 @@ module _ (w : World) (x : Sound w) where
         (padsFor (w .drive) (w .vol) ways) (w .secret) (w .old) after)
     written-keeps = worked-keeps w x ways (newContents (w .drive) (w .vol) o bytes) after ready
 
-  module _ (n : ℕ) (b : Sweeps (w .drive) (w .vol) n) where
+  module _ (n : ℕ) (b : Moves (w .drive) (w .vol) n) where
     sweep-ready : Ready w x (sweepWays n) (contentsOf (w .drive) (w .vol)) (w .contents)
     sweep-ready =
         record {
           fits = λ m h. sweep-fits (w .drive .p) (w .drive .epoch) (recordOf (shapeOf (w .drive)) (w .vol) m) (eqb m n);
           room = λ m h. space m (told (eqb m n));
-          low = b .counter-low;
+          low = b .counterRoom;
           news = λ m f h l. reads-plain (w .drive) (w .vol) (w .listing) (w .retired) (w .contents) (x .inv) m f h l;
           rest = λ m f h l e. refl;
         }
       where
         space : (m : ℕ) → (eqb m n ≡ true) ⊎ (eqb m n ≡ false) → atTop (sweepWays n m) (recordOf (shapeOf (w .drive)) (w .vol) m) ≡ false
-        space m (inl e) = rw (e, eqb-true m n e) (b .room)
+        space m (inl e) = rw (e, eqb-true m n e) (b .keycountRoom)
         space m (inr e) = rw e (idle-room (recordOf (shapeOf (w .drive)) (w .vol) m))
 
     pub swept-turns : (m : ℕ) → m < w .drive .n → recordOf (shapeOf (w .drive)) (settled (sweptDrive (w .drive) (w .vol) n) (sweepWork (w .drive) (w .vol) n)) m

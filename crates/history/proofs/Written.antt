@@ -19,9 +19,9 @@ use Rattle.records.specs.Record.{recordOf}
 use Rattle.changes.specs.Laid.{over}
 use Rattle.changes.specs.Change.{padsFor, advanced}
 use Rattle.changes.specs.Write.{writeWay, writes, writtenDrive, writeDone, writeVolume, writePads}
+use Rattle.changes.proofs.AnswerLaws.{write-told}
 use Rattle.history.specs.World.{World, write}
 use Rattle.history.specs.Step.{answerTo, left, step}
-use Rattle.history.proofs.Taken.{writes-some}
 use Rattle.history.proofs.Sound.{Sound}
 use Rattle.history.proofs.Table.{exactly}
 use Rattle.history.proofs.Ways.{written-turns}
@@ -53,7 +53,7 @@ module _ (w : World) (x : Sound w) (low : w .drive .counter < counterTop) where
       unfolding step left writeVolume writeDone advanced
       written-record n h =
           rw taken
-          (written-turns w x o bytes (writes-some (w .drive) (w .vol) o (length bytes) some (ap accepts write-accepted)) (λ a. over o bytes a (w .contents a)) (λ a. refl) n h)
+          (written-turns w x o bytes (write-told (w .drive) (w .vol) o (length bytes) some (ap accepts write-accepted)) (λ a. over o bytes a (w .contents a)) (λ a. refl) n h)
 
       pub written-listing : step w (write o bytes) .listing ≡ w .listing ++ padsFor (w .drive) (w .vol) (writeWay (w .drive) (w .vol) o (length bytes))
       unfolding step left writePads

@@ -1,4 +1,15 @@
 -- The demands as theorems over every history. Each is proved, under the same name in small letters, in proofs/.
+--
+-- start : Start                    one accepted format, with what it was given: shape, salt, secret, outside counter
+-- calls : List Call                any calls after it, with any arguments, accepted or refused
+-- w = history start calls          what the user holds after them
+-- w .vol, w .drive                 the volume as last left, the drive as last returned
+-- w .secret, w .old, w .outside    the secrets and the outside counter that the user brings to a mount
+-- w .listing, w .retired           beside them: every enciphering so far; how many flakes keycount rises have retired
+-- w .contents a                    beside them: the byte last written at offset a, 0 where none was
+-- answerTo w c, step w c           what call c answers, and what the user holds after it
+-- n, f; o, a; v                    a nugget and a flake of it; offsets into the contents; a volume's bytes
+-- A → B, A × B, A ⊎ B, A → ⊥       if A then B; both; one of the two; never A
 use Prim.Native.Nat.{ℕ, _+_, _<_, _≤_}
 use mathlib.Core.Path.{_≡_}
 use mathlib.Core.Bool.{true, false}

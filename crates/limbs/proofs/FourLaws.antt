@@ -1,6 +1,6 @@
 -- Four turns at once: each lane takes every fourth block and the fourth power of r.
 use mathlib.Core.Path.{_≡_, ap, sym, _∙_}
-use Prim.Native.Nat.{ℕ, _+_, _*_, _/_, _%_, _<_}
+use Prim.Native.Nat.{ℕ, _+_, _*_, _/_, _%_}
 use native.Mathlib.Nat.{mod-add-div}
 use native.Mathlib.Omega.{arith}
 use Rattle.limbs.specs.Lanes.{sum}

@@ -6,9 +6,8 @@ use native.Mathlib.Nat.{mul-comm, add-zero}
 use native.Mathlib.Numerals.{add-one}
 use native.Mathlib.Omega.{arith}
 use lib.Dec.{lit<, lit≤}
-use lib.ListN.{replicate, take, drop}
+use lib.ListN.{replicate, drop}
 use lib.Seq.{drop-drop}
-use Rattle.base.specs.Lists.{part}
 use Rattle.words.specs.Le.{num}
 use Rattle.limbs.specs.declared.Limbs.{Limbs}
 use Rattle.limbs.specs.Limbs.{at, value, p}

@@ -5,7 +5,7 @@ use lib.ListN.{take, drop}
 use Rattle.words.specs.Le.{num}
 use Rattle.limbs.specs.Limbs.{p}
 
--- "n = le_bytes_to_num(block | [0x01]); a += n; a = (r * a) % p"
+-- a block's number with a 1 behind its bytes is added to a, and the sum times r is taken modulo p
 unfoldable pub turn : ℕ → ℕ → List ℕ → ℕ
 turn r a b = r * (a + num (b ++ (1 ∷ []))) % p
 

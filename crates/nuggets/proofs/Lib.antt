@@ -1,4 +1,5 @@
 pub mod PieceLaws
 pub mod TestLaws
 pub mod TouchLaws
+pub mod SpanLaws
 pub mod Outcomes

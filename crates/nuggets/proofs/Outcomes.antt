@@ -31,5 +31,8 @@ piece κs a x y u v p q = (refl, refl ∥ refl ∥ refl ∥ refl ∥ refl ∥ ag
 pub touched : OneOutcome fn.touched.ended fn.touched.Reads.Post
 touched κs a x y u v p q = (agree p q, refl)
 
+pub span-of : OneOutcome fn.span_of.ended fn.span_of.Reads.Post
+span-of κs a x y u v p q = (agree (p .0) (q .0), refl)
+
 pub fits : OneOutcome fn.fits.ended fn.fits.Reads.Post
 fits κs a x y u v p q = (agree p q, refl)

@@ -10,12 +10,13 @@ use Rattle.base.specs.Pick.{both}
 use Rattle.base.proofs.PickLaws.{both-left, both-right, both-on, alike, yes, no, told}
 use Rattle.layout.specs.declared.Shape.{Shape}
 use Rattle.layout.specs.Spots.{offsetAt, capacity}
-use Rattle.layout.proofs.Limits.{Limits}
+use Rattle.layout.specs.Shape.{inLimits, within}
+use Rattle.layout.proofs.Limits.{Limits, inside}
 use Rattle.records.specs.Journal.{flakesFrom}
 use Rattle.records.proofs.MaskLaws.{bit-with, bit-from}
 use Rattle.records.proofs.BitLaws.{same-bits, bit-empty}
 use Rattle.nuggets.specs.Touched.{meets, touchedOf, fitsIn}
-use mathlib.Core.Logic.{_⊎_, ⊎-elim}
+use mathlib.Core.Logic.{⊎-elim}
 use Rattle.drive.specs.declared.Drive.{Drive}
 use Rattle.drive.specs.Drive.{shapeOf}
 
@@ -71,21 +72,28 @@ module _ (s : Shape) (o len n : ℕ) (l : Limits s) (some : 0 < len) where
       off e = let w : _≡_ {A = ℕ} 0 1 = cc in omega arith
 
 -- the sum compared without being made
-pub fits-is : (s : Shape) (o len size : ℕ) → size ≡ capacity s → len ≤ size → leb o (size - len) ≡ fitsIn s o len
+pub fits-is : (s : Shape) (o len size : ℕ) → size ≡ within s (capacity s) → len ≤ size → leb o (size - len) ≡ fitsIn s o len
 unfolding fitsIn
 fits-is s o len size e h =
     ⊎-elim
-    (λ yes. yes ∙ sym (le-leb (o + len) (capacity s) (omega (arith, leb-true o (size - len) yes, e, h))))
-    (λ no. no ∙ sym (lt-leb (o + len) (capacity s) (omega (arith, leb-false o (size - len) no, e, h))))
+    (λ yes. yes ∙ sym (le-leb (o + len) (within s (capacity s)) (omega (arith, leb-true o (size - len) yes, e, h))))
+    (λ no. no ∙ sym (lt-leb (o + len) (within s (capacity s)) (omega (arith, leb-false o (size - len) no, e, h))))
     (told (leb o (size - len)))
 
-pub fits-not : (s : Shape) (o len size : ℕ) → size ≡ capacity s → size < len → false ≡ fitsIn s o len
+pub fits-not : (s : Shape) (o len size : ℕ) → size ≡ within s (capacity s) → size < len → false ≡ fitsIn s o len
 unfolding fitsIn
-fits-not s o len size e h = sym (lt-leb (o + len) (capacity s) (omega (arith, e, h)))
+fits-not s o len size e h = sym (lt-leb (o + len) (within s (capacity s)) (omega (arith, e, h)))
 
-pub fits-leb : (s : Shape) (o len : ℕ) → fitsIn s o len ≡ true → leb (o + len) (capacity s) ≡ true
+pub fits-leb : (s : Shape) (o len : ℕ) → inLimits s ≡ true → fitsIn s o len ≡ leb (o + len) (capacity s)
 unfolding fitsIn
-fits-leb s o len e = e
+fits-leb s o len limited = ap (λ (x : ℕ). leb (o + len) x) (inside s limited)
+
+within-le : (s : Shape) (x : ℕ) → within s x ≤ x
+within-le s x = ⊎-elim (λ e. rw e (omega arith)) (λ e. rw e (omega arith)) (told (inLimits s))
 
 pub fits-within : (d : Drive) (o len : ℕ) {s : Shape} → s ≡ shapeOf d → fitsIn s o len ≡ true → o + len ≤ capacity (shapeOf d)
-fits-within d o len es e = leb-true (o + len) (capacity (shapeOf d)) (fits-leb (shapeOf d) o len (ap (λ (x : Shape). fitsIn x o len) (sym es) ∙ e))
+unfolding fitsIn
+fits-within d o len es e =
+    let s = shapeOf d in
+    let low = leb-true (o + len) (within s (capacity s)) (ap (λ (x : Shape). fitsIn x o len) (sym es) ∙ e) in
+    omega (arith, low, within-le s (capacity s))

@@ -17,7 +17,7 @@ ghost use Rattle.keys.specs.Pads.{firstBlock, padOf, Size};
 ghost use Rattle.drive.specs.Drive.{shapeOf};
 ghost use Rattle.nuggets.specs.Nugget.{secretFor, nuggetOf, contentsIn};
 ghost use Rattle.nuggets.specs.Tests.{goodFlake, passes, flakesIn, pathFor, nuggetRead};
-ghost use Rattle.nuggets.specs.Touched.{touchedOf, fitsIn};
+ghost use Rattle.nuggets.specs.Touched.{touchedOf, spanOf, fitsIn};
 ghost use Rattle.layout.specs.Lent.{Lent};
 
 // What the tests and the contents of one nugget rest on.
@@ -26,6 +26,12 @@ pub struct Nugget {
     pub key: [u8; 32],
     pub keycount: u64,
     pub journal: u64,
+}
+
+// The nuggets from the first up to the end.
+pub struct Span {
+    pub first: u32,
+    pub end: u32,
 }
 
 // "One less means: under the old secret."
@@ -217,9 +223,21 @@ pub fn touched(s: Shape, o: usize, len: usize, n: u32) -> u64
     records::range(from as u32, to as u32)
 }
 
+// The nuggets that a range of at least one byte meets.
+pub fn span_of(s: Shape, o: usize, len: usize) -> Span
+    requires { ⌜ (inLimits s ≡ true) × (0 < len) × (o + len ≤ capacity s) ⌝ }
+    ensures { λ r. ⌜ (r ≡ spanOf s o len) × (r .end ≤ s .n) ⌝ }
+{
+    let first = layout::spot_of(s, o);
+    let last = layout::spot_of(s, o + (len - 1));
+    Span {
+        first: first.nugget as u32,
+        end: (last.nugget + 1) as u32,
+    }
+}
+
 // 8: "offset, length [..] past the end". The sum isn't made, so nothing rolls over.
 pub fn fits(s: Shape, offset: u64, len: usize) -> bool
-    requires { ⌜ inLimits s ≡ true ⌝ }
     ensures { λ r. ⌜ r ≡ fitsIn s offset len ⌝ }
 {
     let size = layout::capacity_of(s);

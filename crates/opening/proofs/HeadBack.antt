@@ -4,7 +4,7 @@ use mathlib.Core.Path.{_≡_, refl, sym, _∙_, ap}
 use mathlib.Core.Bool.{true, false}
 use mathlib.Core.Logic.{_⊎_, inl, inr}
 use mathlib.Core.List.{List}
-use Prim.Native.Nat.{ℕ, _+_, _≤_}
+use Prim.Native.Nat.{ℕ, _≤_}
 use native.Mathlib.Omega.{arith}
 use lib.Dec.{leb, eqb}
 use lib.ListN.{length}
@@ -17,13 +17,14 @@ use Rattle.words.specs.Le.{num, Bytes}
 use Rattle.codec.specs.Row.{Values, _&_, row, rowIn}
 use Rattle.codec.proofs.RowLaws.{row-back}
 use Rattle.answers.specs.declared.Answer.the-variants as A
+use Rattle.answers.specs.Numbers.{accepts}
 use Rattle.layout.specs.Shape.{inLimits}
 use Rattle.keys.specs.Keys.{sealOf}
 use Rattle.drive.specs.declared.Drive.{Drive}
 use Rattle.drive.specs.Head.{mark, version, stateByte, checkIn, frontRow, frontValues, frontIn, headOf}
 use Rattle.drive.specs.Opening.{inForm, headStands, openingOf}
-use Rattle.opening.specs.Mount.{shapeIn, stateByteIn, stateIn, epochIn, saltIn, counterIn, marked, headFits, lengthFits, sealed, checked, wholeIn, openedDrive, mountAnswer}
-use Rattle.answers.proofs.StageLaws.{granted}
+use Rattle.opening.specs.Mount.{shapeIn, stateByteIn, stateIn, epochIn, saltIn, counterIn, marked, headFits, lengthFits, sealed, checked, wholeIn, openedDrive, formOf, keysOf, restOf, mountAnswer}
+use Rattle.answers.proofs.StageLaws.{both-stages, passed, accepted-is}
 
 -- what the tests of an accepted mount tell
 pub record Opened (v : List ℕ) (d : Drive) (outside : ℕ) : Type 0 where
@@ -37,16 +38,18 @@ pub record Opened (v : List ℕ) (d : Drive) (outside : ℕ) : Type 0 where
   pub whole : wholeIn d v ≡ A.Accepted
 
 pub opened : (v present old : List ℕ) (outside : ℕ) → mountAnswer v present old outside ≡ A.Accepted → Opened v (openedDrive v present old) outside
-unfolding mountAnswer
+unfolding mountAnswer formOf restOf keysOf
 opened v present old outside e =
     let d = openedDrive v present old in
-    let t₁ = granted (leb 104 (length v)) _ A.Length refl e in
-    let t₂ = granted (marked v) _ A.Mark refl (t₁ .1) in
-    let t₃ = granted (headFits v) _ A.Limits refl (t₂ .1) in
-    let t₄ = granted (lengthFits v) _ A.Length refl (t₃ .1) in
-    let t₅ = granted (sealed d v) _ A.Seal refl (t₄ .1) in
-    let t₆ = granted (checked d v) _ A.OldSecret refl (t₅ .1) in
-    let t₇ = granted (eqb (d .counter) outside) _ A.Counter refl (t₆ .1) in
+    let (form, rest) = both-stages (formOf v) _ (ap accepts e) in
+    let t₁ = passed (leb 104 (length v)) _ A.Length refl form in
+    let t₂ = passed (marked v) _ A.Mark refl (t₁ .1) in
+    let t₃ = passed (headFits v) _ A.Limits refl (t₂ .1) in
+    let t₄ = passed (lengthFits v) _ A.Length refl (t₃ .1) in
+    let (keys, whole) = both-stages (keysOf d v outside) _ rest in
+    let t₅ = passed (sealed d v) _ A.Seal refl keys in
+    let t₆ = passed (checked d v) _ A.OldSecret refl (t₅ .1) in
+    let t₇ = passed (eqb (d .counter) outside) _ A.Counter refl (t₆ .1) in
     record {
       head-long = leb-true 104 (length v) (t₁ .0);
       has-mark = t₂ .0;
@@ -55,7 +58,7 @@ opened v present old outside e =
       seal = t₅ .0;
       check = t₆ .0;
       counter = eqb-true (d .counter) outside (t₇ .0);
-      whole = t₇ .1;
+      whole = accepted-is (wholeIn d v) whole;
     }
 
 -- the state's byte is the stored one

@@ -1,12 +1,11 @@
--- The mount's answer by stages, and its promise from the answer.
-use mathlib.Core.Path.{_≡_, refl, sym, _∙_}
+-- What a head in form says, and the mount's promise from its answer.
+use mathlib.Core.Path.{_≡_, refl}
 use mathlib.Core.Bool.{true, false}
 use mathlib.Core.List.{List}
 use Prim.Native.Nat.{ℕ}
-use lib.Dec.{leb, eqb}
+use lib.Dec.{leb}
 use lib.ListN.{length}
 use borrow.Author.Tests.{eqb-true}
-use Rattle.base.specs.Pick.{pick}
 use Rattle.base.proofs.PickLaws.{both-left}
 use Rattle.answers.specs.declared.Answer.{Answer}
 use Rattle.answers.specs.declared.Answer.the-variants as A
@@ -16,37 +15,9 @@ use Rattle.layout.specs.Parts.{lengthOf}
 use Rattle.drive.specs.declared.Drive.{Drive}
 use Rattle.drive.specs.declared.Done.{Done}
 use Rattle.drive.specs.Drive.{blankDrive}
-use Rattle.opening.specs.Mount.{shapeIn, marked, headFits, lengthFits, sealed, checked, wholeIn, openedDrive, mountAnswer, mountDone}
-use Rattle.opening.specs.Stages.{formOf, keysOf, restOf}
-use Rattle.answers.specs.Stages.{andThen}
-use Rattle.answers.proofs.StageLaws.{goes-on, past, passed}
+use Rattle.opening.specs.Mount.{shapeIn, marked, headFits, lengthFits, openedDrive, mountAnswer, mountDone, formOf}
+use Rattle.answers.proofs.StageLaws.{passed}
 use Rattle.layout.specs.Lent.{Lent}
-
--- 4, 5, 6, and what follows
-rest-picks : (d : Drive) (v : List ℕ) (outside : ℕ) → restOf d v outside
-    ≡ pick (sealed d v) (pick (checked d v) (pick (eqb (d .counter) outside) (wholeIn d v) A.Counter) A.OldSecret) A.Seal
-unfolding restOf keysOf
-rest-picks d v outside =
-    let whole = wholeIn d v in
-    let third = pick (eqb (d .counter) outside) A.Accepted A.Counter in
-    let second = pick (checked d v) third A.OldSecret in
-    past (sealed d v) second A.Seal whole refl
-    (past (checked d v) third A.OldSecret whole refl (past (eqb (d .counter) outside) A.Accepted A.Counter whole refl (goes-on A.Accepted whole refl)))
-
--- the stages one after another make document 01's order
-pub in-stages : (v present old : List ℕ) (outside : ℕ)
-    → mountAnswer v present old outside ≡ andThen (formOf v) (restOf (openedDrive v present old) v outside)
-unfolding mountAnswer formOf
-in-stages v present old outside =
-    let d = openedDrive v present old in
-    let next = restOf d v outside in
-    let fourth = pick (lengthFits v) A.Accepted A.Length in
-    let third = pick (headFits v) fourth A.Limits in
-    let second = pick (marked v) third A.Mark in
-    sym (past (leb 104 (length v)) second A.Length next refl
-    (past (marked v) third A.Mark next refl
-    (past (headFits v) fourth A.Limits next refl
-    (past (lengthFits v) A.Accepted A.Length next refl (goes-on A.Accepted next refl ∙ rest-picks d v outside)))))
 
 -- a head in form is that of a volume as long as its shape asks
 pub form-lent : (v : List ℕ) → accepts (formOf v) ≡ true → Lent (shapeIn v) v

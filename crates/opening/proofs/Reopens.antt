@@ -13,9 +13,11 @@ use Rattle.base.specs.Lists.{part, same}
 use Rattle.base.proofs.PickLaws.{yes, both-left, both-right, both-on}
 use Rattle.base.proofs.FoldLaws.{same-true, same-refl}
 use Rattle.words.specs.Le.{num}
-use Rattle.codec.specs.Row.{Values, _&_, AllLong, AllFit, rowIn}
+use Rattle.codec.specs.Row.{_&_, AllLong, AllFit, rowIn}
 use Rattle.codec.proofs.RowLaws.{length-row, peel, apart, read-back}
 use Rattle.answers.specs.declared.Answer.the-variants as A
+use Rattle.answers.specs.Numbers.{accepts}
+use Rattle.answers.proofs.StageLaws.{goes-on}
 use Rattle.layout.specs.declared.Shape.{Shape}
 use Rattle.layout.specs.Shape.{shape, inLimits}
 use Rattle.layout.specs.Parts.{lengthOf, nodeAt}
@@ -29,7 +31,7 @@ use Rattle.drive.specs.declared.State.the-variants.{Steady, Changing}
 use Rattle.drive.specs.Drive.{shapeOf, keptOld}
 use Rattle.drive.specs.Head.{mark, version, stateByte, checkFor, checkIn, frontRow, frontValues, frontIn, headOf}
 use Rattle.drive.specs.Opening.{epochFits, inForm, headStands, openingOf}
-use Rattle.opening.specs.Mount.{shapeIn, stateByteIn, stateIn, epochIn, marked, headFits, lengthFits, sealed, checked, wholeIn, openedDrive, mountAnswer, mountDone}
+use Rattle.opening.specs.Mount.{shapeIn, stateByteIn, stateIn, epochIn, marked, headFits, lengthFits, sealed, checked, wholeIn, openedDrive, formOf, keysOf, restOf, mountAnswer, mountDone}
 use Rattle.opening.proofs.MountLaws.{mount-on}
 use Rattle.drive.proofs.OpeningLaws.{Opened, opening-told}
 
@@ -182,17 +184,15 @@ module _ (d : Drive) (w old : List ℕ) (x : Handed d old) (opens : openingOf d 
 
   -- with the drive's secrets and counter the mount's answer is that of the whole
   pub reopens : mountAnswer w (d .present) old (d .counter) ≡ wholeIn d w
-  unfolding mountAnswer
+  unfolding mountAnswer formOf restOf keysOf
   reopens =
       let long = le-leb 104 (length w) (omega (arith, tests .long, parts-inside (shapeOf d))) in
-      yes _ long
-      (yes _ marked-back
-      (yes _ fits-back
-      (yes _ length-back
-      (yes _ (ap (λ (y : Drive). sealed y w) drive-back ∙ sealed-back)
+      let form : formOf w ≡ A.Accepted = yes _ long (yes _ marked-back (yes _ fits-back (yes _ length-back refl))) in
+      let keys : keysOf (openedDrive w (d .present) old) w (d .counter) ≡ A.Accepted =
+      yes _ (ap (λ (y : Drive). sealed y w) drive-back ∙ sealed-back)
       (yes _ (ap (λ (y : Drive). checked y w) drive-back ∙ checked-back)
-      (yes _ (eq-eqb (openedDrive w (d .present) old .counter) (d .counter) (ap (λ (y : Drive). y .counter) drive-back))
-      (ap (λ (y : Drive). wholeIn y w) drive-back)))))))
+      (yes _ (eq-eqb (openedDrive w (d .present) old .counter) (d .counter) (ap (λ (y : Drive). y .counter) drive-back)) refl)) in
+      goes-on _ _ (ap accepts form) ∙ goes-on _ _ (ap accepts keys) ∙ ap (λ (y : Drive). wholeIn y w) drive-back
 
   pub mounts-back : wholeIn d w ≡ A.Accepted → mountDone w (d .present) old (d .counter) ≡ record { answer = A.Accepted; drive = d }
   mounts-back whole = sym (mount-on w (d .present) old (d .counter) (reopens ∙ whole) refl (sym drive-back))

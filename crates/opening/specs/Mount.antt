@@ -11,6 +11,7 @@ use Rattle.words.specs.Le.{num}
 use Rattle.answers.specs.declared.Answer.{Answer}
 use Rattle.answers.specs.declared.Answer.the-variants as A
 use Rattle.answers.specs.Numbers.{accepts}
+use Rattle.answers.specs.Stages.{andThen}
 use Rattle.layout.specs.declared.Shape.{Shape}
 use Rattle.layout.specs.Shape.{shape, inLimits}
 use Rattle.layout.specs.Parts.{lengthOf}
@@ -98,24 +99,24 @@ checked d v = same (checkBytes v) (checkIn d)
 abbrev pub wholeIn : Drive → List ℕ → Answer
 wholeIn d v = wholeOf (shapeOf d) (d .epoch) (isChanging (d .state)) v
 
-unfoldable pub mountAnswer : List ℕ → List ℕ → List ℕ → ℕ → Answer
-mountAnswer v present old outside =
-    let d = openedDrive v present old in
+-- the form of the head: "2 (under 104 bytes), 3, 1, 2"
+unfoldable pub formOf : List ℕ → Answer
+formOf v =
     pick (leb 104 (length v))
-    (pick (marked v)
-    (pick (headFits v)
-    (pick (lengthFits v)
-    (pick (sealed d v)
-    (pick (checked d v)
-    (pick (eqb (d .counter) outside)
-    (wholeIn d v)
-    A.Counter)
-    A.OldSecret)
-    A.Seal)
-    A.Length)
-    A.Limits)
-    A.Mark)
+    (pick (marked v) (pick (headFits v) (pick (lengthFits v) A.Accepted A.Length) A.Limits) A.Mark)
     A.Length
+
+-- the keys: "4, 5, 6"
+unfoldable pub keysOf : Drive → List ℕ → ℕ → Answer
+keysOf d v outside = pick (sealed d v) (pick (checked d v) (pick (eqb (d .counter) outside) A.Accepted A.Counter) A.OldSecret) A.Seal
+
+-- "4, 5, 6, 7 whole"
+unfoldable pub restOf : Drive → List ℕ → ℕ → Answer
+restOf d v outside = andThen (keysOf d v outside) (wholeIn d v)
+
+-- "Mount: 2 (under 104 bytes), 3, 1, 2, 4, 5, 6, 7 whole."
+unfoldable pub mountAnswer : List ℕ → List ℕ → List ℕ → ℕ → Answer
+mountAnswer v present old outside = andThen (formOf v) (restOf (openedDrive v present old) v outside)
 
 -- "A refused format or mount returns the blank drive"
 abbrev pub mountDoneAt : Answer → List ℕ → List ℕ → List ℕ → Done

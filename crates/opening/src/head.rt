@@ -5,8 +5,7 @@ use layout::Shape;
 ghost use mathlib.Core.Path.{_≡_};
 ghost use Prim.Native.Nat.{_-_, _≤_};
 ghost use lib.ListN.{length};
-ghost use Rattle.opening.specs.Mount.{marked, headFits, shapeIn, stateIn, epochIn};
-ghost use Rattle.opening.specs.Stages.{formOf};
+ghost use Rattle.opening.specs.Mount.{marked, headFits, shapeIn, stateIn, epochIn, formOf};
 
 // Test 3: "mark or version differs"
 fn has_mark(vol: &[u8]) -> bool

@@ -14,8 +14,7 @@ ghost use lib.ListN.{length};
 ghost use Rattle.layout.specs.Shape.{shape};
 ghost use Rattle.drive.specs.Drive.{shapeOf, counterTop};
 ghost use Rattle.opening.specs.Format.{formatAnswer, bare, planted, freshDrive, formatDone, formatVolume};
-ghost use Rattle.opening.specs.Mount.{sealed, checked, shapeIn, openedDrive, mountDone};
-ghost use Rattle.opening.specs.Stages.{keysOf, restOf};
+ghost use Rattle.opening.specs.Mount.{sealed, checked, shapeIn, openedDrive, mountDone, keysOf, restOf};
 ghost use Rattle.layout.specs.Lent.{Lent};
 
 // "Format: 1, 2, 13."

@@ -3,20 +3,18 @@ use Prim.{tt}
 use mathlib.Core.Path.{_≡_, refl, sym, _∙_, ap}
 use mathlib.Core.Bool.{false}
 use mathlib.Core.List.{List, [], _∷_, append-assoc}
-use Prim.Native.Nat.{ℕ, zero, suc, _^_, _<_, _≤_}
+use Prim.Native.Nat.{ℕ, zero, suc, _<_, _≤_}
 use native.Mathlib.Omega.{arith}
 use lib.Dec.{ltb}
-use lib.ListN.{length}
 use borrow.Author.Tests.{le-ltb, ne-eqb}
 use Rattle.base.specs.Lists.{part}
 use Rattle.base.proofs.PickLaws.{no}
 use Rattle.words.specs.Le.{num, Bytes}
 use Rattle.codec.specs.Row.{Values, _&_, AllFit, starts, row, rowIn}
-use Rattle.codec.proofs.RowLaws.{length-row, all-long, row-only, row-back}
+use Rattle.codec.proofs.RowLaws.{row-only, row-back}
 use Rattle.drive.specs.declared.Drive.{Drive}
 use Rattle.drive.specs.declared.State.{State}
 use Rattle.drive.specs.declared.State.the-variants.{Steady, Changing}
-use Rattle.drive.specs.Drive.{zeros}
 use Rattle.drive.specs.Head.{stateByte}
 use Rattle.packed.specs.Image.{leftOf, numbersImage, frontImage, wholeImage, driveRow, driveValues, driveImage, imageState, driveOf, driveIn, DriveFits, Made}
 
@@ -43,10 +41,6 @@ drive-of d = no _ (known (d .state)) (rw (state-back (d .state)) refl)
 fit : (d : Drive) → DriveFits d → AllFit driveRow (driveValues d)
 fit d w =
     w .nWidth & w .pWidth & w .fWidth & low (d .state) & refl & w .epochWidth & w .leftWidth & refl & w .saltLong & w .counterWidth & w .nodeLong & w .presentLong & w .oldLong & tt
-
-pub length-image : (d : Drive) → DriveFits d → length (driveImage d) ≡ 144
-unfolding driveImage
-length-image d w = length-row driveRow (driveValues d) (all-long driveRow (driveValues d) (fit d w))
 
 -- a drive that was packed is unpacked: every field, the state and both secrets as they were
 pub drive-back : (d : Drive) → DriveFits d → driveIn (driveImage d) ≡ d

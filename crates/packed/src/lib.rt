@@ -87,8 +87,8 @@ fn state_in(image: &[u8]) -> State
     }
 }
 
-// The drive of an image; one whose byte 12 is neither 0 nor 1 counts as the blank drive, which every call answers 1.
-pub fn unpack(image: &[u8]) -> Drive
+// One whose byte 12 is neither 0 nor 1 counts as the blank drive, which every call answers 1.
+fn drive_in(image: &[u8]) -> Drive
     requires { ⌜ 144 ≤ length (now image) ⌝ }
     ensures { λ r. ⌜ r ≡ driveIn (now (image .entry)) ⌝ }
 {
@@ -107,4 +107,11 @@ pub fn unpack(image: &[u8]) -> Drive
         present: words::thirty_two(image, 80),
         old: words::thirty_two(image, 112),
     }
+}
+
+// The drive of an image.
+pub fn unpack(image: &[u8; 144]) -> Drive
+    ensures { λ r. ⌜ r ≡ driveIn (now (image .entry)) ⌝ }
+{
+    drive_in(image)
 }

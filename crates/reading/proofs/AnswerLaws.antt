@@ -1,17 +1,17 @@
 -- The answer of a read: one turn over its nuggets, and what an accepted one says of the volume.
 use mathlib.Core.Path.{_≡_, refl, sym, ap, _∙_}
 use mathlib.Core.Bool.{true, false}
-use mathlib.Core.Logic.{_⊎_, ⊎-elim}
+use mathlib.Core.Logic.{⊎-elim}
 use mathlib.Core.List.{List}
-use Prim.Native.Nat.{ℕ, zero, suc, _+_, _-_, _<_, _≤_}
+use Prim.Native.Nat.{ℕ, suc, _+_, _-_, _<_, _≤_}
 use native.Mathlib.Numerals.{add-one}
 use native.Mathlib.Omega.{arith}
 use lib.ListN.{length}
+use borrow.Author.Tests.{eq-eqb, ne-eqb}
 use Rattle.base.specs.Lists.{tab}
 use Rattle.base.proofs.PickLaws.{yes, no, told, clash}
 use Rattle.layout.specs.declared.Shape.{Shape}
-use Rattle.layout.specs.declared.Spot.{Spot}
-use Rattle.layout.specs.Spots.{spotAt, capacity}
+use Rattle.layout.specs.Spots.{capacity}
 use Rattle.answers.specs.declared.Answer.{Answer}
 use Rattle.answers.specs.declared.Answer.the-variants as A
 use Rattle.answers.specs.Numbers.{accepts}
@@ -20,8 +20,9 @@ use Rattle.drive.specs.Drive.{shapeOf}
 use Rattle.drive.specs.Opening.{openingOf}
 use Rattle.nuggets.specs.Nugget.{byteOf}
 use Rattle.nuggets.specs.Tests.{nuggetRead}
-use Rattle.nuggets.specs.Touched.{touchedOf, fitsIn}
-use Rattle.reading.specs.Read.{nuggetsUp, nuggetsIn, nuggetsOf, readAnswer, readBuffer, bufferAt}
+use Rattle.nuggets.specs.declared.Span.{Span}
+use Rattle.nuggets.specs.Touched.{touchedOf, spanOf, fitsIn}
+use Rattle.reading.specs.Read.{nuggetsUp, nuggetsOf, readAnswer, readBuffer, bufferAt}
 use Rattle.layout.specs.Lent.{Lent}
 use Rattle.drive.proofs.OpeningLaws.{opening-lent}
 use Rattle.nuggets.proofs.TouchLaws.{fits-within}
@@ -44,23 +45,15 @@ module _ (d : Drive) (v : List ℕ) (o len : ℕ) where
   unfolding nuggetsUp
   span-end end n h = let k : end - n ≡ 0 = omega arith in rw k
 
-  count-is : 0 < len → spotAt (shapeOf d) (o + (len - 1)) .nugget + 1 - spotAt (shapeOf d) o .nugget ≡ nuggetsIn (shapeOf d) o len
-  unfolding nuggetsIn
-  count-is h = go len h
-    where
-      go : (l : ℕ) → 0 < l → spotAt (shapeOf d) (o + (l - 1)) .nugget + 1 - spotAt (shapeOf d) o .nugget ≡ nuggetsIn (shapeOf d) o l
-      go zero h = absurd (omega arith)
-      go (suc l) h = let k : suc l - 1 ≡ l = omega arith in rw k
-
   -- from the nugget of the first byte to that of the last
-  pub nuggets-some : {first last : Spot} {r : Answer} → 0 < len → first ≡ spotAt (shapeOf d) o → last ≡ spotAt (shapeOf d) (o + (len - 1))
-      → r ≡ nuggetsUp d v o len (last .nugget + 1 - first .nugget) (first .nugget) → r ≡ nuggetsOf d v o len
+  pub nuggets-some : {span : Span} {r : Answer} → (len ≡ 0 → ⊥) → span ≡ spanOf (shapeOf d) o len → r ≡ nuggetsUp d v o len (span .end - span .first) (span .first)
+      → r ≡ nuggetsOf d v o len
   unfolding nuggetsOf
-  nuggets-some h ef el e = e ∙ rw (ef, el) (ap (λ (k : ℕ). nuggetsUp d v o len k (spotAt (shapeOf d) o .nugget)) (count-is h))
+  nuggets-some h es e = e ∙ ap (λ (x : Span). nuggetsUp d v o len (x .end - x .first) (x .first)) es ∙ sym (no _ (ne-eqb len 0 h) refl)
 
   pub nuggets-none : len ≡ 0 → A.Accepted ≡ nuggetsOf d v o len
-  unfolding nuggetsOf nuggetsIn nuggetsUp
-  nuggets-none e = rw e
+  unfolding nuggetsOf
+  nuggets-none e = sym (yes _ (eq-eqb len 0 e) refl)
 
   pub answer-tests : {s : Shape} {r : Answer} → accepts (openingOf d v) ≡ true → s ≡ shapeOf d → fitsIn s o len ≡ true → r ≡ nuggetsOf d v o len → r ≡ readAnswer d v o len
   unfolding readAnswer

@@ -1,18 +1,16 @@
 -- What an accepted read tested of each nugget that it meets.
-use mathlib.Core.Path.{_≡_, refl, ap}
+use mathlib.Core.Path.{_≡_, refl, sym, ap, _∙_}
 use mathlib.Core.Bool.{true, false}
 use mathlib.Core.Logic.{_⊎_, inl, inr}
 use mathlib.Core.List.{List}
-use Prim.Native.Nat.{ℕ, zero, suc, _+_, _-_, _/_, _<_, _≤_}
-use native.Mathlib.Nat.{le-div-iff-mul-le, div-mul-le-self}
+use Prim.Native.Nat.{ℕ, zero, suc, _+_, _-_, _<_, _≤_}
 use native.Mathlib.Omega.{arith}
 use lib.Bits.{bitAnd}
 use lib.Dec.{eqb}
-use borrow.Author.Tests.{eqb-true, eqb-false}
-use Rattle.base.proofs.PickLaws.{told}
-use Rattle.layout.specs.declared.Shape.{Shape}
+use borrow.Author.Tests.{ne-eqb, eqb-true, eqb-false}
+use Rattle.base.proofs.PickLaws.{no, told}
 use Rattle.layout.specs.Spots.{spotAt, capacity}
-use Rattle.layout.proofs.Limits.{Limits, limits}
+use Rattle.layout.proofs.Limits.{limits}
 use Rattle.answers.specs.declared.Answer.the-variants as A
 use Rattle.answers.specs.Numbers.{accepts}
 use Rattle.answers.specs.Stages.{andThen}
@@ -23,9 +21,10 @@ use Rattle.drive.specs.Opening.{openingOf}
 use Rattle.drive.proofs.OpeningLaws.{opening-lent}
 use Rattle.nuggets.specs.Nugget.{nuggetOf}
 use Rattle.nuggets.specs.Tests.{flakesOf, pathFor, nuggetRead}
-use Rattle.nuggets.specs.Touched.{touchedOf, fitsIn}
+use Rattle.nuggets.specs.Touched.{touchedOf, spanOf, fitsIn}
 use Rattle.nuggets.proofs.TouchLaws.{fits-within}
-use Rattle.reading.specs.Read.{nuggetsUp, nuggetsIn, nuggetsOf, readAnswer}
+use Rattle.nuggets.proofs.SpanLaws.{span-has}
+use Rattle.reading.specs.Read.{nuggetsUp, nuggetsOf, readAnswer}
 
 -- "each: path; [..] flakes": what is asked of a nugget that a read touches
 pub record ReadTested (d : Drive) (v : List ℕ) (o len n : ℕ) : Type 0 where
@@ -33,23 +32,6 @@ pub record ReadTested (d : Drive) (v : List ℕ) (o len n : ℕ) : Type 0 where
   pub fits : o + len ≤ capacity (shapeOf d)
   pub path : pathFor d v n ≡ A.Accepted
   pub flakes : flakesOf d v n (bitAnd (nuggetOf d v n .journal) (touchedOf (shapeOf d) o len n)) ≡ A.Accepted
-
--- a quotient rises with its number
-rises : (k : ℕ) {x y : ℕ} → 0 < k → x ≤ y → x / k ≤ y / k
-rises k {x} some h = le-div-iff-mul-le some .1 (omega (arith, h, div-mul-le-self x k))
-
-nugget-rises : (s : Shape) {x y : ℕ} → Limits s → x ≤ y → spotAt s x .nugget ≤ spotAt s y .nugget
-nugget-rises s l h = rises (s .p) (omega (arith, l .flakes)) (rises (s .f) (omega (arith, l .wide)) h)
-
--- the nugget of each byte is one of those that the range meets
-meets-all : (s : Shape) (o len a : ℕ) → Limits s → o ≤ a → a < o + len
-    → (spotAt s o .nugget ≤ spotAt s a .nugget) × (spotAt s a .nugget < spotAt s o .nugget + nuggetsIn s o len)
-unfolding nuggetsIn
-meets-all s o zero a l h k = absurd (omega arith)
-meets-all s o (suc len) a l h k =
-    let low = nugget-rises s {x = o} {y = a} l h in
-    let high = nugget-rises s {x = a} {y = o + len} l (omega arith) in
-    (low, omega (arith, low, high))
 
 module _ (d : Drive) (v : List ℕ) (o len : ℕ) where
   up-each : (k m : ℕ) → accepts (nuggetsUp d v o len k m) ≡ true → (n : ℕ) → m ≤ n → n < m + k
@@ -77,8 +59,11 @@ module _ (d : Drive) (v : List ℕ) (o len : ℕ) where
       let n = spotAt s a .nugget in
       let opened = both-stages (openingOf d v) _ (ap accepts e) in
       let inside = passed (fitsIn s o len) (nuggetsOf d v o len) A.PastEnd refl (opened .1) in
-      let met = meets-all s o len a (limits s (opening-lent d v (opened .0) .limited)) h k in
-      let each = up-each (nuggetsIn s o len) (spotAt s o .nugget) (inside .1) n (met .0) (met .1) in
+      let span = spanOf s o len in
+      let met = span-has s o len a (limits s (opening-lent d v (opened .0) .limited)) h k in
+      let tests : accepts (nuggetsUp d v o len (span .end - span .first) (span .first)) ≡ true =
+      ap accepts (sym (no {b = eqb len 0} A.Accepted (ne-eqb len 0 (λ z. omega (arith, z, h, k))) refl)) ∙ inside .1 in
+      let each = up-each (span .end - span .first) (span .first) tests n (met .0) (omega (arith, met .0, met .1)) in
       let parts = both-stages (pathFor d v n) (flakesOf d v n (bitAnd (nuggetOf d v n .journal) (touchedOf s o len n))) each in
       record {
         opens = accepted-is (openingOf d v) (opened .0);

@@ -1,11 +1,11 @@
 -- Document 01, "Read fills the buffer. Absent flakes give zeros." All others start 1, 2, 7 head; "Then read: 8, nuggets."
 use Prim.Native.Nat.{ℕ, zero, suc, _+_, _-_, _/_, _%_}
 use mathlib.Core.List.{List}
+use lib.Dec.{eqb}
 use lib.ListN.{length, getD}
 use Rattle.base.specs.Pick.{pick}
 use Rattle.base.specs.Lists.{tab}
 use Rattle.layout.specs.declared.Shape.{Shape}
-use Rattle.layout.specs.Spots.{spotAt}
 use Rattle.answers.specs.declared.Answer.{Answer}
 use Rattle.answers.specs.declared.Answer.the-variants as A
 use Rattle.answers.specs.Numbers.{accepts}
@@ -15,7 +15,7 @@ use Rattle.drive.specs.Opening.{openingOf}
 use Rattle.nuggets.specs.declared.Nugget.{Nugget}
 use Rattle.nuggets.specs.Nugget.{contentsIn, byteOf}
 use Rattle.nuggets.specs.Tests.{nuggetRead}
-use Rattle.nuggets.specs.Touched.{touchedOf, fitsIn}
+use Rattle.nuggets.specs.Touched.{touchedOf, spanOf, fitsIn}
 
 -- "ascending, each: path; [..] flakes": the k nuggets from n on
 unfoldable pub nuggetsUp : Drive → List ℕ → ℕ → ℕ → ℕ → ℕ → Answer
@@ -24,13 +24,11 @@ nuggetsUp d v o len (suc k) n =
     let a = nuggetRead d v n (touchedOf (shapeOf d) o len n) in
     pick (accepts a) (nuggetsUp d v o len k (suc n)) a
 
--- how many nuggets a range meets, from that of its first byte to that of its last; a range of no bytes meets none
-unfoldable pub nuggetsIn : Shape → ℕ → ℕ → ℕ
-nuggetsIn s o zero = 0
-nuggetsIn s o (suc l) = spotAt s (o + l) .nugget + 1 - spotAt s o .nugget
-
+-- the nuggets that the range meets; a range of no bytes meets none
 unfoldable pub nuggetsOf : Drive → List ℕ → ℕ → ℕ → Answer
-nuggetsOf d v o len = nuggetsUp d v o len (nuggetsIn (shapeOf d) o len) (spotAt (shapeOf d) o .nugget)
+nuggetsOf d v o len =
+    let span = spanOf (shapeOf d) o len in
+    pick (eqb len 0) A.Accepted (nuggetsUp d v o len (span .end - span .first) (span .first))
 
 -- the answer of a read of len bytes from offset o on
 unfoldable pub readAnswer : Drive → List ℕ → ℕ → ℕ → Answer

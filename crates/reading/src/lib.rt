@@ -40,17 +40,8 @@ fn test_nuggets(d: Drive, vol: &[u8], o: usize, len: usize) -> Answer
     if len == 0 {
         return Answer::Accepted;
     }
-    let s = drive::shape_of(d);
-    let first = layout::spot_of(s, o);
-    let last = layout::spot_of(s, o + (len - 1));
-    test_span(
-        d,
-        vol,
-        o,
-        len,
-        first.nugget as u32,
-        (last.nugget + 1) as u32,
-    )
+    let span = nuggets::span_of(drive::shape_of(d), o, len);
+    test_span(d, vol, o, len, span.first, span.end)
 }
 
 // "All others start 1, 2, 7 head"; "Then read: 8, nuggets."

@@ -6,8 +6,7 @@ ghost use mathlib.Core.Path.{_≡_};
 ghost use Prim.Native.Nat.{_<_};
 ghost use Rattle.layout.specs.Lent.{Lent};
 ghost use Rattle.drive.specs.Drive.{shapeOf};
-ghost use Rattle.changes.specs.Rekey.{beginAnswer, sweepAnswer, leftIn, finishAnswer};
-ghost use Rattle.rekeying.specs.Stages.{beginTests, moveTests, nuggetTests, finishTests};
+ghost use Rattle.changes.specs.Rekey.{beginAnswer, sweepAnswer, leftIn, finishAnswer, beginTests, moveTests, nuggetTests, finishTests};
 
 // "9, 10, 15, 13"
 fn begin_tests(d: Drive, secret: [u8; 32]) -> Answer

@@ -16,7 +16,7 @@ use Rattle.reports.specs.declared.told.Counts.{Counts}
 use Rattle.reports.specs.Counts.{countsIn, shareOf}
 use Rattle.reports.specs.Report.{reportAnswer, counted, refused, reportOf}
 use Rattle.reports.proofs.CountLaws.{Counted, counts-stand, counts-below}
-use Rattle.reports.proofs.ShareLaws.{share-le, moved-full, full-moved}
+use Rattle.reports.proofs.ShareLaws.{moved-full, full-moved}
 use Rattle.reports.proofs.AnswerLaws.{report-is}
 
 module _ (d : Drive) (v : List ℕ) where
@@ -57,14 +57,6 @@ module _ (d : Drive) (v : List ℕ) where
       go : (accepts (reportAnswer d v) ≡ true) ⊎ (accepts (reportAnswer d v) ≡ false) → reportOf d v .moved + reportOf d v .left ≡ reportOf d v .n
       go (inl q) = rw (report-accepted q) (omega (arith, stand .moved-few))
       go (inr q) = rw (report-refused q)
-
-  -- no share is above 100.00
-  pub report-share : reportOf d v .share ≤ 10000
-  report-share = go (told (accepts (reportAnswer d v)))
-    where
-      go : (accepts (reportAnswer d v) ≡ true) ⊎ (accepts (reportAnswer d v) ≡ false) → reportOf d v .share ≤ 10000
-      go (inl q) = rw (report-accepted q) (share-le (d .n) counts)
-      go (inr q) = rw (report-refused q) (omega arith)
 
   -- accepted: the share is 100.00 exactly if nothing is left
   pub report-full : accepts (reportAnswer d v) ≡ true

@@ -2,7 +2,7 @@
 use mathlib.Core.Path.{_≡_, refl, sym, _∙_}
 use mathlib.Core.Bool.{true, false}
 use mathlib.Core.Logic.{_⊎_, inl, inr}
-use Prim.Native.Nat.{ℕ, _+_, _-_, _*_, _/_, _^_, _<_, _≤_, min}
+use Prim.Native.Nat.{ℕ, _-_, _*_, _/_, _<_, _≤_, min}
 use native.Mathlib.Nat.{div-lt-iff-lt-mul, mul-div-cancel-left, min-le-left, min-eq-left, min-eq-right, div-zero}
 use native.Mathlib.Omega.{arith}
 use lib.Dec.{eqb, ltb}

@@ -8,7 +8,7 @@ use Rattle.drive.specs.declared.Drive.{Drive}
 use Rattle.nuggets.specs.Nugget.{contentsOf}
 use Rattle.changes.specs.Write.{writeWay, writeAnswer, writes, newContents, writtenDrive, writeVolume}
 use Rattle.changes.specs.Rekey.{beginAnswer, begunDrive, beginVolume, sweepAnswer, sweepWays, sweptDrive, sweepVolume, finishAnswer, finishedDrive, finishVolume}
-use Rattle.history.specs.World.{World, Call, mount, read, write, begin, sweep, finish, report, stored}
+use Rattle.history.specs.World.{mount, read, write, begin, sweep, finish, report, stored}
 use Rattle.history.specs.Step.{step, left, mounted}
 use Rattle.stores.specs.Store.{applied}
 use Rattle.stores.specs.Calls.{writeStores, beginStores, sweepStores, finishStores, storesOf, StoresLaid}

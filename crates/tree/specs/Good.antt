@@ -4,11 +4,9 @@ use mathlib.Core.Bool.{Bool, false}
 use mathlib.Core.List.{List}
 use Prim.Native.Nat.{ℕ, zero, suc, _+_, _*_, _/_, _<_, _≤_}
 use lib.Dec.{eqb}
-use lib.ListN.{length, getD}
 use Rattle.base.specs.Pick.{either}
-use Rattle.layout.specs.Shape.{heightOf, leaves, widthOf}
+use Rattle.layout.specs.Shape.{heightOf, leaves}
 use Rattle.layout.specs.declared.Shape.{Shape}
-use Rattle.layout.specs.Parts.{recordAt, tagAt}
 use Rattle.nodes.specs.Nodes.{nodeIn}
 use Rattle.nodes.specs.Alike.{Alike}
 use Rattle.nodes.specs.Made.{Good}
@@ -34,8 +32,3 @@ GoodBut s D v = (i : ℕ) → 1 ≤ i → i < 2 * leaves (s .n) → ((n : ℕ) �
 pub record Beside (s : Shape) (E : ℕ → Type 0) (v w : List ℕ) : Type 0 where
   pub nodes : (i : ℕ) → 1 ≤ i → i < 2 * leaves (s .n) → nodeIn s v i ≡ nodeIn s w i
   pub others : (m : ℕ) → m < s .n → (E m → ⊥) → Alike s v w m
-
--- the volumes differ in no byte outside the record and the tags of nugget n
-pub record Agrees (s : Shape) (n : ℕ) (v w : List ℕ) : Type 0 where
-  pub long : length w ≡ length v
-  pub elsewhere : (j : ℕ) → (recordAt s n ≤ j → j < recordAt s n + widthOf s → ⊥) → (tagAt s n 0 ≤ j → j < tagAt s n 0 + 16 * s .p → ⊥) → getD v j 0 ≡ getD w j 0

@@ -1,27 +1,22 @@
 -- The answer of a write: the tests of one nugget, and one turn over the nuggets that the range meets.
 use mathlib.Core.Path.{_≡_, refl, sym, ap, _∙_}
 use mathlib.Core.Bool.{true, false}
-use mathlib.Core.Logic.{_⊎_, inl, inr}
 use mathlib.Core.List.{List}
 use Prim.Native.Nat.{ℕ, _+_, _-_, _^_, _<_, _≤_}
 use native.Mathlib.Numerals.{add-one}
 use native.Mathlib.Omega.{arith}
 use borrow.Author.Tests.{eq-eqb, ne-eqb, lt-ltb, le-ltb}
 use lib.ListN.{length}
-use Rattle.base.specs.Pick.{pick}
-use Rattle.base.proofs.PickLaws.{yes, no, told, both-on, both-off}
+use Rattle.base.proofs.PickLaws.{yes, no, both-on, both-off}
 use Rattle.layout.specs.declared.Shape.{Shape}
-use Rattle.layout.specs.declared.Spot.{Spot}
 use Rattle.layout.specs.Shape.{inLimits}
 use Rattle.layout.specs.Spots.{spotAt, capacity}
 use Rattle.layout.specs.Lent.{Lent}
-use Rattle.layout.proofs.Limits.{limits, capacity-le}
-use Rattle.layout.proofs.Places.{spot-inside}
+use Rattle.layout.proofs.Limits.{limits}
 use Rattle.answers.specs.declared.Answer.{Answer}
 use Rattle.answers.specs.declared.Answer.the-variants as A
 use Rattle.answers.specs.Numbers.{accepts}
-use Rattle.answers.specs.Stages.{andThen}
-use Rattle.answers.proofs.StageLaws.{goes-on, stops, accepted-is}
+use Rattle.answers.proofs.StageLaws.{goes-on, stops, first-answers}
 use Rattle.records.specs.declared.Record.{Record}
 use Rattle.records.specs.declared.Way.{Way}
 use Rattle.records.specs.declared.Way.the-variants.{Idle, Add, Rekey}
@@ -38,32 +33,7 @@ use Rattle.nuggets.proofs.TouchLaws.{fits-within}
 use Rattle.changes.specs.Change.{nuggetChange, testedTo, settled}
 use Rattle.changes.specs.Write.{writeWay, writeAnswer, writes, writeWork, writtenDrive, writeDoneAt, writeVolumeAt, writeDone, writeVolume}
 use Rattle.changes.proofs.SpanLaws.{still-to, idle-below, idle-above, tested-idle, tested-next, tested-stays}
-use Rattle.writing.specs.declared.Span.{Span}
-use Rattle.writing.specs.Span.{spanOf}
 use Rattle.records.specs.Record.{recordOf}
-
--- what the code's numbers have to know of the range
-pub record Inside (s : Shape) (o len : ℕ) : Type 0 where
-  pub first : spotAt s o .nugget < s .n
-  pub last : spotAt s (o + (len - 1)) .nugget < s .n
-  pub few : s .n ≤ 16384
-  pub small : capacity s ≤ 4294967296
-
-pub inside : (s : Shape) (o len : ℕ) → inLimits s ≡ true → 0 < len → o + len ≤ capacity s → Inside s o len
-inside s o len h some fits =
-    let m = limits s h in
-    let p : 0 < s .p = omega (arith, m .flakes) in
-    let f : 0 < s .f = omega (arith, m .wide) in
-    record {
-      first = spot-inside s o p f (omega (arith, some, fits)) .nugget-is;
-      last = spot-inside s (o + (len - 1)) p f (omega (arith, some, fits)) .nugget-is;
-      few = m .few;
-      small = capacity-le s m;
-    }
-
-pub span-is : (s : Shape) (o len : ℕ) {first last : Spot} → first ≡ spotAt s o → last ≡ spotAt s (o + (len - 1))
-    → _≡_ {A = Span} (record { first = first .nugget; end = last .nugget + 1 }) (spanOf s o len)
-span-is s o len e g = rw (e, g) refl
 
 -- the way of a nugget, by what the calls gave
 pub way-is : (d : Drive) (v : List ℕ) (o len n : ℕ) {r : Record} {s : Shape} {t : ℕ} {w : Way} → r ≡ recordOf (shapeOf d) v n → s ≡ shapeOf d → t ≡ touchedOf s o len n → w ≡ wayOf r t (d .epoch)
@@ -97,12 +67,8 @@ module _ (d : Drive) (v : List ℕ) (n : ℕ) where
   change-idle e = rw e
 
   pub change-add : (t : ℕ) {way : Way} {r : Answer} → way ≡ Add t → r ≡ pathFor d v n → r ≡ nuggetChange d v n way
-  unfolding nuggetChange atTop andThen
-  change-add t e h = rw e (h ∙ go (told (accepts (pathFor d v n))))
-    where
-      go : (accepts (pathFor d v n) ≡ true) ⊎ (accepts (pathFor d v n) ≡ false) → pathFor d v n ≡ pick (accepts (pathFor d v n)) A.Accepted (pathFor d v n)
-      go (inl q) = accepted-is (pathFor d v n) q ∙ sym (yes _ q refl)
-      go (inr q) = sym (no _ q refl)
+  unfolding nuggetChange atTop
+  change-add t e h = rw e (h ∙ sym (first-answers (pathFor d v n) A.Accepted refl))
 
   -- a rekey's tests don't ask what it touches
   pub change-rekey : (t : ℕ) {way : Way} {r : Answer} → way ≡ Rekey t → r ≡ nuggetChange d v n sweepWay → r ≡ nuggetChange d v n way
@@ -129,13 +95,6 @@ module _ (d : Drive) (v : List ℕ) (o len : ℕ) where
       → A.Accepted ≡ testedTo d v (writeWay d v o len) (d .n)
   span-end n h some past few e =
       sym (still-to (testedTo d v way) n (d .n) few (λ m a b. tested-idle way m (idle-above d v o len (limits (shapeOf d) h) m some (omega (arith, past, a))) d v) ∙ e)
-
--- the span of the drive's shape, by what the calls gave
-pub span-of-drive : (d : Drive) (o len : ℕ) {s : Shape} {r : Span} → s ≡ shapeOf d → r ≡ spanOf s o len → r ≡ spanOf (shapeOf d) o len
-span-of-drive d o len es e = e ∙ ap (λ (x : Shape). spanOf x o len) es
-
-pub span-few : (d : Drive) {s : Shape} {end : ℕ} → s ≡ shapeOf d → end ≤ s .n → end ≤ d .n
-span-few d es h = let e = ap (λ (x : Shape). x .n) es in omega (arith, h, e)
 
 -- the answer, by its tests
 module _ (d : Drive) (v : List ℕ) (o len : ℕ) where

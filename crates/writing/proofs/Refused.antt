@@ -4,15 +4,10 @@ use mathlib.Core.Bool.{Bool, true, false}
 use mathlib.Core.List.{List, []}
 use Prim.Native.Nat.{ℕ}
 use lib.ListN.{length}
-use Rattle.base.specs.Pick.{pick, both}
+use Rattle.base.specs.Pick.{both}
 use Rattle.base.proofs.PickLaws.{no, both-off}
-use Rattle.answers.specs.declared.Answer.the-variants as A
 use Rattle.answers.specs.Numbers.{accepts}
-use Rattle.answers.specs.Stages.{andThen}
 use Rattle.drive.specs.declared.Drive.{Drive}
-use Rattle.drive.specs.Drive.{shapeOf}
-use Rattle.drive.specs.Opening.{openingOf}
-use Rattle.nuggets.specs.Touched.{fitsIn}
 use Rattle.changes.specs.Write.{writeAnswer, writes, writeDone, writeVolume, writePads}
 
 -- drive and volume are as they came, and nothing is listed
@@ -34,8 +29,3 @@ write-empty d v o = kept d v o [] (none (accepts (writeAnswer d v o 0)))
     none : (b : Bool) → both b false ≡ false
     none true = refl
     none false = refl
-
--- "An empty write still passes tests 1, 2, 7 head and 8": no counter and no nugget is asked
-pub write-empty-tests : (d : Drive) (v : List ℕ) (o : ℕ) → writeAnswer d v o 0 ≡ andThen (openingOf d v) (pick (fitsIn (shapeOf d) o 0) A.Accepted A.PastEnd)
-unfolding writeAnswer
-write-empty-tests d v o = refl

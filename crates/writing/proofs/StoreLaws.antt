@@ -31,7 +31,7 @@ use Rattle.changes.proofs.PadsLaws.{to-stands, below-far, laid-record, laid-sto
 use Rattle.changes.proofs.MarkLaws.{marks-later}
 use Rattle.changes.proofs.SweepLaws.{laid-alike}
 use Rattle.changes.proofs.SpanLaws.{still-to, idles-way, idle-below, idle-above, pads-idle-to, marked-idle, tended-idle}
-use Rattle.writing.specs.Span.{Room}
+use Rattle.writing.specs.Room.{Room}
 use Rattle.records.specs.Record.{recordOf}
 
 -- a nugget's contents rest on its record and its stored flakes alone, and its way on its record

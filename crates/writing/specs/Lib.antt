@@ -1,1 +1,1 @@
-pub mod Span
+pub mod Room

@@ -6,10 +6,8 @@ use drive::Drive;
 use layout::Shape;
 use records::Way;
 ghost use mathlib.Core.Path.{_≡_};
-ghost use mathlib.Core.Bool.{true};
 ghost use Prim.Native.Nat.{_+_, _<_, _≤_};
 ghost use lib.ListN.{length};
-ghost use Rattle.layout.specs.Shape.{inLimits};
 ghost use Rattle.layout.specs.Spots.{capacity};
 ghost use Rattle.layout.specs.Lent.{Lent};
 ghost use Rattle.records.specs.Rule.{sweepWay};
@@ -17,26 +15,7 @@ ghost use Rattle.drive.specs.Drive.{shapeOf, counterTop};
 ghost use Rattle.changes.specs.Laid.{laid};
 ghost use Rattle.changes.specs.Change.{nuggetChange, testedTo, padsFor, markedTo, tendedTo, settled};
 ghost use Rattle.changes.specs.Write.{writeWay, writeAnswer, newContents, writeWork, writtenDrive, writeDone, writeVolume};
-ghost use Rattle.writing.specs.Span.{spanOf, Room};
-
-// The nuggets from the first up to the end.
-struct Span {
-    first: u32,
-    end: u32,
-}
-
-// The nuggets that a range of at least one byte meets.
-fn span_of(s: Shape, o: usize, len: usize) -> Span
-    requires { ⌜ (inLimits s ≡ true) × (0 < len) × (o + len ≤ capacity s) ⌝ }
-    ensures { λ r. ⌜ (r ≡ spanOf s o len) × (r .end ≤ s .n) ⌝ }
-{
-    let first = layout::spot_of(s, o);
-    let last = layout::spot_of(s, o + (len - 1));
-    Span {
-        first: first.nugget as u32,
-        end: (last.nugget + 1) as u32,
-    }
-}
+ghost use Rattle.writing.specs.Room.{Room};
 
 // What the write does to nugget n.
 fn way_at(d: Drive, vol: &[u8], o: usize, len: usize, n: u32) -> Way
@@ -82,7 +61,7 @@ fn test_span(d: Drive, vol: &[u8], o: usize, len: usize) -> Answer
     requires { ⌜ Lent (shapeOf d) (now vol) × (0 < len) × (o + len ≤ capacity (shapeOf d)) ⌝ }
     ensures { λ r. ⌜ r ≡ testedTo d (now (vol .entry)) (writeWay d (now (vol .entry)) o len) (d .n) ⌝ }
 {
-    let span = span_of(drive::shape_of(d), o, len);
+    let span = nuggets::span_of(drive::shape_of(d), o, len);
     let mut n = span.first;
     while n < span.end {
         let way = way_at(d, vol, o, len, n);
@@ -123,7 +102,7 @@ fn lay_span(d: Drive, vol: &mut [u8], o: usize, bytes: &[u8])
     ensures { λ _. ⌜ now (vol .exit) ≡ laid (shapeOf d) (d .salt) (newContents d (now (vol .entry)) o (now (bytes .entry)))
         (padsFor d (now (vol .entry)) (writeWay d (now (vol .entry)) o (length (now (bytes .entry))))) (now (vol .entry)) ⌝ }
 {
-    let span = span_of(drive::shape_of(d), o, bytes.len());
+    let span = nuggets::span_of(drive::shape_of(d), o, bytes.len());
     let mut n = span.first;
     while n < span.end {
         let way = way_at(d, vol, o, bytes.len(), n);
@@ -137,7 +116,7 @@ fn mark_span(d: Drive, vol: &mut [u8], o: usize, len: usize)
     requires { ⌜ Lent (shapeOf d) (now vol) × (0 < len) × (o + len ≤ capacity (shapeOf d)) × Room d (now vol) o len ⌝ }
     ensures { λ _. ⌜ now (vol .exit) ≡ markedTo (shapeOf d) (d .epoch) (writeWay d (now (vol .entry)) o len) (now (vol .entry)) (d .n) (now (vol .entry)) ⌝ }
 {
-    let span = span_of(drive::shape_of(d), o, len);
+    let span = nuggets::span_of(drive::shape_of(d), o, len);
     let mut n = span.first;
     while n < span.end {
         let way = way_at(d, vol, o, len, n);
@@ -152,7 +131,7 @@ fn tend_span(d: Drive, vol: &mut [u8], o: usize, len: usize)
     ensures { λ _. ⌜ now (vol .exit) ≡ tendedTo (shapeOf d) (writeWay d (now (vol .entry)) o len) (d .n) (now (vol .entry)) ⌝ }
 {
     let s = drive::shape_of(d);
-    let span = span_of(s, o, len);
+    let span = nuggets::span_of(s, o, len);
     let mut n = span.first;
     while n < span.end {
         let way = way_at(d, vol, o, len, n);

@@ -1,4 +1,4 @@
-use Rattle.opening.specs.Stages.{keysOf}
+use Rattle.opening.specs.Mount.{keysOf}
 use Rattle.base.proofs.PickLaws.{yes, no}
 use borrow.Author.Tests.{eq-eqb, ne-eqb}
 use mathlib.Core.Path.{refl, sym, _∙_}

@@ -1,4 +1,4 @@
-use Rattle.opening.specs.Stages.{restOf}
+use Rattle.opening.specs.Mount.{restOf}
 use Rattle.tree.specs.Whole.{wholeOf}
 use Rattle.answers.specs.Numbers.{accepts}
 use Rattle.answers.specs.declared.Answer.{Answer}

@@ -19,10 +19,7 @@ shape-of-requires : tie.Need-shape-of-requires
 shape-of-requires c κs = search needs
 
 fits-requires : tie.Need-fits-requires
-fits-requires c κs =
-    let a = c .before .before .before .before .before .args in
-    let opened : accepts (openingOf (a .d) (a .vol .now)) ≡ true = ap accepts (sym (c .before .before .before .opening .ensures)) ∙ sym (c .before .before .accepted .ensures) ∙ c .before .if1 .taken in
-    rw (c .shape-of .ensures) (opening-lent (a .d) (a .vol .now) opened .limited)
+fits-requires c κs = search needs
 
 test-nuggets-requires : tie.Need-test-nuggets-requires
 test-nuggets-requires c κs =

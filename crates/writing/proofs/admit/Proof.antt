@@ -1,8 +1,6 @@
 use Rattle.writing.proofs.AnswerLaws.{answer-opening, answer-past, answer-empty, answer-top, answer-tests, answer-lent}
-use Rattle.drive.proofs.OpeningLaws.{opening-lent}
-use Rattle.answers.specs.Numbers.{accepts}
 use native.Mathlib.Nat.{pos-of-ne-zero}
-use mathlib.Core.Path.{sym, _∙_, ap}
+use mathlib.Core.Path.{sym, _∙_}
 use borrow.Author.Needs.{needs}
 use Rattle.writing.proofs.admit.Statement.{statement}
 use Rattle.writing.proofs.admit.Tie as tie
@@ -17,9 +15,7 @@ shape-of-requires : tie.Need-shape-of-requires
 shape-of-requires c κs = search needs
 
 fits-requires : tie.Need-fits-requires
-fits-requires c κs =
-    let a = c .before .before .before .before .before .args in
-    rw (c .shape-of .ensures) (opening-lent (a .d) (a .vol .now) (ap accepts (sym (c .before .before .before .opening .ensures)) ∙ sym (c .before .before .accepted .ensures) ∙ c .before .if1 .taken) .limited)
+fits-requires c κs = search needs
 
 returns : tie.Need-returns
 returns c =

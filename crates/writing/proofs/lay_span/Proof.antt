@@ -1,5 +1,5 @@
-use Rattle.writing.proofs.AnswerLaws.{inside, span-of-drive, span-few}
-use Rattle.writing.specs.declared.Span.{Span}
+use Rattle.nuggets.proofs.SpanLaws.{inside, span-of-drive, span-few}
+use Rattle.nuggets.specs.declared.Span.{Span}
 use Rattle.drive.specs.Drive.{shapeOf}
 use Rattle.layout.specs.Lent.{Lent}
 use lib.ListN.{length}

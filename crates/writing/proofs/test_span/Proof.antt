@@ -1,10 +1,11 @@
-use Rattle.writing.proofs.AnswerLaws.{inside, span-start, span-turn, span-off, span-end, span-of-drive, span-few}
+use Rattle.writing.proofs.AnswerLaws.{span-start, span-turn, span-off, span-end}
+use Rattle.nuggets.proofs.SpanLaws.{inside, span-of-drive, span-few}
 use Rattle.answers.proofs.StageLaws.{accepted-is}
 use Prim.Native.Nat.{_≤_, _-_}
 use Rattle.changes.specs.Change.{testedTo}
 use Rattle.changes.specs.Write.{writeWay}
 use Rattle.answers.specs.declared.Answer.the-variants as A
-use Rattle.writing.specs.declared.Span.{Span}
+use Rattle.nuggets.specs.declared.Span.{Span}
 use Rattle.drive.specs.Drive.{shapeOf}
 use native.Mathlib.Omega.{arith}
 use mathlib.Core.Path.{_≡_, sym, _∙_, ap}

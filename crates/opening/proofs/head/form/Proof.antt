@@ -1,5 +1,4 @@
-use Rattle.opening.specs.Stages.{formOf}
-use Rattle.opening.specs.Mount.{headFits, lengthFits, shapeIn}
+use Rattle.opening.specs.Mount.{headFits, lengthFits, shapeIn, formOf}
 use Rattle.layout.proofs.Limits.{inside}
 use Rattle.layout.specs.Parts.{lengthOf}
 use Rattle.layout.specs.Shape.{inLimits, within}

@@ -1,5 +1,4 @@
-use Rattle.changes.specs.Rekey.{beginAnswer}
-use Rattle.rekeying.specs.Stages.{beginTests}
+use Rattle.changes.specs.Rekey.{beginAnswer, beginTests}
 use Rattle.answers.specs.Numbers.{accepts}
 use Rattle.answers.proofs.StageLaws.{goes-on, stops}
 use mathlib.Core.Path.{sym, _∙_, ap}

@@ -1,4 +1,4 @@
-use Rattle.rekeying.specs.Stages.{beginTests}
+use Rattle.changes.specs.Rekey.{beginTests}
 use Rattle.base.proofs.PickLaws.{yes, no}
 use borrow.Author.Tests.{eq-eqb, ne-eqb}
 use mathlib.Core.Path.{refl, sym, _∙_}

@@ -1,5 +1,4 @@
-use Rattle.changes.specs.Rekey.{finishAnswer}
-use Rattle.rekeying.specs.Stages.{finishTests}
+use Rattle.changes.specs.Rekey.{finishAnswer, finishTests}
 use Rattle.drive.proofs.OpeningLaws.{opening-lent}
 use Rattle.answers.specs.Numbers.{accepts}
 use Rattle.answers.proofs.StageLaws.{goes-on, stops}

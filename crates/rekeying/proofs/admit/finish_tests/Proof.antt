@@ -1,5 +1,4 @@
-use Rattle.rekeying.specs.Stages.{finishTests}
-use Rattle.changes.specs.Rekey.{leftIn}
+use Rattle.changes.specs.Rekey.{leftIn, finishTests}
 use Rattle.tree.specs.Whole.{wholeOf}
 use Rattle.drive.specs.Drive.{shapeOf, isChanging}
 use Rattle.answers.specs.declared.Answer.the-variants as A

@@ -1,4 +1,4 @@
-use Rattle.rekeying.specs.Stages.{moveTests}
+use Rattle.changes.specs.Rekey.{moveTests}
 use Rattle.nuggets.specs.declared.Nugget.{Nugget}
 use Rattle.nuggets.specs.Nugget.{nuggetOf}
 use Rattle.nuggets.specs.Tests.{flakesIn}

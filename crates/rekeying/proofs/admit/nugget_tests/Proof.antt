@@ -1,4 +1,4 @@
-use Rattle.rekeying.specs.Stages.{nuggetTests}
+use Rattle.changes.specs.Rekey.{nuggetTests}
 use Rattle.answers.specs.Numbers.{accepts}
 use Rattle.answers.proofs.StageLaws.{goes-on, stops}
 use mathlib.Core.Path.{sym, _∙_, ap}

@@ -1,5 +1,4 @@
-use Rattle.changes.specs.Rekey.{sweepAnswer}
-use Rattle.rekeying.specs.Stages.{nuggetTests, moveTests}
+use Rattle.changes.specs.Rekey.{sweepAnswer, nuggetTests, moveTests}
 use Rattle.drive.proofs.OpeningLaws.{opening-lent}
 use borrow.Author.Tests.{lt-ltb, le-ltb}
 use Rattle.answers.specs.Numbers.{accepts}

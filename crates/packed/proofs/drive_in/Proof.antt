@@ -3,8 +3,8 @@ use Rattle.base.proofs.PickLaws.{yes, no}
 use borrow.Author.Tests.{lt-ltb, le-ltb}
 use mathlib.Core.Path.{refl, sym, _∙_}
 use borrow.Author.Needs.{needs}
-use Rattle.packed.proofs.unpack.Statement.{statement}
-use Rattle.packed.proofs.unpack.Tie as tie
+use Rattle.packed.proofs.drive_in.Statement.{statement}
+use Rattle.packed.proofs.drive_in.Tie as tie
 
 load-requires : tie.Need-load-requires
 load-requires c κs = search needs
@@ -53,8 +53,8 @@ returns-2 : tie.Need-returns-2
 unfolding driveIn
 returns-2 c = sym (no _ (le-ltb 1 _ (rw (c .before .before .before .before .before .before .before .before .before .before .before .load .ensures .0) at (c .before .before .before .before .before .before .before .before .before .before .if1 .left))) (rw (c .thirty-two3 .ensures, c .before .thirty-two2 .ensures, c .before .before .thirty-two .ensures, c .before .before .before .load3 .ensures .0, c .before .before .before .before .load2 .ensures .0, c .before .before .before .before .before .state-in .ensures, c .before .before .before .before .before .before .sixteen .ensures, c .before .before .before .before .before .before .before .load323 .ensures, c .before .before .before .before .before .before .before .before .load322 .ensures, c .before .before .before .before .before .before .before .before .before .load32 .ensures) refl))
 
-pub unpack-spec : {M : Type 1} → statement M
-unpack-spec =
+pub drive-in-spec : {M : Type 1} → statement M
+drive-in-spec =
     tie.close
     (tie.spec
     load-requires

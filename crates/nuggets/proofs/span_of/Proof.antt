@@ -1,12 +1,12 @@
 use Prim.Native.Nat.{_+_, _-_}
-use Rattle.writing.proofs.AnswerLaws.{inside, span-is}
+use Rattle.nuggets.proofs.SpanLaws.{inside, span-is}
 use Rattle.layout.proofs.Places.{spot-is}
 use Rattle.layout.specs.declared.Spot.{Spot}
 use native.Mathlib.Omega.{arith}
 use mathlib.Core.Path.{ap, refl}
 use borrow.Author.Needs.{needs}
-use Rattle.writing.proofs.span_of.Statement.{statement}
-use Rattle.writing.proofs.span_of.Tie as tie
+use Rattle.nuggets.proofs.span_of.Statement.{statement}
+use Rattle.nuggets.proofs.span_of.Tie as tie
 
 spot-of-requires : tie.Need-spot-of-requires
 spot-of-requires c κs = search needs
