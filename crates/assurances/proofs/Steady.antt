@@ -29,7 +29,7 @@ use Rattle.tree.proofs.PathLaws.{path-belongs}
 use Rattle.drive.specs.declared.Drive.{Drive}
 use Rattle.drive.specs.declared.State.{State}
 use Rattle.drive.specs.declared.State.the-variants.{Steady, Changing}
-use Rattle.drive.specs.Drive.{shapeOf, isChanging, keptOld, counterTop}
+use Rattle.drive.specs.Drive.{shapeOf, gaugeOf, isChanging, keptOld, counterTop}
 use Rattle.drive.specs.Head.{checkFor, frontIn, headOf}
 use Rattle.drive.specs.Opening.{inForm, headStands, openingOf}
 use Rattle.drive.proofs.OpeningLaws.{opening-lent}
@@ -74,8 +74,8 @@ module _ (d : Drive) (any v : List ℕ) (steady : isChanging (d .state) ≡ fals
   nugget-same : Lent (shapeOf d) v → (n : ℕ) → n < d .n → accepts (pathFor d v n) ≡ true → nuggetOf e v n ≡ nuggetOf d v n
   unfolding keyFor secretFor
   nugget-same l n h p =
-      let b = path-belongs (shapeOf d) (d .epoch) (isChanging (d .state)) v n l h (accepted-is (pathFor d v n) p) in
-      let q = eq-eqb (recordOf (shapeOf d) v n .epoch) (d .epoch) (go (formed-epoch (d .p) (d .epoch) (isChanging (d .state)) (recordOf (shapeOf d) v n) (b .well-formed))) in
+      let b = path-belongs (shapeOf d) (gaugeOf d) v n l h (accepted-is (pathFor d v n) p) in
+      let q = eq-eqb (recordOf (shapeOf d) v n .epoch) (d .epoch) (go (formed-epoch (d .p) (gaugeOf d) (recordOf (shapeOf d) v n) (b .well-formed))) in
       rw q refl
     where
       go : (recordOf (shapeOf d) v n .epoch ≡ d .epoch) ⊎ ((isChanging (d .state) ≡ true) × (recordOf (shapeOf d) v n .epoch + 1 ≡ d .epoch)) → recordOf (shapeOf d) v n .epoch ≡ d .epoch

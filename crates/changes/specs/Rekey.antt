@@ -16,7 +16,7 @@ use Rattle.tree.specs.Whole.{wholeOf}
 use Rattle.drive.specs.declared.Drive.{Drive}
 use Rattle.drive.specs.declared.Done.{Done}
 use Rattle.drive.specs.declared.State.the-variants.{Steady, Changing}
-use Rattle.drive.specs.Drive.{shapeOf, isChanging, zeros, counterTop}
+use Rattle.drive.specs.Drive.{shapeOf, gaugeOf, isChanging, zeros, counterTop}
 use Rattle.drive.specs.Opening.{openingOf}
 use Rattle.nuggets.specs.Nugget.{contentsOf}
 use Rattle.nuggets.specs.Tests.{pathFor, flakesOf}
@@ -105,7 +105,7 @@ unfoldable pub finishAnswer : Drive → List ℕ → Answer
 finishAnswer d v =
     andThen (openingOf d v)
     (pick (isChanging (d .state))
-    (andThen (wholeOf (shapeOf d) (d .epoch) (isChanging (d .state)) v)
+    (andThen (wholeOf (shapeOf d) (gaugeOf d) v)
     (pick (ltb 0 (leftIn d v)) (A.Left (leftIn d v))
     (pick (eqb (d .counter) counterTop) A.CounterTop A.Accepted)))
     A.State)

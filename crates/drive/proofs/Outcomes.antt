@@ -13,6 +13,9 @@ shape-of κs a x y u v p q = (agree p q, refl)
 pub is-changing : OneOutcome fn.is_changing.ended fn.is_changing.Reads.Post
 is-changing κs a x y u v p q = (agree p q, refl)
 
+pub gauge-of : OneOutcome fn.gauge_of.ended fn.gauge_of.Reads.Post
+gauge-of κs a x y u v p q = (agree p q, refl)
+
 pub kept-old : OneOutcome fn.kept_old.ended fn.kept_old.Reads.Post
 kept-old κs a x y u v p q = (agree p q, refl)
 

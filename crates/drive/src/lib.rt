@@ -1,14 +1,15 @@
 // The open drive, the 104 bytes of head that it makes, and the tests that every call on it starts with.
-// It touches `keys` for check and seal, and `layout`, `answers` and `words`.
+// It touches `keys` for check and seal, `records` for the gauge, and `layout`, `answers` and `words`.
 use answers::Answer;
 use answers::Place;
 use layout::Shape;
+use records::Gauge;
 ghost use mathlib.Core.Path.{_≡_};
 ghost use mathlib.Core.Bool.{true};
 ghost use lib.ListN.{length};
 ghost use Rattle.layout.specs.Shape.{inLimits};
 ghost use Rattle.layout.specs.Parts.{lengthOf};
-ghost use Rattle.drive.specs.Drive.{shapeOf, isChanging, keptOld, blankDrive};
+ghost use Rattle.drive.specs.Drive.{shapeOf, isChanging, gaugeOf, keptOld, blankDrive};
 ghost use Rattle.drive.specs.Head.{stateByte, numbersOf, checkIn, frontIn, frontFrom, headOf};
 ghost use Rattle.drive.specs.Opening.{epochFits, inForm, headStands, openingOf};
 
@@ -74,6 +75,17 @@ pub fn is_changing(state: State) -> bool
     match state {
         State::Steady => false,
         State::Changing(_) => true,
+    }
+}
+
+// What the drive's records are held against.
+pub fn gauge_of(d: Drive) -> Gauge
+    ensures { λ r. ⌜ r ≡ gaugeOf d ⌝ }
+{
+    let state = d.state;
+    Gauge {
+        epoch: d.epoch,
+        changing: is_changing(state),
     }
 }
 

@@ -15,7 +15,7 @@ use Rattle.layout.specs.Shape.{inLimits}
 use Rattle.layout.specs.Lent.{Lent}
 use Rattle.layout.specs.Parts.{lengthOf, nodeAt}
 use Rattle.records.specs.declared.Record.{Record}
-use Rattle.records.specs.Record.{wellFormed, recordOf}
+use Rattle.records.specs.Record.{against, wellFormed, recordOf}
 use Rattle.nodes.specs.Nodes.{nodeIn}
 use Rattle.drive.specs.declared.Drive.{Drive}
 use Rattle.drive.specs.declared.State.{State}
@@ -96,7 +96,7 @@ module _ (d : Drive) (v : List ℕ) (x : Untouched d v) (salted : length (d .sal
   unfolding inForm
   form fits = both-on (form-limits d (opening-told d v (x .opens) .form)) fits
 
-  pub headed-untouched : driveFits state epoch ≡ true → ((n : ℕ) → n < d .n → wellFormed (d .p) epoch (isChanging state) (recordOf (shapeOf d) v n) ≡ true)
+  pub headed-untouched : driveFits state epoch ≡ true → ((n : ℕ) → n < d .n → wellFormed (d .p) (against epoch (isChanging state)) (recordOf (shapeOf d) v n) ≡ true)
       → ((n : ℕ) → n < d .n → secretFor e (recordOf (shapeOf d) v n .epoch) ≡ secretFor d (recordOf (shapeOf d) v n .epoch)) → Untouched e (settled e v)
   headed-untouched fits formed secrets =
       record {

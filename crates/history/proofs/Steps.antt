@@ -23,7 +23,7 @@ use Rattle.drive.specs.declared.Drive.{Drive}
 use Rattle.drive.specs.declared.Done.{Done}
 use Rattle.drive.specs.declared.State.{State}
 use Rattle.drive.specs.declared.State.the-variants.{Steady, Changing}
-use Rattle.drive.specs.Drive.{shapeOf, isChanging, keptOld}
+use Rattle.drive.specs.Drive.{shapeOf, gaugeOf, isChanging, keptOld}
 use Rattle.opening.specs.Format.{freshRecord, planted, freshDrive, freshVolume, formatDone, formatVolume}
 use Rattle.opening.specs.Mount.{mountDone}
 use Rattle.opening.proofs.FormatLaws.{format-lent}
@@ -69,8 +69,8 @@ module _ (a p f : ℕ) (salt secret : List ℕ) (outside : ℕ) (salted : length
       let whole = fresh-whole s salt secret outside salted limited in
       record {
         opens = fresh-opens s salt secret outside salted limited;
-        good = whole-good s 1 false v whole;
-        well = whole-formed s 1 false v whole;
+        good = whole-good s (gaugeOf d) v whole;
+        well = whole-formed s (gaugeOf d) v whole;
         tags = λ n f h l on. absurd (clash on (ap (λ (r : Record). bit (r .journal) f) (numbers-record n h) ∙ bit-empty f));
       }
 

@@ -16,7 +16,7 @@ use Rattle.records.specs.Rule.{sweepWay, atTop}
 use Rattle.records.proofs.CountLaws.{many-le}
 use Rattle.tree.specs.Whole.{wholeOf}
 use Rattle.drive.specs.declared.Drive.{Drive}
-use Rattle.drive.specs.Drive.{shapeOf, isChanging, counterTop}
+use Rattle.drive.specs.Drive.{shapeOf, gaugeOf, isChanging, counterTop}
 use Rattle.drive.specs.Opening.{openingOf}
 use Rattle.nuggets.specs.Tests.{pathFor}
 use Rattle.nuggets.specs.Touched.{fitsIn}
@@ -77,7 +77,7 @@ unfolding finishAnswer
 finishes d v e =
     let t₁ = both-stages (openingOf d v) _ e in
     let t₂ = passed (isChanging (d .state)) _ A.State refl (t₁ .1) in
-    let t₃ = both-stages (wholeOf (shapeOf d) (d .epoch) (isChanging (d .state)) v) _ (t₂ .1) in
+    let t₃ = both-stages (wholeOf (shapeOf d) (gaugeOf d) v) _ (t₂ .1) in
     let t₄ = spared (ltb 0 (leftIn d v)) (A.Left (leftIn d v)) _ refl (t₃ .1) in
     let t₅ = spared (eqb (d .counter) counterTop) A.CounterTop _ refl (t₄ .1) in
     let all : movedIn (shapeOf d) (d .epoch) v (d .n) ≡ d .n = omega (arith, ltb-false 0 (leftIn d v) (t₄ .0), many-le (d .n) (isMoved (shapeOf d) (d .epoch) v)) in

@@ -21,7 +21,7 @@ use Rattle.layout.specs.Shape.{shape, sized, known, inLimits, leaves, widthOf}
 use Rattle.layout.specs.Parts.{recordAt, tagAt, nodeAt, lengthOf}
 use Rattle.layout.proofs.Limits.{by-numbers}
 use Rattle.layout.proofs.Places.{record-inside, records-above, parts-inside}
-use Rattle.records.specs.Record.{recordBytes, recordIn, wellFormed, Widths}
+use Rattle.records.specs.Record.{against, recordBytes, recordIn, wellFormed, Widths}
 use Rattle.records.proofs.RecordLaws.{read-stored, record-told}
 use Rattle.nodes.specs.Nodes.{nodeIn}
 use Rattle.nodes.specs.Alike.{Alike}
@@ -101,7 +101,7 @@ module _ (s : Shape) (limited : inLimits s ≡ true) where
         ∙ made-alike s (planted s) (sets (planted s) 0 head) i (λ h. (sym (headed-node (2 * i) (omega arith)), sym (headed-node (2 * i + 1) (omega arith))))
         (λ h k. headed-alike (i - leaves (s .n)))
 
-    headed-formed : (n : ℕ) → n < s .n → formed s 1 false (sets (planted s) 0 head) n ≡ true
+    headed-formed : (n : ℕ) → n < s .n → formed s (against 1 false) (sets (planted s) 0 head) n ≡ true
     unfolding wellFormed
     headed-formed n h =
         let e = sym (record-told s (recordAt s n) (planted s) (sets (planted s) 0 head) (headed-alike n .records)) ∙ planted-fresh n h in
@@ -110,8 +110,8 @@ module _ (s : Shape) (limited : inLimits s ≡ true) where
     headed-lent : Lent s (sets (planted s) 0 head)
     headed-lent = record { limited = limited; size = length-sets (planted s) 0 head ∙ length-planted s }
 
-    pub headed-whole : wholeOf s 1 false (sets (planted s) 0 head) ≡ A.Accepted
-    headed-whole = good-whole s 1 false (sets (planted s) 0 head) headed-lent headed-good headed-formed
+    pub headed-whole : wholeOf s (against 1 false) (sets (planted s) 0 head) ≡ A.Accepted
+    headed-whole = good-whole s (against 1 false) (sets (planted s) 0 head) headed-lent headed-good headed-formed
 
 module _ (n p f : ℕ) (salt secret : List ℕ) (outside : ℕ) (salted : length salt ≡ 16) (limited : inLimits (shape n p f) ≡ true) where
   abbrev s : Shape

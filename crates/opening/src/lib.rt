@@ -178,8 +178,7 @@ fn rest(d: Drive, vol: &[u8], outside: u64) -> Answer
 {
     let a = keys_fit(d, vol, outside);
     if answers::accepted(a) {
-        let state = d.state;
-        return tree::whole(vol, drive::shape_of(d), d.epoch, drive::is_changing(state));
+        return tree::whole(vol, drive::shape_of(d), drive::gauge_of(d));
     }
     a
 }

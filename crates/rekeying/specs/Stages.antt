@@ -10,7 +10,7 @@ use Rattle.answers.specs.Stages.{andThen}
 use Rattle.records.specs.Rule.{sweepWay, atTop}
 use Rattle.tree.specs.Whole.{wholeOf}
 use Rattle.drive.specs.declared.Drive.{Drive}
-use Rattle.drive.specs.Drive.{shapeOf, isChanging, counterTop}
+use Rattle.drive.specs.Drive.{shapeOf, gaugeOf, isChanging, counterTop}
 use Rattle.nuggets.specs.Tests.{pathFor, flakesOf}
 use Rattle.changes.specs.Rekey.{epochTop, leftIn}
 use Rattle.records.specs.Record.{recordOf}
@@ -37,5 +37,5 @@ nuggetTests d v n = andThen (pathFor d v n) (moveTests d v n)
 -- "7 whole, 11, 13"
 unfoldable pub finishTests : Drive → List ℕ → Answer
 finishTests d v =
-    andThen (wholeOf (shapeOf d) (d .epoch) (isChanging (d .state)) v)
+    andThen (wholeOf (shapeOf d) (gaugeOf d) v)
     (pick (ltb 0 (leftIn d v)) (A.Left (leftIn d v)) (pick (eqb (d .counter) counterTop) A.CounterTop A.Accepted))

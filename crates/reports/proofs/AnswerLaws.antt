@@ -19,7 +19,7 @@ use Rattle.records.proofs.RuleLaws.{formed-journal}
 use Rattle.tree.specs.Whole.{wholeOf}
 use Rattle.tree.proofs.WholeLaws.{whole-formed}
 use Rattle.drive.specs.declared.Drive.{Drive}
-use Rattle.drive.specs.Drive.{shapeOf, isChanging}
+use Rattle.drive.specs.Drive.{shapeOf, gaugeOf}
 use Rattle.drive.specs.Opening.{inForm, openingOf}
 use Rattle.drive.proofs.HeadLaws.{form-limits}
 use Rattle.drive.proofs.OpeningLaws.{opening-lent}
@@ -45,12 +45,12 @@ pub record Told (d : Drive) (v : List ℕ) : Type 0 where
 pub report-is : (d : Drive) (v : List ℕ) → accepts (reportAnswer d v) ≡ true → Told d v
 unfolding reportAnswer andThen
 report-is d v h =
-    let w = wholeOf (shapeOf d) (d .epoch) (isChanging (d .state)) v in
+    let w = wholeOf (shapeOf d) (gaugeOf d) v in
     let q = both-stages (openingOf d v) w h in
     let whole : w ≡ A.Accepted = accepted-is w (q .1) in
     record {
       lent = opening-lent d v (q .0);
-      journals = λ m l. formed-journal (d .p) (d .epoch) (isChanging (d .state)) (recordOf (shapeOf d) v m) (whole-formed (shapeOf d) (d .epoch) (isChanging (d .state)) v whole m l);
+      journals = λ m l. formed-journal (d .p) (gaugeOf d) (recordOf (shapeOf d) v m) (whole-formed (shapeOf d) (gaugeOf d) v whole m l);
     }
 
 -- a stored flake that is shown

@@ -42,8 +42,7 @@ fn report_answer(d: Drive, vol: &[u8]) -> Answer
 {
     let a = drive::opening(d, vol);
     if answers::accepted(a) {
-        let state = d.state;
-        return tree::whole(vol, drive::shape_of(d), d.epoch, drive::is_changing(state));
+        return tree::whole(vol, drive::shape_of(d), drive::gauge_of(d));
     }
     a
 }
