@@ -31,7 +31,7 @@ use Rattle.drive.specs.declared.State.{State}
 use Rattle.drive.specs.declared.State.the-variants.{Steady, Changing}
 use Rattle.drive.specs.Drive.{shapeOf, gaugeOf, isChanging, keptOld, counterTop}
 use Rattle.drive.specs.Head.{checkFor, frontIn, headOf}
-use Rattle.drive.specs.Opening.{inForm, headStands, openingOf}
+use Rattle.drive.specs.Opening.{inForm, measureOf, headStands, openingOf}
 use Rattle.drive.proofs.OpeningLaws.{opening-lent}
 use Rattle.nuggets.specs.declared.Nugget.{Nugget}
 use Rattle.nuggets.specs.Nugget.{secretFor, keyFor, nuggetOf, contentsIn, contentsOf}
@@ -67,7 +67,7 @@ module _ (d : Drive) (any v : List ℕ) (steady : isChanging (d .state) ≡ fals
   head-same = rw (check-any (d .state) steady any (d .old) (d .salt) (d .epoch)) refl
 
   pub opens : openingOf (withOld d any) v ≡ openingOf d v
-  unfolding openingOf inForm headStands
+  unfolding openingOf measureOf inForm headStands
   opens = rw head-same refl
 
   -- a nugget whose path passes is under the present secret

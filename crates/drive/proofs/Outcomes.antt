@@ -16,6 +16,9 @@ is-changing κs a x y u v p q = (agree p q, refl)
 pub gauge-of : OneOutcome fn.gauge_of.ended fn.gauge_of.Reads.Post
 gauge-of κs a x y u v p q = (agree p q, refl)
 
+pub headed : OneOutcome fn.headed.ended fn.headed.Reads.Post
+headed κs a x y u v p q = (agree p q, refl)
+
 pub kept-old : OneOutcome fn.kept_old.ended fn.kept_old.Reads.Post
 kept-old κs a x y u v p q = (agree p q, refl)
 
@@ -36,6 +39,9 @@ epoch-fits κs a x y u v p q = (agree p q, refl)
 
 pub in-form : OneOutcome fn.in_form.ended fn.in_form.Reads.Post
 in-form κs a x y u v p q = (agree p q, refl)
+
+pub measure : OneOutcome fn.measure.ended fn.measure.Reads.Post
+measure κs a x y u v p q = (agree p q, refl)
 
 pub head-stands : OneOutcome fn.head_stands.ended fn.head_stands.Reads.Post
 head-stands κs a x y u v p q = (agree p q, refl)

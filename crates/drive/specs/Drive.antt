@@ -42,6 +42,22 @@ blankDrive =
       old = zeros 32;
     }
 
+-- the drive under another head: its shape and its salt stay
+abbrev pub headed : Drive → State → ℕ → ℕ → List ℕ → List ℕ → List ℕ → Drive
+headed d state epoch counter node present old =
+    record {
+      n = d .n;
+      p = d .p;
+      f = d .f;
+      salt = d .salt;
+      state = state;
+      epoch = epoch;
+      counter = counter;
+      node = node;
+      present = present;
+      old = old;
+    }
+
 -- "Keycount and counter: 0 to 2^64 - 1."
 abbrev pub counterTop : ℕ
 counterTop = 2 ^ 64 - 1

@@ -37,7 +37,7 @@ use Rattle.changes.proofs.SettleLaws.{settled-record}
 use Rattle.ledger.specs.Invariant.{Inv}
 use Rattle.ledger.proofs.CalmLaws.{starts}
 use Rattle.ledger.proofs.OnwardLaws.{onward-same}
-use Rattle.history.specs.World.{World, Call, mount, read, write, begin, sweep, finish, report, stored}
+use Rattle.history.specs.World.{World, Call, mount, write, begin, sweep, finish, asks}
 use Rattle.history.specs.Step.{oldFor, overlaid, mounted, step}
 use Rattle.history.specs.History.{Start, begun, run, history}
 use Rattle.history.specs.Demands.{plainIn}
@@ -197,13 +197,11 @@ unchanged w x = record { sound = x; onward = onward-same (kitOf (w .drive)) (led
 pub step-keeps : (w : World) (c : Call) → Sound w → Keeps w (step w c)
 unfolding step
 step-keeps w (mount any) x = rw (mount-same w x any) (unchanged w x)
-step-keeps w (read o buffer) x = unchanged w x
 step-keeps w (write o bytes) x = write-keeps w x o bytes
 step-keeps w (begin secret) x = begin-keeps w x secret
 step-keeps w (sweep n) x = sweep-keeps w x n
 step-keeps w finish x = finish-keeps w x
-step-keeps w report x = unchanged w x
-step-keeps w (stored n f) x = unchanged w x
+step-keeps w (asks q) x = unchanged w x
 
 pub step-sound : (w : World) (c : Call) → Sound w → Sound (step w c)
 step-sound w c x = step-keeps w c x .sound

@@ -9,9 +9,9 @@ use lib.Dec.{eqb}
 use lib.ListN.{length, length-replicate}
 use lib.Seq.{sets, length-sets}
 use lib.Pow.{pow-pos}
-use borrow.Author.Tests.{eq-eqb, eqb-true, eqb-false, lt-ltb}
+use borrow.Author.Tests.{eqb-true, eqb-false, lt-ltb}
 use Rattle.base.specs.Lists.{part, same}
-use Rattle.base.proofs.PickLaws.{yes, told, both-on, both-left}
+use Rattle.base.proofs.PickLaws.{told, both-on, both-left}
 use Rattle.base.proofs.PartLaws.{part-sets, part-sets-above, part-sets-below}
 use Rattle.base.proofs.FoldLaws.{same-refl}
 use Rattle.answers.specs.declared.Answer.the-variants as A
@@ -19,6 +19,7 @@ use Rattle.answers.specs.Numbers.{accepts}
 use Rattle.layout.specs.declared.Shape.{Shape}
 use Rattle.layout.specs.Shape.{shape, sized, known, inLimits, leaves, widthOf}
 use Rattle.layout.specs.Parts.{recordAt, tagAt, nodeAt, lengthOf}
+use Rattle.drive.proofs.OpeningLaws.{opening-by}
 use Rattle.layout.proofs.Limits.{by-numbers}
 use Rattle.layout.proofs.Places.{record-inside, records-above, parts-inside}
 use Rattle.records.specs.Record.{against, recordBytes, recordIn, wellFormed, Widths}
@@ -122,16 +123,15 @@ module _ (n p f : ℕ) (salt secret : List ℕ) (outside : ℕ) (salted : length
   head-long = length-head (freshDrive s salt secret outside) salted
 
   numbers-open : openingOf (freshDrive s salt secret outside) (freshVolume s salt secret outside) ≡ A.Accepted
-  unfolding openingOf inForm headStands freshDrive freshVolume
+  unfolding inForm headStands freshDrive freshVolume
   numbers-open =
       let d = freshDrive s salt secret outside in
       let v = planted s in
       let size : length (sets v 0 (headOf d)) ≡ lengthOf s = length-sets v 0 (headOf d) ∙ length-planted s in
       let first : part 0 104 (sets v 0 (headOf d)) ≡ headOf d = part-sets v 0 104 (headOf d) head-long (omega (arith, length-planted s, parts-inside s)) in
       let node = headed-node s limited (headOf d) head-long 1 (omega arith) in
-      yes _ (both-on limited refl)
-      (yes _ (eq-eqb (length (sets v 0 (headOf d))) (lengthOf s) size)
-      (yes _ (both-on (ap (λ (l : List ℕ). same l (headOf d)) first ∙ same-refl (headOf d)) (ap (λ (l : List ℕ). same l (d .node)) node ∙ same-refl (d .node))) refl))
+      opening-by d (sets v 0 (headOf d)) (both-on limited refl) size
+      (both-on (ap (λ (l : List ℕ). same l (headOf d)) first ∙ same-refl (headOf d)) (ap (λ (l : List ℕ). same l (d .node)) node ∙ same-refl (d .node)))
 
   numbers-whole : wholeIn (freshDrive s salt secret outside) (freshVolume s salt secret outside) ≡ A.Accepted
   unfolding freshDrive freshVolume
