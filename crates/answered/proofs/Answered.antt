@@ -9,10 +9,11 @@ use lib.Dec.{leb}
 use borrow.Author.Tests.{leb-true, leb-false}
 use Rattle.base.specs.Pick.{pick}
 use Rattle.base.specs.Lists.{same}
-use Rattle.base.proofs.PickLaws.{yes, no, told, clash, both-right}
+use Rattle.base.proofs.PickLaws.{yes, no, told, clash}
 use Rattle.records.specs.Journal.{bit}
-use Rattle.records.specs.Record.{epochFits, noneFrom, wellFormed, recordOf}
-use Rattle.drive.specs.Drive.{shapeOf, isChanging}
+use Rattle.records.specs.Record.{epochFits, recordOf}
+use Rattle.records.proofs.RuleLaws.{formed-fits}
+use Rattle.drive.specs.Drive.{shapeOf, gaugeOf, isChanging}
 use Rattle.nuggets.specs.Nugget.{secretFor}
 use Rattle.pages.specs.Words.{t-old, t-needed, t-free}
 use Rattle.auditor.specs.Reading.{toldOf, times}
@@ -30,12 +31,11 @@ use Rattle.answered.specs.Answered.{Fits, pageFor, secretBy, TellsPad, P
 use Rattle.answered.proofs.Input.{page-holds}
 
 module _ (w : World) (x : Sound w) where
-  epoch-fits : (n : ℕ) → n < w .drive .n → epochFits (w .drive .epoch) (isChanging (w .drive .state)) (recordOf (shapeOf (w .drive)) (w .vol) n .epoch) ≡ true
-  unfolding wellFormed
-  epoch-fits n h = both-right (noneFrom (w .drive .p) (recordOf (shapeOf (w .drive)) (w .vol) n .journal)) _ (x .inv .formed n h)
+  epoch-fits : (n : ℕ) → n < w .drive .n → epochFits (gaugeOf (w .drive)) (recordOf (shapeOf (w .drive)) (w .vol) n .epoch) ≡ true
+  epoch-fits n h = formed-fits (w .drive .p) (gaugeOf (w .drive)) (recordOf (shapeOf (w .drive)) (w .vol) n) (x .inv .formed n h)
 
   -- the secrets that the user holds are the drive's; when steady no word names the old one
-  by-word : (e : ℕ) → epochFits (w .drive .epoch) (isChanging (w .drive .state)) e ≡ true → secretBy w (keyWord (w .drive) e) ≡ secretNamed (w .drive) (keyWord (w .drive) e)
+  by-word : (e : ℕ) → epochFits (gaugeOf (w .drive)) e ≡ true → secretBy w (keyWord (w .drive) e) ≡ secretNamed (w .drive) (keyWord (w .drive) e)
   unfolding secretNamed
   by-word e fits = go (told (same (keyWord (w .drive) e) t-old))
     where

@@ -17,7 +17,7 @@ use Rattle.answers.specs.declared.Answer.the-variants as A
 use Rattle.layout.specs.Parts.{lengthOf}
 use Rattle.records.proofs.RuleLaws.{formed-epoch}
 use Rattle.drive.specs.declared.Done.{Done}
-use Rattle.drive.specs.Drive.{shapeOf, isChanging}
+use Rattle.drive.specs.Drive.{shapeOf, gaugeOf, isChanging}
 use Rattle.records.specs.Record.{recordOf}
 use Rattle.sheets.specs.Sheet.{presentIn, oldIn, outsideIn, volumeIn, sized, mountedBy}
 use Rattle.pages.specs.Page.{mounts}
@@ -101,7 +101,7 @@ module _ (w : World) (x : Sound w) (any : List ℕ) (fits : Fits w any) where
   mounted = both-on size (ap (λ (m : Done). accepts (m .answer)) mounted-is)
 
   narrow : Narrow (w .drive) (w .vol)
-  narrow n h = (omega (arith, x .inv .below n h, x .handed .counter-lt), low (formed-epoch (w .drive .p) (w .drive .epoch) (isChanging (w .drive .state)) (recordOf (shapeOf (w .drive)) (w .vol) n) (x .inv .formed n h)))
+  narrow n h = (omega (arith, x .inv .below n h, x .handed .counter-lt), low (formed-epoch (w .drive .p) (gaugeOf (w .drive)) (recordOf (shapeOf (w .drive)) (w .vol) n) (x .inv .formed n h)))
     where
       low : (recordOf (shapeOf (w .drive)) (w .vol) n .epoch ≡ w .drive .epoch) ⊎ ((isChanging (w .drive .state) ≡ true) × (recordOf (shapeOf (w .drive)) (w .vol) n .epoch + 1 ≡ w .drive .epoch)) → recordOf (shapeOf (w .drive)) (w .vol) n .epoch < 2 ^ 16
       low (inl e) = omega (arith, e, x .handed .epoch-lt)

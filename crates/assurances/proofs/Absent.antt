@@ -34,7 +34,7 @@ use Rattle.records.specs.Record.{recordOf}
 use Rattle.tree.proofs.Heights.{rises-some, rises-half, rises-leaf}
 use Rattle.drive.specs.declared.Drive.{Drive}
 use Rattle.drive.specs.Drive.{shapeOf, zeros}
-use Rattle.drive.specs.Opening.{headStands, openingOf}
+use Rattle.drive.specs.Opening.{measureOf, headStands, openingOf}
 use Rattle.nuggets.specs.declared.Nugget.{Nugget}
 use Rattle.nuggets.specs.Nugget.{keyFor, nuggetOf, contentsIn, contentsOf}
 use Rattle.nuggets.specs.Tests.{goodFlake, passes, flakesUp, flakesIn, pathFor, nuggetRead}
@@ -57,7 +57,7 @@ module _ (d : Drive) (v w : List ℕ) (x : ButAbsent d v w) where
   s = shapeOf d
 
   opens : openingOf d w ≡ openingOf d v
-  unfolding openingOf headStands
+  unfolding openingOf measureOf headStands
   opens = rw (x .long, x .head, x .nodes 1 (omega arith) (omega (arith, leaves-some (d .n)))) refl
 
   made-same : (i : ℕ) → i < 2 * leaves (d .n) → 1 ≤ i → madeOf s w i ≡ madeOf s v i

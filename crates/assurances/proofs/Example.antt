@@ -16,7 +16,7 @@ use Rattle.layout.specs.Shape.{shape}
 use Rattle.drive.specs.declared.Drive.{Drive}
 use Rattle.drive.specs.Drive.{shapeOf, counterTop}
 use Rattle.drive.specs.Opening.{openingOf}
-use Rattle.drive.proofs.OpeningLaws.{blank-form, blank-limits}
+use Rattle.drive.proofs.OpeningLaws.{blank-measure, blank-limits}
 use Rattle.opening.specs.Format.{freshDrive}
 use Rattle.records.specs.Record.{recordOf}
 use Rattle.reading.specs.Read.{readAnswer, readBuffer}
@@ -26,7 +26,7 @@ use Rattle.reports.proofs.Exact.{stored-shown}
 use Rattle.answers.specs.Stages.{andThen}
 use Rattle.changes.specs.Write.{writeAnswer}
 use Rattle.changes.specs.Rekey.{beginAnswer, sweepAnswer, finishAnswer}
-use Rattle.history.specs.World.{World, Call, mount, read, write, begin, sweep, finish, report, stored}
+use Rattle.history.specs.World.{World, Call, mount, write, begin, sweep, finish, asks, read, report, stored}
 use Rattle.history.specs.Step.{answerTo, step}
 use Rattle.history.specs.History.{Start, begun, run, history, among}
 use Rattle.history.specs.Answers.{changing, hasMoved, isLeft, nuggetsLeft, Columns, columns, columnsOf, columnsAfter, allAccepted, reportOn}
@@ -53,13 +53,13 @@ blank-refused w c e h = go c h
 
     go : (c : Call) → takesDrive c ≡ true → answerTo w c ≡ A.Limits
     go (mount any) q = absurd (clash q refl)
-    go (read o buffer) q = rw shut refl
     go (write o bytes) q = rw shut refl
     go (begin secret) q = rw shut refl
     go (sweep n) q = rw shut refl
     go finish q = rw shut refl
-    go report q = rw shut refl
-    go (stored n f) q = rw (e, blank-form) refl
+    go (asks (read o buffer)) q = rw shut refl
+    go (asks report) q = rw shut refl
+    go (asks (stored n f)) q = rw (e, blank-measure (w .vol)) refl
 
 pub stored-shows : StoredShows
 stored-shows w n f e = stored-shown (w .drive) (w .vol) n f e
@@ -111,7 +111,7 @@ bytes = 1 ∷ 2 ∷ 3 ∷ []
 
 -- what comes after the write, the begin, the sweep and the finish, each with its mount
 abbrev rest₄ : List Call
-rest₄ = report ∷ stored 0 1 ∷ []
+rest₄ = asks report ∷ asks (stored 0 1) ∷ []
 
 abbrev rest₃ : List Call
 rest₃ = finish ∷ mount (secretOf 9) ∷ rest₄
@@ -191,8 +191,8 @@ module _ (w : World) (x : At w (columns false 1 1 (secretOf 0))) where
   end : allAccepted w₄ rest₄ ≡ true
   unfolding allAccepted step
   end =
-      let shown = exactly w₄ (x₄ .sounds) (stored 0 1) ∙ yes A.PastEnd (both-on (lt-ltb 0 (w₄ .drive .n) (rw (n-is w₄ k₄ x₄) (omega arith))) (lt-ltb 1 (w₄ .drive .p) (rw (p-is w₄ k₄ x₄) (omega arith)))) refl in
-      both-on (ap accepts (exactly w₄ (x₄ .sounds) report)) (both-on (ap accepts shown) refl)
+      let shown = exactly w₄ (x₄ .sounds) (asks (stored 0 1)) ∙ yes A.PastEnd (both-on (lt-ltb 0 (w₄ .drive .n) (rw (n-is w₄ k₄ x₄) (omega arith))) (lt-ltb 1 (w₄ .drive .p) (rw (p-is w₄ k₄ x₄) (omega arith)))) refl in
+      both-on (ap accepts (exactly w₄ (x₄ .sounds) (asks report))) (both-on (ap accepts shown) refl)
 
   all-accepted : allAccepted w example ≡ true
   unfolding allAccepted
@@ -222,7 +222,7 @@ reads =
     let n-is = ap (λ (z : Shape). z .n) s in
     let p-is = ap (λ (z : Shape). z .p) s in
     let f-is = ap (λ (z : Shape). z .f) s in
-    let ok = exactly w (sound fresh example) (read 63 (0 ∷ 0 ∷ 0 ∷ [])) ∙ yes A.PastEnd (le-leb 66 (w .drive .n * w .drive .p * w .drive .f) (rw (n-is, p-is, f-is) (omega arith))) refl in
+    let ok = exactly w (sound fresh example) (asks (read 63 (0 ∷ 0 ∷ 0 ∷ []))) ∙ yes A.PastEnd (le-leb 66 (w .drive .n * w .drive .p * w .drive .f) (rw (n-is, p-is, f-is) (omega arith))) refl in
     reads-back fresh example 63 (0 ∷ 0 ∷ 0 ∷ []) ok
     ∙ tab-ext 3 (λ i. w .contents (63 + i)) (λ i. getD bytes i 0) (λ i h. written-last fresh [] (mount (secretOf 9) ∷ rest₁) 63 bytes i h (ok₁ (begun fresh) at-start) refl)
 

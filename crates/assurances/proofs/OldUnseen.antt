@@ -13,14 +13,14 @@ use Rattle.answers.proofs.StageLaws.{both-stages, passed}
 use Rattle.records.specs.Listing.{Entry}
 use Rattle.drive.specs.declared.Drive.{Drive}
 use Rattle.drive.specs.Drive.{isChanging}
-use Rattle.drive.specs.Opening.{inForm, openingOf}
+use Rattle.drive.specs.Opening.{inForm, measureOf, openingOf}
 use Rattle.reports.specs.Report.{reportAnswer, reportOf}
 use Rattle.reports.specs.Stored.{isFlake, storedAnswer, storedFlake}
 use Rattle.changes.specs.Laid.{over}
 use Rattle.changes.specs.Write.{writeAnswer, writes, writtenDrive, writeDone, writeVolume, writePads}
 use Rattle.changes.specs.Rekey.{beginTests, beginAnswer, begunDrive, beginDone, beginVolume, sweepAnswer, sweepDone, sweepVolume, sweepPads, finishTests, finishAnswer, finishedDrive, finishDone, finishVolume}
 use Rattle.changes.proofs.Exact.{yes-same}
-use Rattle.history.specs.World.{World, Call, mount, read, write, begin, sweep, finish, report, stored}
+use Rattle.history.specs.World.{World, Call, mount, write, begin, sweep, finish, asks, read, report, stored}
 use Rattle.history.specs.Step.{answerTo, left, overlaid, mounted, step, changesBy}
 use Rattle.assurances.specs.Unseen.{withOld, swapped, AlikeButOld, OldUnseen, OldUnread}
 use Rattle.assurances.proofs.SameReads.{read-alike, buffer-alike}
@@ -113,25 +113,25 @@ module _ (w : World) (any : List ℕ) (steady : isChanging (w .drive .state) ≡
       (same, rw same (l .0), λ q. rw same (l .1 q))
 
   unseen : (c : Call) → Same c
-  unfolding step mounted reportAnswer storedAnswer inForm isFlake
+  unfolding step mounted reportAnswer storedAnswer measureOf inForm isFlake
   unseen (mount brought) = (refl, refl, λ q. refl)
-  unseen (read o buffer) = (
-    read-alike d any v v (opens d any v steady) (tests d any v steady) (bytes d any v steady) o (length buffer),
-    refl,
-    λ q. absurd (clash q refl),
-  )
   unseen (write o given) = write-unseen o given
   unseen (begin secret) = begin-unseen secret
   unseen (sweep n) = sweep-unseen n
   unseen finish = finish-unseen
-  unseen report = (rw (opens d any v steady) refl, refl, λ q. absurd (clash q refl))
-  unseen (stored n f) = (refl, refl, λ q. absurd (clash q refl))
+  unseen (asks (read o buffer)) = (
+    read-alike d any v v (opens d any v steady) (tests d any v steady) (bytes d any v steady) o (length buffer),
+    refl,
+    λ q. absurd (clash q refl),
+  )
+  unseen (asks report) = (rw (opens d any v steady) refl, refl, λ q. absurd (clash q refl))
+  unseen (asks (stored n f)) = (refl, refl, λ q. absurd (clash q refl))
 
 pub old-unseen : OldUnseen
 old-unseen w any c steady = unseen w any steady c
 
 pub old-unread : OldUnread
-unfolding reportOf reportAnswer storedFlake storedAnswer inForm isFlake
+unfolding reportOf reportAnswer storedFlake storedAnswer measureOf inForm isFlake
 old-unread d v any steady = (
   λ o buffer. buffer-alike d any v v (opens d any v steady) (tests d any v steady) (bytes d any v steady) o buffer,
   rw (opens d any v steady) refl,

@@ -29,9 +29,9 @@ use Rattle.tree.proofs.PathLaws.{path-belongs}
 use Rattle.drive.specs.declared.Drive.{Drive}
 use Rattle.drive.specs.declared.State.{State}
 use Rattle.drive.specs.declared.State.the-variants.{Steady, Changing}
-use Rattle.drive.specs.Drive.{shapeOf, isChanging, counterTop}
+use Rattle.drive.specs.Drive.{shapeOf, gaugeOf, isChanging, counterTop}
 use Rattle.drive.specs.Head.{checkFor, frontIn, headOf}
-use Rattle.drive.specs.Opening.{inForm, headStands, openingOf}
+use Rattle.drive.specs.Opening.{inForm, measureOf, headStands, openingOf}
 use Rattle.drive.proofs.OpeningLaws.{opening-lent}
 use Rattle.nuggets.specs.declared.Nugget.{Nugget}
 use Rattle.nuggets.specs.Nugget.{secretFor, keyFor, nuggetOf, contentsIn, contentsOf}
@@ -67,15 +67,15 @@ module _ (d : Drive) (any v : List ℕ) (steady : isChanging (d .state) ≡ fals
   head-same = rw (check-any (d .state) steady any (d .old) (d .salt) (d .epoch)) refl
 
   pub opens : openingOf (withOld d any) v ≡ openingOf d v
-  unfolding openingOf inForm headStands
+  unfolding openingOf measureOf inForm headStands
   opens = rw head-same refl
 
   -- a nugget whose path passes is under the present secret
   nugget-same : Lent (shapeOf d) v → (n : ℕ) → n < d .n → accepts (pathFor d v n) ≡ true → nuggetOf e v n ≡ nuggetOf d v n
   unfolding keyFor secretFor
   nugget-same l n h p =
-      let b = path-belongs (shapeOf d) (d .epoch) (isChanging (d .state)) v n l h (accepted-is (pathFor d v n) p) in
-      let q = eq-eqb (recordOf (shapeOf d) v n .epoch) (d .epoch) (go (formed-epoch (d .p) (d .epoch) (isChanging (d .state)) (recordOf (shapeOf d) v n) (b .well-formed))) in
+      let b = path-belongs (shapeOf d) (gaugeOf d) v n l h (accepted-is (pathFor d v n) p) in
+      let q = eq-eqb (recordOf (shapeOf d) v n .epoch) (d .epoch) (go (formed-epoch (d .p) (gaugeOf d) (recordOf (shapeOf d) v n) (b .well-formed))) in
       rw q refl
     where
       go : (recordOf (shapeOf d) v n .epoch ≡ d .epoch) ⊎ ((isChanging (d .state) ≡ true) × (recordOf (shapeOf d) v n .epoch + 1 ≡ d .epoch)) → recordOf (shapeOf d) v n .epoch ≡ d .epoch

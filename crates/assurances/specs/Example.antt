@@ -13,7 +13,7 @@ use Rattle.opening.specs.Mount.{mountAnswer}
 use Rattle.nuggets.specs.Nugget.{storedIn}
 use Rattle.reading.specs.Read.{readBuffer}
 use Rattle.reports.specs.Stored.{storedFlake}
-use Rattle.history.specs.World.{World, Call, mount, read, write, begin, sweep, finish, report, stored}
+use Rattle.history.specs.World.{World, Call, mount, write, begin, sweep, finish, asks, report, stored}
 use Rattle.history.specs.Step.{answerTo}
 use Rattle.history.specs.History.{Start, begun, history}
 use Rattle.history.specs.Answers.{nuggetsLeft, allAccepted, checkedText, Collision, reportOn}
@@ -33,8 +33,8 @@ example =
     ∷ mount (secretOf 9)
     ∷ finish
     ∷ mount (secretOf 9)
-    ∷ report
-    ∷ stored 0 1
+    ∷ asks report
+    ∷ asks (stored 0 1)
     ∷ []
 
 -- There is a drive of one nugget with two flakes on which all of them are accepted, and so is a read that then gives the three bytes.
@@ -57,13 +57,11 @@ FullIsNotFree =
 -- "A refused format or mount returns the blank drive: every field zero, steady; every later call on it gives 1." A mount isn't made on a drive.
 abbrev pub takesDrive : Call → Bool
 takesDrive (mount any) = false
-takesDrive (read o buffer) = true
 takesDrive (write o bytes) = true
 takesDrive (begin secret) = true
 takesDrive (sweep n) = true
 takesDrive finish = true
-takesDrive report = true
-takesDrive (stored n f) = true
+takesDrive (asks q) = true
 
 abbrev pub BlankRefused : Type 0
 BlankRefused = (w : World) (c : Call) → w .drive ≡ blankDrive → takesDrive c ≡ true → answerTo w c ≡ A.Limits
@@ -71,4 +69,4 @@ BlankRefused = (w : World) (c : Call) → w .drive ≡ blankDrive → takesDrive
 -- "Stored flake shows a backup tool the stored bytes as that part of the volume itself": those that UnderLastPad speaks of.
 abbrev pub StoredShows : Type 0
 StoredShows =
-    (w : World) (n f : ℕ) → answerTo w (stored n f) ≡ A.Accepted → storedFlake (w .drive) (w .vol) n f ≡ storedIn (shapeOf (w .drive)) (w .vol) n f
+    (w : World) (n f : ℕ) → answerTo w (asks (stored n f)) ≡ A.Accepted → storedFlake (w .drive) (w .vol) n f ≡ storedIn (shapeOf (w .drive)) (w .vol) n f

@@ -11,14 +11,14 @@ use Rattle.base.specs.Lists.{same}
 use Rattle.base.proofs.PickLaws.{told, clash, both-left, both-right}
 use Rattle.records.specs.Record.{epochFits}
 use Rattle.drive.specs.declared.Drive.{Drive}
-use Rattle.drive.specs.Drive.{isChanging}
+use Rattle.drive.specs.Drive.{gaugeOf, isChanging}
 use Rattle.nuggets.specs.Nugget.{secretFor}
 use Rattle.pages.specs.Words.{t-new, t-old, t-present}
 use Rattle.pages.specs.Page.{keyText}
 use Rattle.auditor.specs.Question.{keyWord, secretNamed}
 
 -- a well-formed epoch is the head's, or one less
-one-less : (d : Drive) (e : ℕ) → epochFits (d .epoch) (isChanging (d .state)) e ≡ true → eqb e (d .epoch) ≡ false → eqb (e + 1) (d .epoch) ≡ true
+one-less : (d : Drive) (e : ℕ) → epochFits (gaugeOf d) e ≡ true → eqb e (d .epoch) ≡ false → eqb (e + 1) (d .epoch) ≡ true
 one-less d e fits ne =
     let h : both (isChanging (d .state)) (eqb (e + 1) (d .epoch)) ≡ true = rw ne at fits in
     both-right (isChanging (d .state)) (eqb (e + 1) (d .epoch)) h
@@ -26,7 +26,7 @@ one-less d e fits ne =
 not-less : (d : Drive) (e : ℕ) → eqb e (d .epoch) ≡ true → eqb (e + 1) (d .epoch) ≡ false
 not-less d e h = ne-eqb (e + 1) (d .epoch) (λ z. omega (arith, z, eqb-true e (d .epoch) h))
 
-pub key-word : (d : Drive) (e : ℕ) → epochFits (d .epoch) (isChanging (d .state)) e ≡ true → keyText d e ≡ keyWord d e
+pub key-word : (d : Drive) (e : ℕ) → epochFits (gaugeOf d) e ≡ true → keyText d e ≡ keyWord d e
 unfolding keyText keyWord
 key-word d e fits = go (told (eqb e (d .epoch)))
   where
@@ -36,7 +36,7 @@ key-word d e fits = go (told (eqb e (d .epoch)))
     go (inr h) = rw (h, one-less d e fits h)
 
 -- only while changing is a word `old`
-pub old-word : (d : Drive) (e : ℕ) → epochFits (d .epoch) (isChanging (d .state)) e ≡ true → same (keyWord d e) t-old ≡ true → isChanging (d .state) ≡ true
+pub old-word : (d : Drive) (e : ℕ) → epochFits (gaugeOf d) e ≡ true → same (keyWord d e) t-old ≡ true → isChanging (d .state) ≡ true
 unfolding keyWord same
 old-word d e fits is = go (told (eqb e (d .epoch)))
   where
@@ -50,7 +50,7 @@ old-word d e fits is = go (told (eqb e (d .epoch)))
         let less : both (isChanging (d .state)) (eqb (e + 1) (d .epoch)) ≡ true = rw h at fits in
         both-left (isChanging (d .state)) (eqb (e + 1) (d .epoch)) less
 
-pub secret-named : (d : Drive) (e : ℕ) → epochFits (d .epoch) (isChanging (d .state)) e ≡ true → secretFor d e ≡ secretNamed d (keyWord d e)
+pub secret-named : (d : Drive) (e : ℕ) → epochFits (gaugeOf d) e ≡ true → secretFor d e ≡ secretNamed d (keyWord d e)
 unfolding secretFor secretNamed keyWord same
 secret-named d e fits = go (told (eqb e (d .epoch)))
   where

@@ -18,13 +18,14 @@ use Rattle.answers.specs.Numbers.{accepts}
 use Rattle.layout.specs.Parts.{recordAt}
 use Rattle.layout.proofs.Limits.{Limits, limits}
 use Rattle.layout.proofs.Places.{record-inside, parts-inside}
-use Rattle.records.specs.Record.{epochFits, noneFrom, wellFormed, recordOf}
+use Rattle.records.specs.Record.{epochFits, recordOf}
+use Rattle.records.proofs.RuleLaws.{formed-fits}
 use Rattle.records.proofs.RecordLaws.{read-widths}
 use Rattle.layout.specs.Lent.{Lent}
 use Rattle.tree.proofs.WholeLaws.{whole-formed}
 use Rattle.keys.specs.Keys.{nuggetKey}
 use Rattle.drive.specs.declared.Drive.{Drive}
-use Rattle.drive.specs.Drive.{shapeOf, isChanging}
+use Rattle.drive.specs.Drive.{shapeOf, gaugeOf}
 use Rattle.nuggets.specs.Nugget.{keyFor}
 use Rattle.opening.specs.Mount.{wholeIn, openedDrive}
 use Rattle.opening.proofs.HeadBack.{Opened, opened}
@@ -57,9 +58,8 @@ module _ (d : Drive) (v : List ℕ) (lent : Lent (shapeOf d) v) (narrow : Narrow
   limited : Limits (shapeOf d)
   limited = limits (shapeOf d) (lent .limited)
 
-  fits : (n : ℕ) → n < d .n → epochFits (d .epoch) (isChanging (d .state)) (recordOf (shapeOf d) v n .epoch) ≡ true
-  unfolding wellFormed
-  fits n h = both-right (noneFrom (d .p) (recordOf (shapeOf d) v n .journal)) _ (whole-formed (shapeOf d) (d .epoch) (isChanging (d .state)) v whole n h)
+  fits : (n : ℕ) → n < d .n → epochFits (gaugeOf d) (recordOf (shapeOf d) v n .epoch) ≡ true
+  fits n h = formed-fits (d .p) (gaugeOf d) (recordOf (shapeOf d) v n) (whole-formed (shapeOf d) (gaugeOf d) v whole n h)
 
   line : (n : ℕ) → n < d .n → LineTold d (recordOf (shapeOf d) v n) n
   line n h =

@@ -16,7 +16,7 @@ use Rattle.reports.specs.Report.{reportAnswer, refused, reportOf}
 use Rattle.changes.specs.Write.{writtenDrive, writeDone}
 use Rattle.changes.specs.Rekey.{begunDrive, beginDone, sweptDrive, sweepDone, finishedDrive, finishDone}
 use Rattle.ngt.specs.Calls.{Tells, imageAfter, Changed}
-use Rattle.history.specs.World.{World, Call, mount, read, write, begin, sweep, finish, report, stored}
+use Rattle.history.specs.World.{World, Call, mount, write, begin, sweep, finish, asks, read, report, stored}
 use Rattle.history.specs.Step.{answerTo, left, step}
 use Rattle.history.specs.History.{Start, begun, run, history}
 use Rattle.history.proofs.Sound.{Sound}
@@ -45,13 +45,11 @@ module _ (w : World) (x : Sound w) where
   step-fits : (c : Call) → TypedCall c → DriveFits (w .drive) → DriveFits (step w c .drive)
   unfolding step left
   step-fits (mount any) t f = rw (mount-same w x any) f
-  step-fits (read o buffer) t f = f
   step-fits (write o bytes) t f = write-fits (w .drive) (w .vol) o bytes f
   step-fits (begin secret) t f = begin-fits (w .drive) (w .vol) secret t f
   step-fits (sweep n) t f = sweep-fits (w .drive) (w .vol) n f
   step-fits finish t f = finish-fits (w .drive) (w .vol) f
-  step-fits report t f = f
-  step-fits (stored n f) t g = g
+  step-fits (asks q) t f = f
 
   module _ (f : DriveFits (w .drive)) where
     back : driveIn (driveImage (w .drive)) ≡ w .drive
@@ -67,25 +65,25 @@ module _ (w : World) (x : Sound w) where
     unfolding step left writeDone beginDone sweepDone finishDone
     made (mount any) g k p =
         rw (mount-same w x any) (host-is (p .0 .drive ∙ ap (λ (z : Done). driveImage (z .drive)) (mount-back w x any)) (p .1))
-    made (read o buffer) g k p = p .1
     made (write o bytes) g k p = changed (writtenDrive (w .drive) (w .vol) o bytes) refl (rw back at p)
     made (begin secret) g k p = changed (begunDrive (w .drive) secret) refl (rw back at p)
     made (sweep n) g k p = changed (sweptDrive (w .drive) (w .vol) n) refl (rw back at p)
     made finish g k p = changed (finishedDrive (w .drive)) refl (rw back at p)
-    made report g k p = p .1
-    made (stored n m) g k p = p .1
+    made (asks (read o buffer)) g k p = p .1
+    made (asks report) g k p = p .1
+    made (asks (stored n m)) g k p = p .1
 
     -- and what it tells is the history's answer
     tells : (c : Call) (g : Got) (k : Host) → Makes w (hostOf w) c g k → Tells (answerTo w c) (g .number) (g .answer)
     unfolding mountDone writeDone beginDone sweepDone finishDone
     tells (mount any) g k p = p .0 .tells
-    tells (read o buffer) g k p = rw back at (p .0 .tells)
     tells (write o bytes) g k p = rw back at (p .tells)
     tells (begin secret) g k p = rw back at (p .tells)
     tells (sweep n) g k p = rw back at (p .tells)
     tells finish g k p = rw back at (p .tells)
-    tells report g k p = rw (← report-answer (w .drive) (w .vol)) (rw back at (p .0 .tells))
-    tells (stored n m) g k p = rw back at (p .0 .tells)
+    tells (asks (read o buffer)) g k p = rw back at (p .0 .tells)
+    tells (asks report) g k p = rw (← report-answer (w .drive) (w .vol)) (rw back at (p .0 .tells))
+    tells (asks (stored n m)) g k p = rw back at (p .0 .tells)
 
 follows : (w : World) (calls : List Call) (h k : Host) → Sound w → DriveFits (w .drive) → Typed calls → h ≡ hostOf w → Chain w h calls k
     → (k ≡ hostOf (run w calls)) × DriveFits (run w calls .drive)

@@ -7,7 +7,7 @@ use mathlib.Core.List.{List, [], _∷_}
 use lib.ListN.{length}
 use Rattle.packed.specs.Image.{driveImage, driveIn}
 use Rattle.ngt.specs.Calls.{Tells, Formatted, Mounted, Filled, Reported, Shown, Begun, Swept, Finished, Written}
-use Rattle.history.specs.World.{World, Call, mount, read, write, begin, sweep, finish, report, stored}
+use Rattle.history.specs.World.{World, Call, mount, write, begin, sweep, finish, asks, read, report, stored}
 use Rattle.history.specs.Step.{oldFor, answerTo, step}
 use Rattle.history.specs.History.{Start, begun, history}
 
@@ -26,13 +26,13 @@ pub record Got : Type 0 where
 -- lent to be read alone, they are those of h. A mount is given the secrets and the counter that the user keeps (those of w).
 abbrev pub Makes : World → Host → Call → Got → Host → Type 0
 Makes w h (mount any) g k = Mounted (h .vol) (w .secret) (oldFor w any) (w .outside) (g .number) (k .image) (g .answer) × (k .vol ≡ h .vol)
-Makes w h (read o buffer) g k = Filled (driveIn (h .image)) (h .vol) o buffer (g .number) (g .filled) (g .answer) × (k ≡ h)
 Makes w h (write o bytes) g k = Written (driveIn (h .image)) (h .vol) o bytes (h .image) (g .number) (k .vol) (k .image) (g .answer)
 Makes w h (begin secret) g k = Begun (driveIn (h .image)) (h .vol) secret (h .image) (g .number) (k .vol) (k .image) (g .answer)
 Makes w h (sweep n) g k = Swept (driveIn (h .image)) (h .vol) n (h .image) (g .number) (k .vol) (k .image) (g .answer)
 Makes w h finish g k = Finished (driveIn (h .image)) (h .vol) (h .image) (g .number) (k .vol) (k .image) (g .answer)
-Makes w h report g k = Reported (driveIn (h .image)) (h .vol) (g .number) (g .filled) (g .answer) × (k ≡ h)
-Makes w h (stored n f) g k = Shown (driveIn (h .image)) (h .vol) n f (g .number) (g .filled) (g .answer) × (k ≡ h)
+Makes w h (asks (read o buffer)) g k = Filled (driveIn (h .image)) (h .vol) o buffer (g .number) (g .filled) (g .answer) × (k ≡ h)
+Makes w h (asks report) g k = Reported (driveIn (h .image)) (h .vol) (g .number) (g .filled) (g .answer) × (k ≡ h)
+Makes w h (asks (stored n f)) g k = Shown (driveIn (h .image)) (h .vol) n f (g .number) (g .filled) (g .answer) × (k ≡ h)
 
 -- `ngt_format`, with what the history starts from
 abbrev pub Starts : Start → Host → Type 0
@@ -47,13 +47,11 @@ Chain w h (c ∷ calls) k = (g : Got) × (m : Host) × Makes w h c g m × Chain 
 -- a secret has 32 bytes, as the C types say; of no other argument is anything asked
 abbrev pub TypedCall : Call → Type 0
 TypedCall (mount any) = Unit {0}
-TypedCall (read o buffer) = Unit {0}
 TypedCall (write o bytes) = Unit {0}
 TypedCall (begin secret) = length secret ≡ 32
 TypedCall (sweep n) = Unit {0}
 TypedCall finish = Unit {0}
-TypedCall report = Unit {0}
-TypedCall (stored n f) = Unit {0}
+TypedCall (asks q) = Unit {0}
 
 unfoldable pub Typed : List Call → Type 0
 Typed [] = Unit {0}

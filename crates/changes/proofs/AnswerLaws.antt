@@ -18,7 +18,7 @@ use Rattle.records.specs.Rule.{sweepWay, rekeys, atTop}
 use Rattle.records.specs.Record.{recordOf}
 use Rattle.tree.specs.Whole.{wholeOf}
 use Rattle.drive.specs.declared.Drive.{Drive}
-use Rattle.drive.specs.Drive.{shapeOf, isChanging, counterTop}
+use Rattle.drive.specs.Drive.{shapeOf, gaugeOf, isChanging, counterTop}
 use Rattle.drive.specs.Opening.{openingOf}
 use Rattle.drive.proofs.OpeningLaws.{opening-lent}
 use Rattle.nuggets.specs.Tests.{pathFor, flakesOf}
@@ -90,7 +90,7 @@ pub record Finishes (d : Drive) (v : List ℕ) : Type 0 where
   pub opens : openingOf d v ≡ A.Accepted
   pub lent : Lent (shapeOf d) v
   pub changing : isChanging (d .state) ≡ true
-  pub whole : wholeOf (shapeOf d) (d .epoch) (isChanging (d .state)) v ≡ A.Accepted
+  pub whole : wholeOf (shapeOf d) (gaugeOf d) v ≡ A.Accepted
   pub counterRoom : d .counter ≡ counterTop → ⊥
   -- "finish with nuggets left" is refused
   pub allMoved : movedIn (shapeOf d) (d .epoch) v (d .n) ≡ d .n
@@ -100,14 +100,14 @@ unfolding finishAnswer finishTests
 finish-told d v e =
     let opened = both-stages (openingOf d v) _ e in
     let changing = passed (isChanging (d .state)) _ A.State refl (opened .1) in
-    let whole = both-stages (wholeOf (shapeOf d) (d .epoch) (isChanging (d .state)) v) _ (changing .1) in
+    let whole = both-stages (wholeOf (shapeOf d) (gaugeOf d) v) _ (changing .1) in
     let none = spared (ltb 0 (leftIn d v)) (A.Left (leftIn d v)) _ refl (whole .1) in
     let counter = spared (eqb (d .counter) counterTop) A.CounterTop _ refl (none .1) in
     record {
       opens = accepted-is (openingOf d v) (opened .0);
       lent = opening-lent d v (opened .0);
       changing = changing .0;
-      whole = accepted-is (wholeOf (shapeOf d) (d .epoch) (isChanging (d .state)) v) (whole .0);
+      whole = accepted-is (wholeOf (shapeOf d) (gaugeOf d) v) (whole .0);
       counterRoom = eqb-false (d .counter) counterTop (counter .0);
       allMoved = omega (arith, ltb-false 0 (leftIn d v) (none .0), moved-le (shapeOf d) (d .epoch) v (d .n));
     }

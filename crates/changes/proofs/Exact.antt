@@ -23,7 +23,7 @@ use Rattle.tree.specs.Whole.{wholeOf}
 use Rattle.drive.specs.declared.Drive.{Drive}
 use Rattle.drive.specs.declared.State.{State}
 use Rattle.drive.specs.declared.State.the-variants.{Steady, Changing}
-use Rattle.drive.specs.Drive.{shapeOf, isChanging, keptOld, zeros, counterTop}
+use Rattle.drive.specs.Drive.{shapeOf, gaugeOf, isChanging, keptOld, zeros, counterTop}
 use Rattle.drive.specs.Opening.{openingOf}
 use Rattle.nuggets.specs.Tests.{flakesOf, pathFor}
 use Rattle.drive.proofs.OpeningLaws.{opening-lent}
@@ -38,7 +38,7 @@ use Rattle.changes.specs.Rekey.{beginTests, beginAnswer, begunDrive, mov
 pub record Clean (d : Drive) (v : List ℕ) : Type 0 where
   pub opens : openingOf d v ≡ A.Accepted
   pub paths : (n : ℕ) → n < d .n → pathFor d v n ≡ A.Accepted
-  pub whole : wholeOf (shapeOf d) (d .epoch) (isChanging (d .state)) v ≡ A.Accepted
+  pub whole : wholeOf (shapeOf d) (gaugeOf d) v ≡ A.Accepted
   pub flakes : (n : ℕ) → n < d .n → flakesOf d v n (recordOf (shapeOf d) v n .journal) ≡ A.Accepted
   -- no keycount is above the counter, nor that above its top
   pub counted : d .counter ≤ counterTop

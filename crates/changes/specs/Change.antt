@@ -18,7 +18,7 @@ use Rattle.records.specs.Listing.{Entry, padsTo}
 use Rattle.nodes.specs.Nodes.{nodeIn}
 use Rattle.tree.specs.Renewed.{renewed}
 use Rattle.drive.specs.declared.Drive.{Drive}
-use Rattle.drive.specs.Drive.{shapeOf, keptOld}
+use Rattle.drive.specs.Drive.{shapeOf, headed, keptOld}
 use Rattle.drive.specs.Head.{headOf}
 use Rattle.nuggets.specs.Tests.{pathFor, flakesOf}
 use Rattle.changes.specs.Laid.{laid}
@@ -73,19 +73,7 @@ worked d v way new =
 
 -- "adds 1 to the counter": the drive over a volume whose tree is renewed
 unfoldable pub advanced : Drive → List ℕ → Drive
-advanced d w =
-    record {
-      n = d .n;
-      p = d .p;
-      f = d .f;
-      salt = d .salt;
-      state = d .state;
-      epoch = d .epoch;
-      counter = d .counter + 1;
-      node = nodeIn (shapeOf d) w 1;
-      present = d .present;
-      old = keptOld (d .state) (d .old);
-    }
+advanced d w = headed d (d .state) (d .epoch) (d .counter + 1) (nodeIn (shapeOf d) w 1) (d .present) (keptOld (d .state) (d .old))
 
 -- "renews the seal": the head that a drive makes, stored last
 unfoldable pub settled : Drive → List ℕ → List ℕ

@@ -16,7 +16,7 @@ use Rattle.tree.specs.Whole.{wholeOf}
 use Rattle.drive.specs.declared.Drive.{Drive}
 use Rattle.drive.specs.declared.Done.{Done}
 use Rattle.drive.specs.declared.State.the-variants.{Steady, Changing}
-use Rattle.drive.specs.Drive.{shapeOf, isChanging, zeros, counterTop}
+use Rattle.drive.specs.Drive.{shapeOf, gaugeOf, isChanging, headed, zeros, counterTop}
 use Rattle.drive.specs.Opening.{openingOf}
 use Rattle.nuggets.specs.Nugget.{contentsOf}
 use Rattle.nuggets.specs.Tests.{pathFor, flakesOf}
@@ -42,19 +42,7 @@ beginAnswer d v secret = andThen (openingOf d v) (beginTests d secret)
 
 -- "Begin takes a new secret: state changing, epoch plus 1, the old secret kept."
 unfoldable pub begunDrive : Drive → List ℕ → Drive
-begunDrive d secret =
-    record {
-      n = d .n;
-      p = d .p;
-      f = d .f;
-      salt = d .salt;
-      state = Changing (d .epoch);
-      epoch = d .epoch + 1;
-      counter = d .counter + 1;
-      node = d .node;
-      present = secret;
-      old = d .present;
-    }
+begunDrive d secret = headed d (Changing (d .epoch)) (d .epoch + 1) (d .counter + 1) (d .node) secret (d .present)
 
 unfoldable pub beginDone : Drive → List ℕ → List ℕ → Done
 beginDone d v secret =
@@ -110,7 +98,7 @@ leftIn d v = d .n - movedIn (shapeOf d) (d .epoch) v (d .n)
 -- "7 whole, 11, 13"
 unfoldable pub finishTests : Drive → List ℕ → Answer
 finishTests d v =
-    andThen (wholeOf (shapeOf d) (d .epoch) (isChanging (d .state)) v)
+    andThen (wholeOf (shapeOf d) (gaugeOf d) v)
     (pick (ltb 0 (leftIn d v)) (A.Left (leftIn d v))
     (pick (eqb (d .counter) counterTop) A.CounterTop A.Accepted))
 
@@ -120,19 +108,7 @@ finishAnswer d v = andThen (openingOf d v) (pick (isChanging (d .state)) (finish
 
 -- "Finish makes the state steady and zeroes the check."
 unfoldable pub finishedDrive : Drive → Drive
-finishedDrive d =
-    record {
-      n = d .n;
-      p = d .p;
-      f = d .f;
-      salt = d .salt;
-      state = Steady;
-      epoch = d .epoch;
-      counter = d .counter + 1;
-      node = d .node;
-      present = d .present;
-      old = zeros 32;
-    }
+finishedDrive d = headed d Steady (d .epoch) (d .counter + 1) (d .node) (d .present) (zeros 32)
 
 unfoldable pub finishDone : Drive → List ℕ → Done
 finishDone d v =

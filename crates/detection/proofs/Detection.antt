@@ -24,7 +24,7 @@ use Rattle.records.proofs.BitLaws.{bit-and}
 use Rattle.records.specs.Record.{recordOf}
 use Rattle.tree.specs.Whole.{wholeOf}
 use Rattle.drive.specs.declared.Drive.{Drive}
-use Rattle.drive.specs.Drive.{shapeOf, isChanging}
+use Rattle.drive.specs.Drive.{shapeOf, gaugeOf}
 use Rattle.drive.specs.Head.{checkIn}
 use Rattle.drive.specs.Opening.{openingOf}
 use Rattle.drive.proofs.OpeningLaws.{opening-lent}
@@ -46,10 +46,10 @@ lent-by d v e = opening-lent d v (ap accepts e)
 
 -- a report's two stages
 report-stages : (d : Drive) (v : List ℕ) → reportAnswer d v ≡ A.Accepted
-    → (openingOf d v ≡ A.Accepted) × (wholeOf (shapeOf d) (d .epoch) (isChanging (d .state)) v ≡ A.Accepted)
+    → (openingOf d v ≡ A.Accepted) × (wholeOf (shapeOf d) (gaugeOf d) v ≡ A.Accepted)
 unfolding reportAnswer andThen
 report-stages d v e =
-    let q = both-stages (openingOf d v) (wholeOf (shapeOf d) (d .epoch) (isChanging (d .state)) v) (ap accepts e) in
+    let q = both-stages (openingOf d v) (wholeOf (shapeOf d) (gaugeOf d) v) (ap accepts e) in
     (accepted-is _ (q .0), accepted-is _ (q .1))
 
 pub head-detected : HeadDetected

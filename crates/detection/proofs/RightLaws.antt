@@ -30,7 +30,7 @@ use Rattle.tree.specs.Whole.{wholeOf}
 use Rattle.tree.proofs.PathLaws.{path-belongs}
 use Rattle.tree.proofs.WholeLaws.{whole-formed, whole-good}
 use Rattle.drive.specs.declared.Drive.{Drive}
-use Rattle.drive.specs.Drive.{shapeOf, isChanging}
+use Rattle.drive.specs.Drive.{shapeOf, gaugeOf}
 use Rattle.drive.specs.Head.{headOf}
 use Rattle.drive.specs.Opening.{headStands, openingOf}
 use Rattle.drive.proofs.OpeningLaws.{opening-told}
@@ -49,11 +49,11 @@ head-right d v e =
       node = same-true (part (nodeAt (shapeOf d) 1) 32 v) (d .node) (both-right (same (part 0 104 v) (headOf d)) _ (t .stands));
     }
 
-formed-right : (d : Drive) (r : Record) → wellFormed (d .p) (d .epoch) (isChanging (d .state)) r ≡ true → Formed d r
+formed-right : (d : Drive) (r : Record) → wellFormed (d .p) (gaugeOf d) r ≡ true → Formed d r
 formed-right d r e =
     record {
-      flakes = λ f h. none-above (d .p) (r .journal) f (formed-journal (d .p) (d .epoch) (isChanging (d .state)) r e) h;
-      epoch = formed-epoch (d .p) (d .epoch) (isChanging (d .state)) r e;
+      flakes = λ f h. none-above (d .p) (r .journal) f (formed-journal (d .p) (gaugeOf d) r e) h;
+      epoch = formed-epoch (d .p) (gaugeOf d) r e;
     }
 
 -- two steps up by halves
@@ -71,7 +71,7 @@ module _ (d : Drive) (v : List ℕ) where
   pub path-good : (n : ℕ) → Lent (shapeOf d) v → n < d .n → pathFor d v n ≡ A.Accepted → PathGood d v n
   path-good n l h e =
       let s = shapeOf d in
-      let b = path-belongs s (d .epoch) (isChanging (d .state)) v n l h e in
+      let b = path-belongs s (gaugeOf d) v n l h e in
       record {
         formed = formed-right d (recordOf (shapeOf d) v n) (b .well-formed);
         leaf = b .leaf;
@@ -82,13 +82,13 @@ module _ (d : Drive) (v : List ℕ) where
       on zero p q = absurd (omega arith)
       on (suc k) p q = rw (half-steps (leaves (d .n) + n) k) (upward-steps (heightOf (d .n)) ((leaves (d .n) + n) / 2) k (omega arith))
 
-  pub whole-right : wholeOf (shapeOf d) (d .epoch) (isChanging (d .state)) v ≡ A.Accepted → Lent (shapeOf d) v → WholeGood d v
+  pub whole-right : wholeOf (shapeOf d) (gaugeOf d) v ≡ A.Accepted → Lent (shapeOf d) v → WholeGood d v
   whole-right e l =
       let s = shapeOf d in
       let small = lent-small l in
-      let good = whole-good s (d .epoch) (isChanging (d .state)) v e in
+      let good = whole-good s (gaugeOf d) v e in
       record {
-        formed = λ n h. formed-right d (recordOf (shapeOf d) v n) (whole-formed s (d .epoch) (isChanging (d .state)) v e n h);
+        formed = λ n h. formed-right d (recordOf (shapeOf d) v n) (whole-formed s (gaugeOf d) v e n h);
         leaf = λ n h. good (leaves (d .n) + n) (omega (arith, small .some-leaves)) (omega (arith, h, small .enough-leaves)) ∙ made-leaf s v n h;
         spare = λ i a b. good i (omega (arith, a, small .some-leaves)) b ∙ made-bottom s v i (omega (arith, a)) ∙ bottom-zero s v i a;
         inner = λ i a b. good i a (omega (arith, b)) ∙ made-inner s v i b;

@@ -13,6 +13,12 @@ shape-of κs a x y u v p q = (agree p q, refl)
 pub is-changing : OneOutcome fn.is_changing.ended fn.is_changing.Reads.Post
 is-changing κs a x y u v p q = (agree p q, refl)
 
+pub gauge-of : OneOutcome fn.gauge_of.ended fn.gauge_of.Reads.Post
+gauge-of κs a x y u v p q = (agree p q, refl)
+
+pub headed : OneOutcome fn.headed.ended fn.headed.Reads.Post
+headed κs a x y u v p q = (agree p q, refl)
+
 pub kept-old : OneOutcome fn.kept_old.ended fn.kept_old.Reads.Post
 kept-old κs a x y u v p q = (agree p q, refl)
 
@@ -33,6 +39,9 @@ epoch-fits κs a x y u v p q = (agree p q, refl)
 
 pub in-form : OneOutcome fn.in_form.ended fn.in_form.Reads.Post
 in-form κs a x y u v p q = (agree p q, refl)
+
+pub measure : OneOutcome fn.measure.ended fn.measure.Reads.Post
+measure κs a x y u v p q = (agree p q, refl)
 
 pub opening : OneOutcome fn.opening.ended fn.opening.Reads.Post
 opening κs a x y u v p q = (agree p q, refl)

@@ -5,6 +5,8 @@ use mathlib.Core.List.{List}
 use lib.ListN.{replicate}
 use Rattle.layout.specs.declared.Shape.{Shape}
 use Rattle.layout.specs.Shape.{shape}
+use Rattle.records.specs.declared.Gauge.{Gauge}
+use Rattle.records.specs.Record.{against}
 use Rattle.drive.specs.declared.Drive.{Drive}
 use Rattle.drive.specs.declared.State.{State}
 use Rattle.drive.specs.declared.State.the-variants.{Steady, Changing}
@@ -16,6 +18,10 @@ shapeOf d = shape (d .n) (d .p) (d .f)
 abbrev pub isChanging : State → Bool
 isChanging Steady = false
 isChanging (Changing left) = true
+
+-- what the drive's records are held against: its epoch, and whether it is changing
+abbrev pub gaugeOf : Drive → Gauge
+gaugeOf d = against (d .epoch) (isChanging (d .state))
 
 abbrev pub zeros : ℕ → List ℕ
 zeros n = replicate n 0
@@ -34,6 +40,22 @@ blankDrive =
       node = zeros 32;
       present = zeros 32;
       old = zeros 32;
+    }
+
+-- the drive under another head: its shape and its salt stay
+abbrev pub headed : Drive → State → ℕ → ℕ → List ℕ → List ℕ → List ℕ → Drive
+headed d state epoch counter node present old =
+    record {
+      n = d .n;
+      p = d .p;
+      f = d .f;
+      salt = d .salt;
+      state = state;
+      epoch = epoch;
+      counter = counter;
+      node = node;
+      present = present;
+      old = old;
     }
 
 -- "Keycount and counter: 0 to 2^64 - 1."

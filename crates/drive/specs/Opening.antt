@@ -9,6 +9,7 @@ use Rattle.base.specs.Lists.{part, same}
 use Rattle.answers.specs.declared.Answer.{Answer}
 use Rattle.answers.specs.declared.Answer.the-variants as A
 use Rattle.answers.specs.declared.Place.the-variants as P
+use Rattle.answers.specs.Stages.{andThen}
 use Rattle.layout.specs.Shape.{inLimits}
 use Rattle.layout.specs.Parts.{lengthOf, nodeAt}
 use Rattle.drive.specs.declared.Drive.{Drive}
@@ -27,12 +28,14 @@ epochFits (Changing left) e = both (leb 2 e) (eqb (left + 1) e)
 unfoldable pub inForm : Drive → Bool
 inForm d = both (inLimits (shapeOf d)) (epochFits (d .state) (d .epoch))
 
+-- 1, 2: the drive in form, and the volume as long as its shape asks
+unfoldable pub measureOf : Drive → List ℕ → Answer
+measureOf d v = pick (inForm d) (pick (eqb (length v) (lengthOf (shapeOf d))) A.Accepted A.Length) A.Limits
+
 -- 7 head: "the 104 bytes are those the drive makes, and the volume's node 1 is the drive's"
 unfoldable pub headStands : Drive → List ℕ → Bool
 headStands d v = both (same (part 0 104 v) (headOf d)) (same (part (nodeAt (shapeOf d) 1) 32 v) (d .node))
 
+-- "1, 2, 7 head"
 unfoldable pub openingOf : Drive → List ℕ → Answer
-openingOf d v =
-    pick (inForm d)
-    (pick (eqb (length v) (lengthOf (shapeOf d))) (pick (headStands d v) A.Accepted (A.Altered P.Head)) A.Length)
-    A.Limits
+openingOf d v = andThen (measureOf d v) (pick (headStands d v) A.Accepted (A.Altered P.Head))

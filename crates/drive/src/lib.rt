@@ -1,16 +1,17 @@
 // The open drive, the 104 bytes of head that it makes, and the tests that every call on it starts with.
-// It touches `keys` for check and seal, and `layout`, `answers` and `words`.
+// It touches `keys` for check and seal, `records` for the gauge, and `layout`, `answers` and `words`.
 use answers::Answer;
 use answers::Place;
 use layout::Shape;
+use records::Gauge;
 ghost use mathlib.Core.Path.{_≡_};
 ghost use mathlib.Core.Bool.{true};
 ghost use lib.ListN.{length};
 ghost use Rattle.layout.specs.Shape.{inLimits};
 ghost use Rattle.layout.specs.Parts.{lengthOf};
-ghost use Rattle.drive.specs.Drive.{shapeOf, isChanging, keptOld, blankDrive};
+ghost use Rattle.drive.specs.Drive.{shapeOf, isChanging, gaugeOf, headed, keptOld, blankDrive};
 ghost use Rattle.drive.specs.Head.{stateByte, numbersOf, checkIn, frontIn, frontFrom, headOf};
-ghost use Rattle.drive.specs.Opening.{epochFits, inForm, headStands, openingOf};
+ghost use Rattle.drive.specs.Opening.{epochFits, inForm, measureOf, headStands, openingOf};
 
 // "State is either steady or changing, and changing carries the epoch being left."
 pub enum State {
@@ -74,6 +75,44 @@ pub fn is_changing(state: State) -> bool
     match state {
         State::Steady => false,
         State::Changing(_) => true,
+    }
+}
+
+// What the drive's records are held against.
+pub fn gauge_of(d: Drive) -> Gauge
+    ensures { λ r. ⌜ r ≡ gaugeOf d ⌝ }
+{
+    let state = d.state;
+    Gauge {
+        epoch: d.epoch,
+        changing: is_changing(state),
+    }
+}
+
+// The drive under another head: its shape and its salt stay.
+pub fn headed(
+    d: Drive,
+    state: State,
+    epoch: u16,
+    counter: u64,
+    node: [u8; 32],
+    present: [u8; 32],
+    old: [u8; 32],
+) -> Drive
+    ensures { λ r. ⌜ r ≡ headed d state epoch counter node present old ⌝ }
+{
+    let salt = d.salt;
+    Drive {
+        n: d.n,
+        p: d.p,
+        f: d.f,
+        salt: salt,
+        state: state,
+        epoch: epoch,
+        counter: counter,
+        node: node,
+        present: present,
+        old: old,
     }
 }
 
@@ -191,6 +230,19 @@ pub fn in_form(d: Drive) -> bool
     }
 }
 
+// Tests 1 and 2: the drive in form, and the volume as long as its shape asks.
+pub fn measure(d: Drive, vol: &[u8]) -> Answer
+    ensures { λ r. ⌜ r ≡ measureOf d (now (vol .entry)) ⌝ }
+{
+    if in_form(d) {
+        if vol.len() == layout::length_of(shape_of(d)) {
+            return Answer::Accepted;
+        }
+        return Answer::Length;
+    }
+    Answer::Limits
+}
+
 // Test 7 head, of a volume as long as the drive's shape asks.
 fn head_stands(d: Drive, vol: &[u8]) -> bool
     requires { ⌜ (inLimits (shapeOf d) ≡ true) × (length (now vol) ≡ lengthOf (shapeOf d)) ⌝ }
@@ -211,14 +263,12 @@ fn head_stands(d: Drive, vol: &[u8]) -> bool
 pub fn opening(d: Drive, vol: &[u8]) -> Answer
     ensures { λ r. ⌜ r ≡ openingOf d (now (vol .entry)) ⌝ }
 {
-    if in_form(d) {
-        if vol.len() == layout::length_of(shape_of(d)) {
-            if head_stands(d, vol) {
-                return Answer::Accepted;
-            }
-            return Answer::Altered(Place::Head);
+    let a = measure(d, vol);
+    if answers::accepted(a) {
+        if head_stands(d, vol) {
+            return a;
         }
-        return Answer::Length;
+        return Answer::Altered(Place::Head);
     }
-    Answer::Limits
+    a
 }

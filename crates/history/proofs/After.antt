@@ -21,7 +21,7 @@ use Rattle.records.specs.Rule.{touchedBy, keycountAfter, journalAfter, epochAft
 use Rattle.records.proofs.RuleLaws.{well-formed-after, widths-after}
 use Rattle.keys.specs.Keys.{nuggetKey}
 use Rattle.drive.specs.declared.Drive.{Drive}
-use Rattle.drive.specs.Drive.{shapeOf, isChanging, keptOld}
+use Rattle.drive.specs.Drive.{shapeOf, gaugeOf, keptOld}
 use Rattle.drive.specs.Head.{headOf}
 use Rattle.drive.specs.Opening.{inForm}
 use Rattle.nuggets.specs.Nugget.{secretFor, keyFor}
@@ -159,6 +159,6 @@ module _ (d : Drive) (v : List ℕ) (way : ℕ → Way) (new : ℕ → ℕ → L
       record {
         opens = settled-opens e u (x .salted) form-after (worked-lent d v way new lent (x .long) .size) refl;
         good = settled-good s e u head-long (worked-good d v way new lent (x .long) (x .was .good));
-        well = λ n h. rw (record-after n h) (well-formed-after (d .p) (way n) (d .epoch) (isChanging (d .state)) (recordOf (shapeOf d) v n) (touched-low n h) (x .was .well n h));
+        well = λ n h. rw (record-after n h) (well-formed-after (d .p) (way n) (gaugeOf d) (recordOf (shapeOf d) v n) (touched-low n h) (x .was .well n h));
         tags = λ n f h l on. tag-after n f h l on;
       }

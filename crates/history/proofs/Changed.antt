@@ -18,7 +18,7 @@ use Rattle.records.specs.Rule.{touchedBy, turned, atTop}
 use Rattle.drive.specs.declared.Drive.{Drive}
 use Rattle.drive.specs.declared.State.{State}
 use Rattle.drive.specs.declared.State.the-variants.{Steady, Changing}
-use Rattle.drive.specs.Drive.{shapeOf, isChanging, keptOld, counterTop}
+use Rattle.drive.specs.Drive.{shapeOf, gaugeOf, isChanging, keptOld, counterTop}
 use Rattle.changes.specs.Change.{padsFor, worked, advanced, settled}
 use Rattle.ledger.specs.Totals.{risen}
 use Rattle.ledger.specs.Ledger.{Ledger}
@@ -68,9 +68,9 @@ module _ (w : World) (x : Sound w) (way : ℕ → Way) (new : ℕ → ℕ → Li
       record {
         keycountWidth = omega (arith, x .inv .below n h, x .handed .counter-lt);
         journalWidth =
-            lt-of-lt-of-le (formed-journal (d .p) (d .epoch) (isChanging (d .state)) (recordOf (shapeOf d) v n) formed)
+            lt-of-lt-of-le (formed-journal (d .p) (gaugeOf d) (recordOf (shapeOf d) v n) formed)
             (pow-mono (limits (shapeOf d) (untouched-lent d v (x .untouched) .limited) .narrow));
-        epochWidth = low (formed-epoch (d .p) (d .epoch) (isChanging (d .state)) (recordOf (shapeOf d) v n) formed);
+        epochWidth = low (formed-epoch (d .p) (gaugeOf d) (recordOf (shapeOf d) v n) formed);
       }
     where
       low : (recordOf (shapeOf d) v n .epoch ≡ d .epoch) ⊎ ((isChanging (d .state) ≡ true) × (recordOf (shapeOf d) v n .epoch + 1 ≡ d .epoch)) → recordOf (shapeOf d) v n .epoch < 2 ^ 16

@@ -18,7 +18,7 @@ use Rattle.opening.specs.Format.{freshDrive}
 use Rattle.changes.specs.Change.{advanced}
 use Rattle.changes.specs.Write.{writeAnswer, writeDone}
 use Rattle.changes.specs.Rekey.{beginAnswer, begunDrive, beginDone, sweepAnswer, sweepDone, finishAnswer, finishedDrive, finishDone}
-use Rattle.history.specs.World.{World, Call, mount, read, write, begin, sweep, finish, report, stored}
+use Rattle.history.specs.World.{World, Call, mount, write, begin, sweep, finish, asks}
 use Rattle.history.specs.Step.{answerTo, left, step}
 use Rattle.history.specs.History.{begun, history}
 use Rattle.history.specs.Answers.{changing, isLeft, Columns, columns, columnsOf, columnsAfter, ColumnsStart, ColumnsFollow, BeginLeavesAll}
@@ -78,13 +78,11 @@ module _ (w : World) where
   pub follows : Sound w → (c : Call) → columnsOf (step w c) ≡ pick (accepts (answerTo w c)) (columnsAfter (columnsOf w) c) (columnsOf w)
   unfolding step
   follows x (mount any) = ap columnsOf (mount-same w x any) ∙ either-way (accepts (answerTo w (mount any))) (columnsOf w)
-  follows x (read o buffer) = either-way (accepts (answerTo w (read o buffer))) (columnsOf w)
   follows x (write o bytes) = write-follows o bytes
   follows x (begin secret) = begin-follows secret
   follows x (sweep n) = sweep-follows n
   follows x finish = finish-follows
-  follows x report = either-way (accepts (answerTo w report)) (columnsOf w)
-  follows x (stored n f) = either-way (accepts (answerTo w (stored n f))) (columnsOf w)
+  follows x (asks q) = either-way (accepts (answerTo w (asks q))) (columnsOf w)
 
 pub columns-start : ColumnsStart
 unfolding begun freshDrive

@@ -8,19 +8,19 @@ use lib.Dec.{leb}
 use lib.ListN.{length}
 use borrow.Author.Tests.{eq-eqb, le-leb, leb-true}
 use Rattle.base.specs.Lists.{part, same}
-use Rattle.base.proofs.PickLaws.{yes, both-left, both-right, both-on, clash}
+use Rattle.base.proofs.PickLaws.{both-left, both-right, both-on, clash}
 use Rattle.base.proofs.FoldLaws.{same-true, same-refl}
 use Rattle.answers.specs.declared.Answer.the-variants as A
 use Rattle.layout.specs.Shape.{inLimits}
 use Rattle.layout.specs.Lent.{Lent}
 use Rattle.layout.specs.Parts.{lengthOf, nodeAt}
 use Rattle.records.specs.declared.Record.{Record}
-use Rattle.records.specs.Record.{wellFormed, recordOf}
+use Rattle.records.specs.Record.{against, wellFormed, recordOf}
 use Rattle.nodes.specs.Nodes.{nodeIn}
 use Rattle.drive.specs.declared.Drive.{Drive}
 use Rattle.drive.specs.declared.State.{State}
 use Rattle.drive.specs.declared.State.the-variants.{Steady, Changing}
-use Rattle.drive.specs.Drive.{shapeOf, isChanging}
+use Rattle.drive.specs.Drive.{shapeOf, isChanging, headed}
 use Rattle.drive.specs.Head.{headOf}
 use Rattle.drive.specs.Opening.{epochFits as driveFits, inForm, headStands, openingOf}
 use Rattle.drive.proofs.HeadLaws.{form-limits}
@@ -31,12 +31,12 @@ use Rattle.changes.specs.Change.{settled}
 use Rattle.changes.proofs.PutLaws.{Same}
 use Rattle.changes.proofs.SettleLaws.{settled-lent, settled-head, settled-record, settled-same, settled-node, settled-good}
 use Rattle.history.proofs.Quiet.{Untouched}
-use Rattle.drive.proofs.OpeningLaws.{opening-told}
+use Rattle.drive.proofs.OpeningLaws.{opening-told, opening-by}
 
 -- a drive in form opens the volume on which its head was stored last
 pub settled-opens : (d : Drive) (w : List ℕ) → length (d .salt) ≡ 16 → inForm d ≡ true → length w ≡ lengthOf (shapeOf d) → nodeIn (shapeOf d) w 1 ≡ d .node
     → openingOf d (settled d w) ≡ A.Accepted
-unfolding openingOf headStands
+unfolding headStands
 settled-opens d w salted form size node =
     let long = length-head d salted in
     let lent : Lent (shapeOf d) w = record { limited = form-limits d form; size = size } in
@@ -44,7 +44,7 @@ settled-opens d w salted form size node =
     let head : same (part 0 104 u) (headOf d) ≡ true = ap (λ (l : List ℕ). same l (headOf d)) (settled-head (shapeOf d) d w long lent) ∙ same-refl (headOf d) in
     let top : same (part (nodeAt (shapeOf d) 1) 32 u) (d .node) ≡ true =
     ap (λ (l : List ℕ). same l (d .node)) (settled-node (shapeOf d) d w long 1 (omega arith) ∙ node) ∙ same-refl (d .node) in
-    yes _ form (yes _ (eq-eqb (length u) (lengthOf (shapeOf d)) (settled-lent (shapeOf d) d w long lent .size)) (yes _ (both-on head top) refl))
+    opening-by d u form (settled-lent (shapeOf d) d w long lent .size) (both-on head top)
 
 -- what an untouched volume's length and node 1 are
 pub untouched-size : {d : Drive} {v : List ℕ} → Untouched d v → length v ≡ lengthOf (shapeOf d)
@@ -62,26 +62,10 @@ pub tag-kept : (d e : Drive) (v w : List ℕ) (n f : ℕ) → shapeOf e ≡ shap
 unfolding goodFlake keyFor
 tag-kept d e v w n f shaped salted kept keycounts secrets h = rw (shaped, kept .tag, kept .stored, keycounts, secrets, salted) h
 
--- a drive of the same shape, salt and node 1 under another head
-abbrev pub headed : Drive → State → ℕ → ℕ → List ℕ → List ℕ → Drive
-headed d state epoch counter present old =
-    record {
-      n = d .n;
-      p = d .p;
-      f = d .f;
-      salt = d .salt;
-      state = state;
-      epoch = epoch;
-      counter = counter;
-      node = d .node;
-      present = present;
-      old = old;
-    }
-
--- its head stored over an untouched volume: the records have to fit it, and it has to name their secrets as before
+-- a head stored over an untouched volume, node 1 as it is: the records have to fit it, and it has to name their secrets as before
 module _ (d : Drive) (v : List ℕ) (x : Untouched d v) (salted : length (d .salt) ≡ 16) (state : State) (epoch counter : ℕ) (present old : List ℕ) where
   abbrev e : Drive
-  e = headed d state epoch counter present old
+  e = headed d state epoch counter (d .node) present old
 
   long : length (headOf e) ≡ 104
   long = length-head e salted
@@ -96,7 +80,7 @@ module _ (d : Drive) (v : List ℕ) (x : Untouched d v) (salted : length (d .sal
   unfolding inForm
   form fits = both-on (form-limits d (opening-told d v (x .opens) .form)) fits
 
-  pub headed-untouched : driveFits state epoch ≡ true → ((n : ℕ) → n < d .n → wellFormed (d .p) epoch (isChanging state) (recordOf (shapeOf d) v n) ≡ true)
+  pub headed-untouched : driveFits state epoch ≡ true → ((n : ℕ) → n < d .n → wellFormed (d .p) (against epoch (isChanging state)) (recordOf (shapeOf d) v n) ≡ true)
       → ((n : ℕ) → n < d .n → secretFor e (recordOf (shapeOf d) v n .epoch) ≡ secretFor d (recordOf (shapeOf d) v n .epoch)) → Untouched e (settled e v)
   headed-untouched fits formed secrets =
       record {

@@ -14,7 +14,7 @@ use Rattle.records.specs.declared.Record.{Record}
 use Rattle.records.specs.Rule.{turned, epochAfter}
 use Rattle.records.proofs.RuleLaws.{formed-epoch}
 use Rattle.records.specs.Record.{recordOf}
-use Rattle.drive.specs.Drive.{shapeOf, counterTop}
+use Rattle.drive.specs.Drive.{shapeOf, gaugeOf, counterTop}
 use Rattle.opening.proofs.Reopens.{length-head}
 use Rattle.changes.specs.Change.{advanced}
 use Rattle.changes.specs.Rekey.{epochTop, beginAnswer, begunDrive, beginDone, beginVolume, sweepAnswer, sweepWays, sweptDrive, sweepDone, sweepVolume, finishedDrive, finishDone}
@@ -53,7 +53,7 @@ module _ (w : World) (x : Sound w) where
 
   -- in a steady drive each record's epoch is the head's
   pub steady-epoch : changing w ≡ false → (n : ℕ) → n < w .drive .n → recordOf (shapeOf (w .drive)) (w .vol) n .epoch ≡ w .drive .epoch
-  steady-epoch steady n h = go (formed-epoch (w .drive .p) (w .drive .epoch) (changing w) (recordOf (shapeOf (w .drive)) (w .vol) n) (x .inv .formed n h))
+  steady-epoch steady n h = go (formed-epoch (w .drive .p) (gaugeOf (w .drive)) (recordOf (shapeOf (w .drive)) (w .vol) n) (x .inv .formed n h))
     where
       go : (recordOf (shapeOf (w .drive)) (w .vol) n .epoch ≡ w .drive .epoch) ⊎ ((changing w ≡ true) × (recordOf (shapeOf (w .drive)) (w .vol) n .epoch + 1 ≡ w .drive .epoch))
           → recordOf (shapeOf (w .drive)) (w .vol) n .epoch ≡ w .drive .epoch

@@ -20,7 +20,7 @@ use Rattle.tree.specs.Good.{AllGood}
 use Rattle.tree.proofs.PathLaws.{good-path}
 use Rattle.tree.proofs.WholeLaws.{good-whole}
 use Rattle.drive.specs.declared.Drive.{Drive}
-use Rattle.drive.specs.Drive.{shapeOf, isChanging}
+use Rattle.drive.specs.Drive.{shapeOf, gaugeOf}
 use Rattle.drive.specs.Opening.{openingOf}
 use Rattle.drive.proofs.OpeningLaws.{opening-lent}
 use Rattle.nuggets.specs.declared.Nugget.{Nugget}
@@ -32,7 +32,7 @@ use Rattle.reports.specs.Report.{reportAnswer}
 pub record Untouched (d : Drive) (v : List ℕ) : Type 0 where
   pub opens : openingOf d v ≡ A.Accepted
   pub good : AllGood (shapeOf d) v
-  pub well : (n : ℕ) → n < d .n → formed (shapeOf d) (d .epoch) (isChanging (d .state)) v n ≡ true
+  pub well : (n : ℕ) → n < d .n → formed (shapeOf d) (gaugeOf d) v n ≡ true
   pub tags : (n f : ℕ) → n < d .n → f < d .p → bit (recordOf (shapeOf d) v n .journal) f ≡ true → flakeGood d v n f ≡ true
 
 -- flakes that pass one by one
@@ -51,10 +51,10 @@ module _ (d : Drive) (v : List ℕ) (x : Untouched d v) where
   untouched-lent = opening-lent d v (ap accepts (x .opens))
 
   pub path-quiet : (n : ℕ) → n < d .n → pathFor d v n ≡ A.Accepted
-  path-quiet n h = good-path (shapeOf d) (d .epoch) (isChanging (d .state)) v n untouched-lent h (x .good) (x .well n h)
+  path-quiet n h = good-path (shapeOf d) (gaugeOf d) v n untouched-lent h (x .good) (x .well n h)
 
-  pub whole-quiet : wholeOf (shapeOf d) (d .epoch) (isChanging (d .state)) v ≡ A.Accepted
-  whole-quiet = good-whole (shapeOf d) (d .epoch) (isChanging (d .state)) v untouched-lent (x .good) (x .well)
+  pub whole-quiet : wholeOf (shapeOf d) (gaugeOf d) v ≡ A.Accepted
+  whole-quiet = good-whole (shapeOf d) (gaugeOf d) v untouched-lent (x .good) (x .well)
 
   -- flakes of a set within the journal
   pub flakes-quiet : (n mask : ℕ) → n < d .n → ((f : ℕ) → bit mask f ≡ true → bit (recordOf (shapeOf d) v n .journal) f ≡ true) → flakesOf d v n mask ≡ A.Accepted

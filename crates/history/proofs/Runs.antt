@@ -11,7 +11,7 @@ use Rattle.base.specs.Pick.{pick, both}
 use Rattle.base.proofs.PickLaws.{yes, both-on, either-off}
 use Rattle.answers.specs.declared.Answer.the-variants as A
 use Rattle.answers.specs.Numbers.{accepts}
-use Rattle.history.specs.World.{World, Call, mount, read, write, begin, sweep, finish, report, stored}
+use Rattle.history.specs.World.{World, Call, mount, write, begin, sweep, finish, asks}
 use Rattle.history.specs.Step.{answerTo, left, mounted, step, writesAt}
 use Rattle.history.specs.History.{run, among}
 
@@ -30,14 +30,12 @@ kept false inside x y e = refl
 step-kept : (a : ℕ) (w : World) (c : Call) → writesAt a w c ≡ false → step w c .contents a ≡ w .contents a
 unfolding step left mounted
 step-kept a w (mount any) e = refl
-step-kept a w (read o buffer) e = refl
 step-kept a w (write o bytes) e =
     kept (accepts (answerTo w (write o bytes))) (both (leb o a) (ltb a (o + length bytes))) (getD bytes (a - o) 0) (w .contents a) e
 step-kept a w (begin secret) e = refl
 step-kept a w (sweep n) e = refl
 step-kept a w finish e = refl
-step-kept a w report e = refl
-step-kept a w (stored n f) e = refl
+step-kept a w (asks q) e = refl
 
 pub run-kept : (a : ℕ) (w : World) (calls : List Call) → among (writesAt a) w calls ≡ false → run w calls .contents a ≡ w .contents a
 unfolding run among

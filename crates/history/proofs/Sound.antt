@@ -12,7 +12,7 @@ use Rattle.records.specs.declared.Record.{Record}
 use Rattle.drive.specs.declared.Drive.{Drive}
 use Rattle.drive.specs.declared.State.{State}
 use Rattle.drive.specs.declared.State.the-variants.{Steady, Changing}
-use Rattle.drive.specs.Drive.{shapeOf, isChanging, zeros, counterTop}
+use Rattle.drive.specs.Drive.{shapeOf, isChanging, headed, zeros, counterTop}
 use Rattle.drive.specs.Opening.{epochFits}
 use Rattle.nuggets.specs.Nugget.{secretFor}
 use Rattle.opening.proofs.Reopens.{Handed}
@@ -34,7 +34,7 @@ use Rattle.history.specs.Demands.{plainIn}
 use Rattle.history.proofs.Counts.{many-all}
 use Rattle.history.proofs.Quiet.{Untouched}
 use Rattle.history.proofs.View.{kitOf, viewOf, ledgerOf}
-use Rattle.history.proofs.Heads.{headed, headed-record, headed-stored, headed-untouched, begin-fits, finish-fits}
+use Rattle.history.proofs.Heads.{headed-record, headed-stored, headed-untouched, begin-fits, finish-fits}
 use Rattle.records.specs.Record.{recordOf}
 
 pub record Sound (w : World) : Type 0 where
@@ -109,7 +109,7 @@ module _ (w : World) (x : Sound w) where
     d = w .drive
 
     abbrev e : Drive
-    e = headed (w .drive) state epoch counter present old
+    e = headed (w .drive) state epoch counter (w .drive .node) present old
 
     abbrev z : List ℕ
     z = settled e (w .vol)

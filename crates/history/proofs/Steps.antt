@@ -23,7 +23,7 @@ use Rattle.drive.specs.declared.Drive.{Drive}
 use Rattle.drive.specs.declared.Done.{Done}
 use Rattle.drive.specs.declared.State.{State}
 use Rattle.drive.specs.declared.State.the-variants.{Steady, Changing}
-use Rattle.drive.specs.Drive.{shapeOf, isChanging, keptOld}
+use Rattle.drive.specs.Drive.{shapeOf, gaugeOf, isChanging, keptOld}
 use Rattle.opening.specs.Format.{freshRecord, planted, freshDrive, freshVolume, formatDone, formatVolume}
 use Rattle.opening.specs.Mount.{mountDone}
 use Rattle.opening.proofs.FormatLaws.{format-lent}
@@ -38,7 +38,7 @@ use Rattle.changes.proofs.SettleLaws.{settled-record}
 use Rattle.ledger.specs.Invariant.{Inv}
 use Rattle.ledger.proofs.CalmLaws.{starts}
 use Rattle.ledger.proofs.OnwardLaws.{onward-same}
-use Rattle.history.specs.World.{World, Call, mount, read, write, begin, sweep, finish, report, stored}
+use Rattle.history.specs.World.{World, Call, mount, write, begin, sweep, finish, asks}
 use Rattle.history.specs.Step.{oldFor, overlaid, mounted, step}
 use Rattle.history.specs.History.{Start, begun, run, history}
 use Rattle.history.specs.Demands.{plainIn}
@@ -69,8 +69,8 @@ module _ (a p f : ℕ) (salt secret : List ℕ) (outside : ℕ) (salted : length
       let whole = fresh-whole s salt secret outside salted limited in
       record {
         opens = fresh-opens s salt secret outside salted limited;
-        good = whole-good s 1 false v whole;
-        well = whole-formed s 1 false v whole;
+        good = whole-good s (gaugeOf d) v whole;
+        well = whole-formed s (gaugeOf d) v whole;
         tags = λ n f h l on. absurd (clash on (ap (λ (r : Record). bit (r .journal) f) (numbers-record n h) ∙ bit-empty f));
       }
 
@@ -197,13 +197,11 @@ unchanged w x = record { sound = x; onward = onward-same (kitOf (w .drive)) (led
 pub step-keeps : (w : World) (c : Call) → Sound w → Keeps w (step w c)
 unfolding step
 step-keeps w (mount any) x = rw (mount-same w x any) (unchanged w x)
-step-keeps w (read o buffer) x = unchanged w x
 step-keeps w (write o bytes) x = write-keeps w x o bytes
 step-keeps w (begin secret) x = begin-keeps w x secret
 step-keeps w (sweep n) x = sweep-keeps w x n
 step-keeps w finish x = finish-keeps w x
-step-keeps w report x = unchanged w x
-step-keeps w (stored n f) x = unchanged w x
+step-keeps w (asks q) x = unchanged w x
 
 pub step-sound : (w : World) (c : Call) → Sound w → Sound (step w c)
 step-sound w c x = step-keeps w c x .sound

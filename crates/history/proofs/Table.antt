@@ -18,7 +18,7 @@ use Rattle.reading.proofs.Exact.{read-exact}
 use Rattle.reports.proofs.Exact.{stored-exact}
 use Rattle.changes.proofs.Exact.{Clean, write-exact, begin-exact, sweep-exact, finish-exact}
 use Rattle.records.specs.Record.{recordOf}
-use Rattle.history.specs.World.{World, Call, mount, read, write, begin, sweep, finish, report, stored}
+use Rattle.history.specs.World.{World, Call, mount, write, begin, sweep, finish, asks, read, report, stored}
 use Rattle.history.specs.Step.{answerTo}
 use Rattle.history.specs.History.{history}
 use Rattle.history.specs.Demands.{NoFalseAlarm}
@@ -42,13 +42,13 @@ module _ (w : World) (x : Sound w) where
   pub exactly : (c : Call) → answerTo w c ≡ due w c
   unfolding mountDone
   exactly (mount any) = ap (λ (done : Done). done .answer) (mount-back w x any)
-  exactly (read o buffer) = read-exact (w .drive) (w .vol) (x .untouched .opens) (nugget-read (w .drive) (w .vol) (x .untouched)) o (length buffer)
   exactly (write o bytes) = write-exact (w .drive) (w .vol) clean o (length bytes)
   exactly (begin secret) = rw (← x .present) (begin-exact (w .drive) (w .vol) clean secret)
   exactly (sweep n) = sweep-exact (w .drive) (w .vol) clean n
   exactly finish = finish-exact (w .drive) (w .vol) clean
-  exactly report = report-accepts (w .drive) (w .vol) (x .untouched)
-  exactly (stored n f) = stored-exact (w .drive) (w .vol) (x .untouched .opens) n f
+  exactly (asks (read o buffer)) = read-exact (w .drive) (w .vol) (x .untouched .opens) (nugget-read (w .drive) (w .vol) (x .untouched)) o (length buffer)
+  exactly (asks report) = report-accepts (w .drive) (w .vol) (x .untouched)
+  exactly (asks (stored n f)) = stored-exact (w .drive) (w .vol) (x .untouched .opens) n f
 
 pub answers-exactly : AnswersExactly
 answers-exactly start calls c = exactly (history start calls) (sound start calls) c
@@ -64,7 +64,6 @@ quiet-pick false p q = q
 
 due-quiet : (w : World) (c : Call) → Quiet (due w c)
 due-quiet w (mount any) = inl refl
-due-quiet w (read o buffer) = quiet-pick (inRange w o (length buffer)) (inl refl) (inr (omega arith))
 due-quiet w (write o bytes) =
     quiet-pick (inRange w o (length bytes))
     (quiet-pick (eqb (length bytes) 0) (inl refl) (quiet-pick (counterFull w) (inr (omega arith)) (inl refl)))
@@ -83,8 +82,9 @@ due-quiet w finish =
     quiet-pick (changing w)
     (quiet-pick (ltb 0 (nuggetsLeft w)) (inr (omega arith)) (quiet-pick (counterFull w) (inr (omega arith)) (inl refl)))
     (inr (omega arith))
-due-quiet w report = inl refl
-due-quiet w (stored n f) = quiet-pick (both (ltb n (w .drive .n)) (ltb f (w .drive .p))) (inl refl) (inr (omega arith))
+due-quiet w (asks (read o buffer)) = quiet-pick (inRange w o (length buffer)) (inl refl) (inr (omega arith))
+due-quiet w (asks report) = inl refl
+due-quiet w (asks (stored n f)) = quiet-pick (both (ltb n (w .drive .n)) (ltb f (w .drive .p))) (inl refl) (inr (omega arith))
 
 pub no-false-alarm : NoFalseAlarm
 no-false-alarm start calls c = rw (answers-exactly start calls c) (due-quiet (history start calls) c)

@@ -24,7 +24,7 @@ use Rattle.reports.specs.declared.told.Report.{Report}
 use Rattle.reports.specs.Report.{reportOf}
 use Rattle.ledger.specs.Listing.{lastOf}
 use Rattle.ledger.specs.Totals.{sum}
-use Rattle.history.specs.World.{World, Call, mount, read, write, begin, sweep, finish, report, stored}
+use Rattle.history.specs.World.{World, Call, mount, write, begin, sweep, finish, asks, read, report, stored}
 use Rattle.history.specs.Step.{answerTo, step}
 use Rattle.history.specs.History.{Start, begun, run, history}
 
@@ -63,7 +63,6 @@ inRange w o len = leb (o + len) (w .drive .n * w .drive .p * w .drive .f)
 -- 15: epoch at its top. 1 to 7 aren't in it, nor is 14: no keycount is above the counter, so 13 comes first.
 abbrev pub due : World → Call → Answer
 due w (mount any) = A.Accepted
-due w (read o buffer) = A.PastEnd unless inRange w o (length buffer) else A.Accepted
 due w (write o bytes) =
     A.PastEnd unless inRange w o (length bytes)
     else A.Accepted if eqb (length bytes) 0
@@ -86,8 +85,9 @@ due w finish =
     else A.Left (nuggetsLeft w) if ltb 0 (nuggetsLeft w)
     else A.CounterTop if counterFull w
     else A.Accepted
-due w report = A.Accepted
-due w (stored n f) = A.PastEnd unless both (ltb n (w .drive .n)) (ltb f (w .drive .p)) else A.Accepted
+due w (asks (read o buffer)) = A.PastEnd unless inRange w o (length buffer) else A.Accepted
+due w (asks report) = A.Accepted
+due w (asks (stored n f)) = A.PastEnd unless both (ltb n (w .drive .n)) (ltb f (w .drive .p)) else A.Accepted
 
 -- In every history each call answers what the table says, and nothing else.
 abbrev pub AnswersExactly : Type 0
@@ -109,13 +109,11 @@ columnsOf w = columns (changing w) (w .drive .epoch) (w .drive .counter) (w .sec
 -- after an accepted call
 abbrev pub columnsAfter : Columns → Call → Columns
 columnsAfter k (mount any) = k
-columnsAfter k (read o buffer) = k
 columnsAfter k (write o bytes) = columns (k .begun) (k .epoch) (k .counter + pick (eqb (length bytes) 0) 0 1) (k .secret)
 columnsAfter k (begin secret) = columns true (k .epoch + 1) (k .counter + 1) secret
 columnsAfter k (sweep n) = columns (k .begun) (k .epoch) (k .counter + 1) (k .secret)
 columnsAfter k finish = columns false (k .epoch) (k .counter + 1) (k .secret)
-columnsAfter k report = k
-columnsAfter k (stored n f) = k
+columnsAfter k (asks q) = k
 
 -- "epochs are 1; the counter is the outside value plus 1"
 abbrev pub ColumnsStart : Type 0

@@ -35,7 +35,7 @@ use Rattle.reading.specs.Read.{readBuffer}
 use Rattle.reports.specs.Counts.{flakesIn}
 use Rattle.reports.specs.Report.{reportOf}
 use Rattle.ledger.specs.Listing.{lastOf, NoneTwice}
-use Rattle.history.specs.World.{World, Call, read, write}
+use Rattle.history.specs.World.{World, Call, asks, read, write}
 use Rattle.history.specs.Step.{oldFor, answerTo, step, changesBy, writesAt}
 use Rattle.history.specs.History.{Start, begun, history, among}
 use Rattle.records.specs.Record.{recordOf}
@@ -53,7 +53,7 @@ abbrev pub ReadsBack : Type 0
 ReadsBack =
     (start : Start) (calls : List Call) (o : ℕ) (buffer : List ℕ)
     → let w = history start calls in
-    answerTo w (read o buffer) ≡ A.Accepted
+    answerTo w (asks (read o buffer)) ≡ A.Accepted
     → readBuffer (w .drive) (w .vol) o buffer ≡ tab (length buffer) (λ i. w .contents (o + i))
 
 -- What was last written: byte i of an accepted write, if no accepted write after it covers the place.

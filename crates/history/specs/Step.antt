@@ -18,7 +18,7 @@ use Rattle.changes.specs.Laid.{over}
 use Rattle.changes.specs.Write.{writeAnswer, writes, writeDone, writeVolume, writePads}
 use Rattle.changes.specs.Rekey.{beginAnswer, beginDone, beginVolume, sweepAnswer, sweepDone, sweepVolume, sweepPads, finishAnswer, finishDone, finishVolume}
 use Rattle.ledger.specs.Totals.{risen}
-use Rattle.history.specs.World.{World, Call, mount, read, write, begin, sweep, finish, report, stored}
+use Rattle.history.specs.World.{World, Call, mount, write, begin, sweep, finish, asks, read, report, stored}
 use Rattle.records.specs.Record.{recordOf}
 
 -- "Mount takes both secrets (the old one unused when steady)": the right one while changing, anything when steady
@@ -28,13 +28,13 @@ oldFor w any = pick (isChanging (w .drive .state)) (w .old) any
 -- what a call answers
 abbrev pub answerTo : World → Call → Answer
 answerTo w (mount any) = mountAnswer (w .vol) (w .secret) (oldFor w any) (w .outside)
-answerTo w (read o buffer) = readAnswer (w .drive) (w .vol) o (length buffer)
 answerTo w (write o bytes) = writeAnswer (w .drive) (w .vol) o (length bytes)
 answerTo w (begin secret) = beginAnswer (w .drive) (w .vol) secret
 answerTo w (sweep n) = sweepAnswer (w .drive) (w .vol) n
 answerTo w finish = finishAnswer (w .drive) (w .vol)
-answerTo w report = reportAnswer (w .drive) (w .vol)
-answerTo w (stored n f) = storedAnswer (w .drive) (w .vol) n f
+answerTo w (asks (read o buffer)) = readAnswer (w .drive) (w .vol) o (length buffer)
+answerTo w (asks report) = reportAnswer (w .drive) (w .vol)
+answerTo w (asks (stored n f)) = storedAnswer (w .drive) (w .vol) n f
 
 -- what a call that may change the volume leaves in the user's hands; the outside counter "advances to the value each
 -- changing call returns", and what is retired goes by the records before and after alone
@@ -72,7 +72,6 @@ mounted w drive =
 -- "each given the volume as last left and the drive as last returned"
 unfoldable pub step : World → Call → World
 step w (mount any) = mounted w (mountDone (w .vol) (w .secret) (oldFor w any) (w .outside) .drive)
-step w (read o buffer) = w
 step w (write o bytes) =
     left w (writeDone (w .drive) (w .vol) o bytes .drive) (writeVolume (w .drive) (w .vol) o bytes) (writePads (w .drive) (w .vol) o bytes) (w .secret) (w .old)
     (overlaid w o bytes)
@@ -83,27 +82,22 @@ step w (begin secret) =
 step w (sweep n) =
     left w (sweepDone (w .drive) (w .vol) n .drive) (sweepVolume (w .drive) (w .vol) n) (sweepPads (w .drive) (w .vol) n) (w .secret) (w .old) (w .contents)
 step w finish = left w (finishDone (w .drive) (w .vol) .drive) (finishVolume (w .drive) (w .vol)) [] (w .secret) (w .old) (w .contents)
-step w report = w
-step w (stored n f) = w
+step w (asks q) = w
 
 -- "Each accepted format, nonempty write, begin, sweep and finish adds 1 to the counter": the call is an accepted change
 abbrev pub changesBy : World → Call → Bool
 changesBy w (mount any) = false
-changesBy w (read o buffer) = false
 changesBy w (write o bytes) = writes (answerTo w (write o bytes)) bytes
 changesBy w (begin secret) = accepts (answerTo w (begin secret))
 changesBy w (sweep n) = accepts (answerTo w (sweep n))
 changesBy w finish = accepts (answerTo w finish)
-changesBy w report = false
-changesBy w (stored n f) = false
+changesBy w (asks q) = false
 
 -- the call is an accepted write over offset a
 abbrev pub writesAt : ℕ → World → Call → Bool
 writesAt a w (mount any) = false
-writesAt a w (read o buffer) = false
 writesAt a w (write o bytes) = both (accepts (answerTo w (write o bytes))) (both (leb o a) (ltb a (o + length bytes)))
 writesAt a w (begin secret) = false
 writesAt a w (sweep n) = false
 writesAt a w finish = false
-writesAt a w report = false
-writesAt a w (stored n f) = false
+writesAt a w (asks q) = false

@@ -20,12 +20,18 @@ pub record World : Type 0 where
   -- the byte last written at each offset, 0 where none was
   pub contents : ℕ → ℕ
 
+-- a call that changes nothing
+pub data Ask : Type 0 where
+  -- offset and buffer
+  read : ℕ → List ℕ → Ask
+  report : Ask
+  -- nugget and flake
+  stored : ℕ → ℕ → Ask
+
 -- "Make any calls after it": each with any arguments
 pub data Call : Type 0 where
   -- what is brought as the old secret of a steady drive, where it is "unused"
   mount : List ℕ → Call
-  -- offset and buffer
-  read : ℕ → List ℕ → Call
   -- offset and bytes
   write : ℕ → List ℕ → Call
   -- the new secret
@@ -33,6 +39,4 @@ pub data Call : Type 0 where
   -- the nugget
   sweep : ℕ → Call
   finish : Call
-  report : Call
-  -- nugget and flake
-  stored : ℕ → ℕ → Call
+  asks : Ask → Call

@@ -13,7 +13,7 @@ use Rattle.records.specs.Record.{recordBytes, recordOf}
 use Rattle.records.specs.Rule.{turned, atTop}
 use Rattle.tree.specs.Renewed.{renewed}
 use Rattle.drive.specs.declared.Drive.{Drive}
-use Rattle.drive.specs.Drive.{shapeOf, keptOld}
+use Rattle.drive.specs.Drive.{shapeOf, headed, keptOld}
 use Rattle.drive.specs.Head.{headOf}
 use Rattle.nodes.specs.Nodes.{nodeIn}
 use Rattle.changes.specs.Change.{idles, marked, tended, advanced, settled}
@@ -51,17 +51,6 @@ module _ (d : Drive) (v : List ℕ) where
   settled-is e ew = ew ∙ rw e
 
   pub advanced-is : {s : Shape} {node kept : List ℕ} → s ≡ shapeOf d → node ≡ nodeIn s v 1 → kept ≡ keptOld (d .state) (d .old)
-      → record {
-        n = d .n;
-        p = d .p;
-        f = d .f;
-        salt = d .salt;
-        state = d .state;
-        epoch = d .epoch;
-        counter = d .counter + 1;
-        node = node;
-        present = d .present;
-        old = kept;
-      } ≡ advanced d v
+      → headed d (d .state) (d .epoch) (d .counter + 1) node (d .present) kept ≡ advanced d v
   unfolding advanced
   advanced-is es en ek = rw (en, es, ek)

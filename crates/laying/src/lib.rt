@@ -85,20 +85,8 @@ fn advanced_drive(d: Drive, vol: &[u8]) -> Drive
     let state = d.state;
     let old = d.old;
     let kept = drive::kept_old(state, old);
-    let salt = d.salt;
     let present = d.present;
-    Drive {
-        n: d.n,
-        p: d.p,
-        f: d.f,
-        salt: salt,
-        state: state,
-        epoch: d.epoch,
-        counter: d.counter + 1,
-        node: node,
-        present: present,
-        old: kept,
-    }
+    drive::headed(d, state, d.epoch, d.counter + 1, node, present, kept)
 }
 
 // The last stores of a change of nuggets: the drive with its counter and node 1, and the head that it makes.

@@ -1,6 +1,6 @@
 -- The head's change keeps the invariant, and the formatted drive has it.
 use mathlib.Core.Path.{_≡_, refl, ap, sym, _∙_}
-use mathlib.Core.Bool.{Bool, true, false}
+use mathlib.Core.Bool.{true, false}
 use mathlib.Core.Logic.{_⊎_, inl, inr}
 use mathlib.Core.Option.{Option, some}
 use mathlib.Core.List.{List}
@@ -14,13 +14,14 @@ use Rattle.base.specs.Pick.{pick}
 use Rattle.base.proofs.PickLaws.{clash, both-on}
 use Rattle.words.specs.Xor.{xorl}
 use Rattle.records.specs.declared.Record.{Record}
+use Rattle.records.specs.declared.Gauge.{Gauge}
 use Rattle.records.specs.Journal.{bit, present as presentOf}
 use Rattle.records.specs.Record.{noneFrom, epochFits, wellFormed}
 use Rattle.records.specs.Listing.{Entry}
 use Rattle.records.proofs.BitLaws.{bit-empty, bit-below}
 use Rattle.ledger.specs.Listing.{times, lastOf}
 use Rattle.ledger.specs.Totals.{presentIn}
-use Rattle.ledger.specs.Ledger.{Kit, Ledger, secretAt, entryAt}
+use Rattle.ledger.specs.Ledger.{Kit, Ledger, gaugeIn, secretAt, entryAt}
 use Rattle.ledger.specs.Invariant.{Inv, Fresh}
 use Rattle.ledger.specs.Step.{Kept, Calm, Begun, Finished}
 use Rattle.ledger.proofs.TotalLaws.{sum-same, sum-none}
@@ -43,7 +44,7 @@ module _ (κ : Kit) (l m : Ledger) (inv : Inv κ l) (calm : Calm κ l m) where
   laid-after : (n f : ℕ) → n < κ .n → bit (m .records n .journal) f ≡ true → m .stored n f ≡ xorl (m .plain n f) (κ .pad (entryAt m n f))
   laid-after n f h e =
       let was : bit (l .records n .journal) f ≡ true = rw (same n h) at e in
-      let few : f < κ .p = bit-below (κ .p) (l .records n .journal) f (formed-journal (κ .p) (l .epoch) (l .changing) (l .records n) (inv .formed n h)) was in
+      let few : f < κ .p = bit-below (κ .p) (l .records n .journal) f (formed-journal (κ .p) (gaugeIn l) (l .records n) (inv .formed n h)) was in
       rw (entry-same n f h, calm .kept .sameStored n f h few, calm .kept .samePlain n f h few) (inv .laid n f h was)
 
   pub calms : Inv κ m
@@ -65,18 +66,17 @@ module _ (κ : Kit) (l m : Ledger) (inv : Inv κ l) (calm : Calm κ l m) where
   }
 
 -- a record whose journal and epoch pass the two tests
-formed-by : (p head : ℕ) (changing : Bool) (r : Record) → noneFrom p (r .journal) ≡ true → epochFits head changing (r .epoch) ≡ true
-    → wellFormed p head changing r ≡ true
+formed-by : (p : ℕ) (gauge : Gauge) (r : Record) → noneFrom p (r .journal) ≡ true → epochFits gauge (r .epoch) ≡ true → wellFormed p gauge r ≡ true
 unfolding wellFormed
-formed-by p head changing r j e = both-on j e
+formed-by p gauge r j e = both-on j e
 
 module _ (κ : Kit) (l : Ledger) (inv : Inv κ l) where
   none-from : (n : ℕ) → n < κ .n → noneFrom (κ .p) (l .records n .journal) ≡ true
-  none-from n h = lt-ltb (l .records n .journal) _ (formed-journal (κ .p) (l .epoch) (l .changing) (l .records n) (inv .formed n h))
+  none-from n h = lt-ltb (l .records n .journal) _ (formed-journal (κ .p) (gaugeIn l) (l .records n) (inv .formed n h))
 
   -- a steady drive's records are at the head's epoch
   pub steady-epoch : l .changing ≡ false → (n : ℕ) → n < κ .n → l .records n .epoch ≡ l .epoch
-  steady-epoch s n h = go (formed-epoch (κ .p) (l .epoch) (l .changing) (l .records n) (inv .formed n h))
+  steady-epoch s n h = go (formed-epoch (κ .p) (gaugeIn l) (l .records n) (inv .formed n h))
     where
       go : (l .records n .epoch ≡ l .epoch) ⊎ ((l .changing ≡ true) × (l .records n .epoch + 1 ≡ l .epoch)) → l .records n .epoch ≡ l .epoch
       go (inl e) = e
@@ -87,8 +87,8 @@ module _ (κ : Kit) (l m : Ledger) (inv : Inv κ l) (kept : Kept κ l m) where
   unfolding secretAt
   begin-calm b = record { kept = kept; stillFormed = formed; sameSecrets = secrets }
     where
-      formed : (n : ℕ) → n < κ .n → wellFormed (κ .p) (m .epoch) (m .changing) (l .records n) ≡ true
-      formed n h = formed-by (κ .p) (m .epoch) (m .changing) (l .records n) (none-from κ l inv n h)
+      formed : (n : ℕ) → n < κ .n → wellFormed (κ .p) (gaugeIn m) (l .records n) ≡ true
+      formed n h = formed-by (κ .p) (gaugeIn m) (l .records n) (none-from κ l inv n h)
           (rw (b .isChanging, b .epochUp, steady-epoch κ l inv (b .wasSteady) n h, ne-eqb (l .epoch) (l .epoch + 1) (λ e. omega arith), eq-eqb (l .epoch + 1) (l .epoch + 1) refl))
 
       secrets : (n : ℕ) → n < κ .n → pick (eqb (l .records n .epoch) (m .epoch)) (m .present) (m .old) ≡ pick (eqb (l .records n .epoch) (l .epoch)) (l .present) (l .old)
@@ -99,9 +99,9 @@ module _ (κ : Kit) (l m : Ledger) (inv : Inv κ l) (kept : Kept κ l m) where
   unfolding secretAt
   finish-calm b = record { kept = kept; stillFormed = formed; sameSecrets = secrets }
     where
-      formed : (n : ℕ) → n < κ .n → wellFormed (κ .p) (m .epoch) (m .changing) (l .records n) ≡ true
+      formed : (n : ℕ) → n < κ .n → wellFormed (κ .p) (gaugeIn m) (l .records n) ≡ true
       formed n h =
-          formed-by (κ .p) (m .epoch) (m .changing) (l .records n) (none-from κ l inv n h) (rw (b .epochKept, b .noneLeft n h, eq-eqb (l .epoch) (l .epoch) refl))
+          formed-by (κ .p) (gaugeIn m) (l .records n) (none-from κ l inv n h) (rw (b .epochKept, b .noneLeft n h, eq-eqb (l .epoch) (l .epoch) refl))
 
       secrets : (n : ℕ) → n < κ .n → pick (eqb (l .records n .epoch) (m .epoch)) (m .present) (m .old) ≡ pick (eqb (l .records n .epoch) (l .epoch)) (l .present) (l .old)
       secrets n h = rw (b .epochKept, b .noneLeft n h, eq-eqb (l .epoch) (l .epoch) refl) (b .presentKept)
@@ -124,7 +124,7 @@ module _ (κ : Kit) (l : Ledger) (new : Fresh κ l) where
     wide = λ n k f h. unlisted n k f;
     fresh = λ n k f h up. unlisted n k f;
     now = λ n f h. unlisted n (l .records n .keycount) f ∙ rw (absent n f h);
-    formed = λ n h. formed-by (κ .p) (l .epoch) (l .changing) (l .records n) (rw (new .empty n h) (lt-ltb 0 _ (pow-pos (κ .p)))) (rw (new .empty n h, eq-eqb (l .epoch) (l .epoch) refl));
+    formed = λ n h. formed-by (κ .p) (gaugeIn l) (l .records n) (rw (new .empty n h) (lt-ltb 0 _ (pow-pos (κ .p)))) (rw (new .empty n h, eq-eqb (l .epoch) (l .epoch) refl));
     named = λ n f h e. absurd (clash e (absent n f h));
     laid = λ n f h e. absurd (clash e (absent n f h));
     blank = λ n f h few e. new .zeros n f h few;

@@ -22,7 +22,7 @@ use Rattle.records.proofs.BitLaws.{none-above, bit-below}
 use Rattle.records.proofs.RuleLaws.{keycount-rises, well-formed-after, formed-journal, formed-epoch}
 use Rattle.ledger.specs.Listing.{one, times, orElse, lastOf}
 use Rattle.ledger.specs.Totals.{sum, presentIn, retiredOf, risen}
-use Rattle.ledger.specs.Ledger.{Kit, Ledger, secretAt, entryAt, blankFlake}
+use Rattle.ledger.specs.Ledger.{Kit, Ledger, gaugeIn, secretAt, entryAt, blankFlake}
 use Rattle.ledger.specs.Invariant.{Inv}
 use Rattle.ledger.specs.Step.{Step}
 use Rattle.ledger.proofs.ListingLaws.{times-append, last-append}
@@ -43,7 +43,7 @@ module _ (κ : Kit) (way : ℕ → Way) (l m : Ledger) (inv : Inv κ l) (step : 
   small : (n : ℕ) → n < κ .n → enciphered (way n) (before n) < 2 ^ κ .p
   small n h =
       enciphered-lt (κ .p) (l .epoch) (before n) (way n) (step .ways n h)
-      (formed-journal (κ .p) (l .epoch) (l .changing) (before n) (inv .formed n h))
+      (formed-journal (κ .p) (gaugeIn l) (before n) (inv .formed n h))
 
   -- how often an entry is listed, and which is the last
   count : (n k f : ℕ) → n < κ .n
@@ -100,10 +100,10 @@ module _ (κ : Kit) (way : ℕ → Way) (l m : Ledger) (inv : Inv κ l) (step : 
       (one-now (l .epoch) (way n) (before n) f (turn n h) (times n (keycountAfter (way n) (before n)) f (l .listing))
       (inv .fresh n (keycountAfter (way n) (before n)) f h) (λ q. rw (← q) (inv .now n f h)))
 
-  formed-after : (n : ℕ) → n < κ .n → wellFormed (κ .p) (m .epoch) (m .changing) (m .records n) ≡ true
+  formed-after : (n : ℕ) → n < κ .n → wellFormed (κ .p) (gaugeIn m) (m .records n) ≡ true
   formed-after n h =
       rw (step .turns n h, step .epochs, step .states)
-      (well-formed-after (κ .p) (way n) (l .epoch) (l .changing) (before n) (touched-lt (κ .p) (l .epoch) (before n) (way n) (step .ways n h)) (inv .formed n h))
+      (well-formed-after (κ .p) (way n) (gaugeIn l) (before n) (touched-lt (κ .p) (l .epoch) (before n) (way n) (step .ways n h)) (inv .formed n h))
 
   below-after : (n : ℕ) → n < κ .n → m .records n .keycount ≤ m .counter
   below-after n h = rw (step .turns n h, step .counts) (omega (arith, keycount-step (way n) (before n), inv .below n h))
@@ -123,7 +123,7 @@ module _ (κ : Kit) (way : ℕ → Way) (l m : Ledger) (inv : Inv κ l) (step : 
   -- the secret of an epoch that a record had before, and of the head's
   secret-kept : (n : ℕ) → n < κ .n → secretAt m (before n .epoch) ≡ secretAt l (before n .epoch)
   unfolding secretAt
-  secret-kept n h = rw (step .epochs, step .presents) (go (formed-epoch (κ .p) (l .epoch) (l .changing) (before n) (inv .formed n h)))
+  secret-kept n h = rw (step .epochs, step .presents) (go (formed-epoch (κ .p) (gaugeIn l) (before n) (inv .formed n h)))
     where
       go : (before n .epoch ≡ l .epoch) ⊎ ((l .changing ≡ true) × (before n .epoch + 1 ≡ l .epoch))
           → pick (eqb (before n .epoch) (l .epoch)) (l .present) (m .old) ≡ pick (eqb (before n .epoch) (l .epoch)) (l .present) (l .old)
@@ -164,7 +164,7 @@ module _ (κ : Kit) (way : ℕ → Way) (l m : Ledger) (inv : Inv κ l) (step : 
 
   journal-after : (n f : ℕ) → n < κ .n → bit (m .records n .journal) f ≡ true → f < κ .p
   journal-after n f h e =
-      bit-below (κ .p) (m .records n .journal) f (formed-journal (κ .p) (m .epoch) (m .changing) (m .records n) (formed-after n h)) e
+      bit-below (κ .p) (m .records n .journal) f (formed-journal (κ .p) (gaugeIn m) (m .records n) (formed-after n h)) e
 
   named-after : (n f : ℕ) → n < κ .n → bit (m .records n .journal) f ≡ true → lastOf n f (m .listing) ≡ some (entryAt m n f)
   named-after n f h d = last n f h ∙ go (told (bit (enciphered (way n) (before n)) f))

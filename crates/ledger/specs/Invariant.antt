@@ -12,7 +12,7 @@ use Rattle.records.specs.Record.{wellFormed}
 use Rattle.records.specs.Listing.{Entry}
 use Rattle.ledger.specs.Listing.{one, times, lastOf}
 use Rattle.ledger.specs.Totals.{presentIn}
-use Rattle.ledger.specs.Ledger.{Kit, Ledger, entryAt, blankFlake}
+use Rattle.ledger.specs.Ledger.{Kit, Ledger, gaugeIn, entryAt, blankFlake}
 
 pub record Inv (κ : Kit) (l : Ledger) : Type 0 where
   -- "No entry comes twice."; none is of a nugget or a flake that isn't there
@@ -23,7 +23,7 @@ pub record Inv (κ : Kit) (l : Ledger) : Type 0 where
   pub fresh : (n k f : ℕ) → n < κ .n → l .records n .keycount < k → times n k f (l .listing) ≡ 0
   pub now : (n f : ℕ) → n < κ .n → times n (l .records n .keycount) f (l .listing) ≡ one (bit (l .records n .journal) f)
   -- "A record is well formed"
-  pub formed : (n : ℕ) → n < κ .n → wellFormed (κ .p) (l .epoch) (l .changing) (l .records n) ≡ true
+  pub formed : (n : ℕ) → n < κ .n → wellFormed (κ .p) (gaugeIn l) (l .records n) ≡ true
   -- "Each present flake is its contents under the pad last listed for it."
   pub named : (n f : ℕ) → n < κ .n → bit (l .records n .journal) f ≡ true → lastOf n f (l .listing) ≡ some (entryAt l n f)
   pub laid : (n f : ℕ) → n < κ .n → bit (l .records n .journal) f ≡ true → l .stored n f ≡ xorl (l .plain n f) (κ .pad (entryAt l n f))

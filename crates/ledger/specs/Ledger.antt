@@ -7,7 +7,9 @@ use lib.ListN.{replicate}
 use Rattle.base.specs.Pick.{pick}
 use Rattle.words.specs.Xor.{xorl}
 use Rattle.records.specs.declared.Record.{Record}
+use Rattle.records.specs.declared.Gauge.{Gauge}
 use Rattle.records.specs.Journal.{bit}
+use Rattle.records.specs.Record.{against}
 use Rattle.records.specs.Listing.{Entry, entry}
 
 -- What never changes: N, P, F, and the pad of an entry. Nothing is asked of the pads: xor undoes itself whatever they are,
@@ -30,6 +32,10 @@ pub record Ledger : Type 0 where
   pub plain : ℕ → ℕ → List ℕ
   pub listing : List Entry
   pub retired : ℕ
+
+-- what its records are held against
+abbrev pub gaugeIn : Ledger → Gauge
+gaugeIn l = against (l .epoch) (l .changing)
 
 -- "its epoch is the head's, or, while changing, the head's or one less. [..] One less means: under the old secret."
 unfoldable pub secretAt : Ledger → ℕ → List ℕ

@@ -12,7 +12,7 @@ use Rattle.records.specs.Record.{wellFormed}
 use Rattle.records.specs.Rule.{touchedBy, enciphered, keycountAfter, turned}
 use Rattle.records.specs.Listing.{entry, padsTo}
 use Rattle.ledger.specs.Totals.{risen}
-use Rattle.ledger.specs.Ledger.{Kit, Ledger, secretAt}
+use Rattle.ledger.specs.Ledger.{Kit, Ledger, gaugeIn, secretAt}
 
 -- the ways that keep every pad single: flakes are added where "J and T share none and its epoch is the head's"
 unfoldable pub Fits : ℕ → ℕ → Record → Way → Type 0
@@ -48,7 +48,7 @@ pub record Kept (κ : Kit) (l m : Ledger) : Type 0 where
 -- no nugget changes, and the new head fits the records and names their secrets as the old one did
 pub record Calm (κ : Kit) (l m : Ledger) : Type 0 where
   pub kept : Kept κ l m
-  pub stillFormed : (n : ℕ) → n < κ .n → wellFormed (κ .p) (m .epoch) (m .changing) (l .records n) ≡ true
+  pub stillFormed : (n : ℕ) → n < κ .n → wellFormed (κ .p) (gaugeIn m) (l .records n) ≡ true
   pub sameSecrets : (n : ℕ) → n < κ .n → secretAt m (l .records n .epoch) ≡ secretAt l (l .records n .epoch)
 
 -- "Begin takes a new secret: state changing, epoch plus 1, the old secret kept."

@@ -1,12 +1,12 @@
 // The calls on a drive that is lent: "The open drive is one record that the calls change where it stands".
-// It touches `opening`, `reading`, `reports`, `writing` and `rekeying`, whose by-value calls the functions here wrap, and `drive` and `answers`.
+// It touches `opening`, `reading`, `reports`, `writing` and `rekeying`, whose by-value calls the functions here wrap, and `drive`, `layout` and `answers`.
 use answers::Answer;
 use drive::Drive;
+use layout::Shape;
 use reports::Report;
 ghost use mathlib.Core.Path.{_≡_};
 ghost use lib.ListN.{length};
 ghost use denote.Ref.{ptr};
-ghost use Rattle.layout.specs.Shape.{shape};
 ghost use Rattle.opening.specs.Format.{formatDone, formatVolume};
 ghost use Rattle.opening.specs.Mount.{mountDone};
 ghost use Rattle.reading.specs.Read.{readAnswer, readBuffer};
@@ -19,18 +19,16 @@ ghost use Rattle.changes.specs.Rekey.{beginDone, beginVolume, sweepDone, sweepV
 pub fn format_at(
     d: &mut Drive,
     vol: &mut [u8],
-    n: u32,
-    p: u32,
-    f: u32,
+    s: Shape,
     salt: [u8; 16],
     secret: [u8; 32],
     outside: u64,
 ) -> Answer
-    ensures { λ r. ⌜ (r ≡ formatDone (shape n p f) salt secret outside (now (vol .entry)) .answer)
-        × ((now (d .exit) ≡ formatDone (shape n p f) salt secret outside (now (vol .entry)) .drive)
-        × (now (vol .exit) ≡ formatVolume (shape n p f) salt secret outside (now (vol .entry)))) ⌝ }
+    ensures { λ r. ⌜ (r ≡ formatDone s salt secret outside (now (vol .entry)) .answer)
+        × ((now (d .exit) ≡ formatDone s salt secret outside (now (vol .entry)) .drive)
+        × (now (vol .exit) ≡ formatVolume s salt secret outside (now (vol .entry)))) ⌝ }
 {
-    let r = opening::format(vol, n, p, f, salt, secret, outside);
+    let r = opening::format(vol, s, salt, secret, outside);
     *d = r.drive;
     r.answer
 }

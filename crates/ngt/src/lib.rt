@@ -2,6 +2,7 @@
 // It touches the calls' crates, and `packed` and `images` for the bytes.
 use answers::Answer;
 use drive::Drive;
+use layout::Shape;
 ghost use mathlib.Core.Path.{_≡_};
 ghost use mathlib.Core.List.{_++_};
 ghost use Rattle.words.specs.Le.{le};
@@ -25,7 +26,14 @@ pub extern "C" fn ngt_format(
 ) -> u32
     ensures { λ r. ⌜ Formatted (shape n p f) (now (salt .entry)) (now (secret .entry)) outside (now (vol .entry)) r (now (vol .exit)) (now (image .exit)) (now (answer .exit)) ⌝ }
 {
-    let done = opening::format(vol, n, p, f, *salt, *secret, outside);
+    let s = Shape {
+        n,
+        p,
+        f,
+        version: 1,
+        cipher: 0,
+    };
+    let done = opening::format(vol, s, *salt, *secret, outside);
     let d = done.drive;
     let a = done.answer;
     *image = packed::pack(d);

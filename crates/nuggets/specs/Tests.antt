@@ -16,7 +16,7 @@ use Rattle.keys.specs.Tags.{tagOf}
 use Rattle.tree.specs.Path.{pathOf}
 use Rattle.records.specs.Record.{recordOf}
 use Rattle.drive.specs.declared.Drive.{Drive}
-use Rattle.drive.specs.Drive.{shapeOf, isChanging}
+use Rattle.drive.specs.Drive.{shapeOf, gaugeOf}
 use Rattle.nuggets.specs.declared.Nugget.{Nugget}
 use Rattle.nuggets.specs.Nugget.{nuggetOf, storedIn}
 
@@ -43,9 +43,9 @@ flakesIn s v g mask = flakesUp s v g mask (s .p) 0
 abbrev pub flakesOf : Drive → List ℕ → ℕ → ℕ → Answer
 flakesOf d v n mask = flakesIn (shapeOf d) v (nuggetOf d v n) mask
 
--- the path of nugget n, under the drive's epoch and state
+-- the path of nugget n, its record held against the drive
 abbrev pub pathFor : Drive → List ℕ → ℕ → Answer
-pathFor d v n = pathOf (shapeOf d) (d .epoch) (isChanging (d .state)) v n
+pathFor d v n = pathOf (shapeOf d) (gaugeOf d) v n
 
 -- "each: path; [..] flakes"; "Read tests touched present flakes"
 unfoldable pub nuggetRead : Drive → List ℕ → ℕ → ℕ → Answer

@@ -107,19 +107,12 @@ pub fn flakes(vol: &[u8], s: Shape, g: Nugget, mask: u64) -> Answer
     Answer::Accepted
 }
 
-// The path of nugget n, under the drive's epoch and state.
+// The path of nugget n, its record held against the drive.
 pub fn test_path(d: Drive, vol: &[u8], n: u32) -> Answer
     requires { ⌜ Lent (shapeOf d) (now vol) × (n < d .n) ⌝ }
     ensures { λ r. ⌜ r ≡ pathFor d (now (vol .entry)) n ⌝ }
 {
-    let state = d.state;
-    tree::path(
-        vol,
-        drive::shape_of(d),
-        d.epoch,
-        drive::is_changing(state),
-        n,
-    )
+    tree::path(vol, drive::shape_of(d), drive::gauge_of(d), n)
 }
 
 // A read's tests of nugget n: "path"; then "touched present flakes".

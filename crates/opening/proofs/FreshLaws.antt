@@ -9,9 +9,9 @@ use lib.Dec.{eqb}
 use lib.ListN.{length, length-replicate}
 use lib.Seq.{sets, length-sets}
 use lib.Pow.{pow-pos}
-use borrow.Author.Tests.{eq-eqb, eqb-true, eqb-false, lt-ltb}
+use borrow.Author.Tests.{eqb-true, eqb-false, lt-ltb}
 use Rattle.base.specs.Lists.{part, same}
-use Rattle.base.proofs.PickLaws.{yes, told, both-on, both-left}
+use Rattle.base.proofs.PickLaws.{told, both-on, both-left}
 use Rattle.base.proofs.PartLaws.{part-sets, part-sets-above, part-sets-below}
 use Rattle.base.proofs.FoldLaws.{same-refl}
 use Rattle.answers.specs.declared.Answer.the-variants as A
@@ -19,9 +19,10 @@ use Rattle.answers.specs.Numbers.{accepts}
 use Rattle.layout.specs.declared.Shape.{Shape}
 use Rattle.layout.specs.Shape.{shape, sized, known, inLimits, leaves, widthOf}
 use Rattle.layout.specs.Parts.{recordAt, tagAt, nodeAt, lengthOf}
+use Rattle.drive.proofs.OpeningLaws.{opening-by}
 use Rattle.layout.proofs.Limits.{by-numbers}
 use Rattle.layout.proofs.Places.{record-inside, records-above, parts-inside}
-use Rattle.records.specs.Record.{recordBytes, recordIn, wellFormed, Widths}
+use Rattle.records.specs.Record.{against, recordBytes, recordIn, wellFormed, Widths}
 use Rattle.records.proofs.RecordLaws.{read-stored, record-told}
 use Rattle.nodes.specs.Nodes.{nodeIn}
 use Rattle.nodes.specs.Alike.{Alike}
@@ -101,7 +102,7 @@ module _ (s : Shape) (limited : inLimits s ≡ true) where
         ∙ made-alike s (planted s) (sets (planted s) 0 head) i (λ h. (sym (headed-node (2 * i) (omega arith)), sym (headed-node (2 * i + 1) (omega arith))))
         (λ h k. headed-alike (i - leaves (s .n)))
 
-    headed-formed : (n : ℕ) → n < s .n → formed s 1 false (sets (planted s) 0 head) n ≡ true
+    headed-formed : (n : ℕ) → n < s .n → formed s (against 1 false) (sets (planted s) 0 head) n ≡ true
     unfolding wellFormed
     headed-formed n h =
         let e = sym (record-told s (recordAt s n) (planted s) (sets (planted s) 0 head) (headed-alike n .records)) ∙ planted-fresh n h in
@@ -110,8 +111,8 @@ module _ (s : Shape) (limited : inLimits s ≡ true) where
     headed-lent : Lent s (sets (planted s) 0 head)
     headed-lent = record { limited = limited; size = length-sets (planted s) 0 head ∙ length-planted s }
 
-    pub headed-whole : wholeOf s 1 false (sets (planted s) 0 head) ≡ A.Accepted
-    headed-whole = good-whole s 1 false (sets (planted s) 0 head) headed-lent headed-good headed-formed
+    pub headed-whole : wholeOf s (against 1 false) (sets (planted s) 0 head) ≡ A.Accepted
+    headed-whole = good-whole s (against 1 false) (sets (planted s) 0 head) headed-lent headed-good headed-formed
 
 module _ (n p f : ℕ) (salt secret : List ℕ) (outside : ℕ) (salted : length salt ≡ 16) (limited : inLimits (shape n p f) ≡ true) where
   abbrev s : Shape
@@ -122,16 +123,15 @@ module _ (n p f : ℕ) (salt secret : List ℕ) (outside : ℕ) (salted : length
   head-long = length-head (freshDrive s salt secret outside) salted
 
   numbers-open : openingOf (freshDrive s salt secret outside) (freshVolume s salt secret outside) ≡ A.Accepted
-  unfolding openingOf inForm headStands freshDrive freshVolume
+  unfolding inForm headStands freshDrive freshVolume
   numbers-open =
       let d = freshDrive s salt secret outside in
       let v = planted s in
       let size : length (sets v 0 (headOf d)) ≡ lengthOf s = length-sets v 0 (headOf d) ∙ length-planted s in
       let first : part 0 104 (sets v 0 (headOf d)) ≡ headOf d = part-sets v 0 104 (headOf d) head-long (omega (arith, length-planted s, parts-inside s)) in
       let node = headed-node s limited (headOf d) head-long 1 (omega arith) in
-      yes _ (both-on limited refl)
-      (yes _ (eq-eqb (length (sets v 0 (headOf d))) (lengthOf s) size)
-      (yes _ (both-on (ap (λ (l : List ℕ). same l (headOf d)) first ∙ same-refl (headOf d)) (ap (λ (l : List ℕ). same l (d .node)) node ∙ same-refl (d .node))) refl))
+      opening-by d (sets v 0 (headOf d)) (both-on limited refl) size
+      (both-on (ap (λ (l : List ℕ). same l (headOf d)) first ∙ same-refl (headOf d)) (ap (λ (l : List ℕ). same l (d .node)) node ∙ same-refl (d .node)))
 
   numbers-whole : wholeIn (freshDrive s salt secret outside) (freshVolume s salt secret outside) ≡ A.Accepted
   unfolding freshDrive freshVolume

@@ -8,9 +8,10 @@ use Prim.Native.Nat.{ℕ, _≤_}
 use native.Mathlib.Omega.{arith}
 use lib.Dec.{leb, eqb}
 use lib.ListN.{length}
+use Rattle.drive.proofs.OpeningLaws.{opening-by}
 use borrow.Author.Tests.{leb-true, eqb-true, eqb-false}
 use Rattle.base.specs.Lists.{part, same}
-use Rattle.base.proofs.PickLaws.{yes, told, both-left, both-right, both-on}
+use Rattle.base.proofs.PickLaws.{told, both-left, both-right, both-on}
 use Rattle.base.proofs.PartLaws.{part-append}
 use Rattle.base.proofs.FoldLaws.{same-true, same-refl}
 use Rattle.words.specs.Le.{num, Bytes}
@@ -19,6 +20,7 @@ use Rattle.codec.proofs.RowLaws.{row-back}
 use Rattle.answers.specs.declared.Answer.the-variants as A
 use Rattle.answers.specs.Numbers.{accepts}
 use Rattle.layout.specs.Shape.{inLimits}
+use Rattle.layout.specs.Parts.{lengthOf}
 use Rattle.keys.specs.Keys.{sealOf}
 use Rattle.drive.specs.declared.Drive.{Drive}
 use Rattle.drive.specs.Head.{mark, version, stateByte, checkIn, frontRow, frontValues, frontIn, headOf}
@@ -100,11 +102,11 @@ module _ (v present old : List ℕ) (outside : ℕ) (bytes : Bytes v) (e : mount
       rw (front-back, ← s) (part-append 0 72 32 72 v refl)
 
   pub mount-opens : openingOf (openedDrive v present old) v ≡ A.Accepted
-  unfolding openingOf inForm headFits lengthFits headStands openedDrive
+  unfolding inForm headFits lengthFits headStands openedDrive
   mount-opens =
       let d = openedDrive v present old in
       let limits = both-left (inLimits (shapeIn v)) _ (o .fits) in
       let epoch = both-right (leb (stateByteIn v) 1) _ (both-right (inLimits (shapeIn v)) _ (o .fits)) in
       let first : same (part 0 104 v) (headOf d) ≡ true = ap (λ (h : List ℕ). same (part 0 104 v) h) head-back ∙ same-refl (part 0 104 v) in
       let stands : headStands d v ≡ true = both-on first (same-refl (d .node)) in
-      yes _ (both-on limits epoch) (yes _ (o .long) (yes _ stands refl))
+      opening-by d v (both-on limits epoch) (eqb-true (length v) (lengthOf (shapeIn v)) (o .long)) stands

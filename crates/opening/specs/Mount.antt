@@ -22,7 +22,7 @@ use Rattle.drive.specs.declared.Drive.{Drive}
 use Rattle.drive.specs.declared.Done.{Done}
 use Rattle.drive.specs.declared.State.{State}
 use Rattle.drive.specs.declared.State.the-variants.{Steady, Changing}
-use Rattle.drive.specs.Drive.{shapeOf, isChanging, blankDrive, keptOld}
+use Rattle.drive.specs.Drive.{shapeOf, gaugeOf, blankDrive, keptOld}
 use Rattle.drive.specs.Head.{mark, version, checkIn}
 use Rattle.drive.specs.Opening.{epochFits}
 
@@ -97,7 +97,7 @@ checked d v = same (checkBytes v) (checkIn d)
 
 -- 7 whole, under the drive's epoch and state
 abbrev pub wholeIn : Drive → List ℕ → Answer
-wholeIn d v = wholeOf (shapeOf d) (d .epoch) (isChanging (d .state)) v
+wholeIn d v = wholeOf (shapeOf d) (gaugeOf d) v
 
 -- the form of the head: "2 (under 104 bytes), 3, 1, 2"
 unfoldable pub formOf : List ℕ → Answer

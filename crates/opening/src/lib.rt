@@ -11,7 +11,6 @@ use records::Record;
 ghost use mathlib.Core.Path.{_≡_};
 ghost use Prim.Native.Nat.{_+_, _<_, _≤_};
 ghost use lib.ListN.{length};
-ghost use Rattle.layout.specs.Shape.{shape};
 ghost use Rattle.drive.specs.Drive.{shapeOf, counterTop};
 ghost use Rattle.opening.specs.Format.{formatAnswer, bare, planted, freshDrive, formatDone, formatVolume};
 ghost use Rattle.opening.specs.Mount.{sealed, checked, shapeIn, openedDrive, mountDone, keysOf, restOf};
@@ -73,24 +72,9 @@ fn fresh_drive(vol: &[u8], s: Shape, salt: [u8; 16], secret: [u8; 32], outside: 
 }
 
 // "Format takes N, P, F, salt, secret and the outside counter."
-pub fn format(
-    vol: &mut [u8],
-    n: u32,
-    p: u32,
-    f: u32,
-    salt: [u8; 16],
-    secret: [u8; 32],
-    outside: u64,
-) -> Done
-    ensures { λ r. ⌜ (r ≡ formatDone (shape n p f) salt secret outside (now (vol .entry))) × (now (vol .exit) ≡ formatVolume (shape n p f) salt secret outside (now (vol .entry))) ⌝ }
+pub fn format(vol: &mut [u8], s: Shape, salt: [u8; 16], secret: [u8; 32], outside: u64) -> Done
+    ensures { λ r. ⌜ (r ≡ formatDone s salt secret outside (now (vol .entry))) × (now (vol .exit) ≡ formatVolume s salt secret outside (now (vol .entry))) ⌝ }
 {
-    let s = Shape {
-        n: n,
-        p: p,
-        f: f,
-        version: 1,
-        cipher: 0,
-    };
     let a = format_tests(vol, s, outside);
     if answers::accepted(a) {
         lay_bare(&mut *vol, s);
@@ -177,8 +161,7 @@ fn rest(d: Drive, vol: &[u8], outside: u64) -> Answer
 {
     let a = keys_fit(d, vol, outside);
     if answers::accepted(a) {
-        let state = d.state;
-        return tree::whole(vol, drive::shape_of(d), d.epoch, drive::is_changing(state));
+        return tree::whole(vol, drive::shape_of(d), drive::gauge_of(d));
     }
     a
 }

@@ -1,6 +1,5 @@
 -- What the comparisons' calls answer: tests 1 and 2, and 8 for the nugget, then the call itself.
 use Prim.Native.Nat.{ℕ}
-use mathlib.Core.Bool.{Bool}
 use mathlib.Core.List.{List}
 use lib.Dec.{eqb, ltb, leb}
 use lib.ListN.{length}
@@ -12,6 +11,7 @@ use Rattle.layout.specs.declared.Shape.{Shape}
 use Rattle.layout.specs.Shape.{inLimits}
 use Rattle.layout.specs.Parts.{lengthOf}
 use Rattle.words.specs.Xor.{xorl}
+use Rattle.records.specs.declared.Gauge.{Gauge}
 use Rattle.keys.specs.Pads.{padOf}
 use Rattle.tree.specs.Path.{pathOf}
 use Rattle.tree.specs.Whole.{wholeOf}
@@ -29,11 +29,11 @@ lentAnswer s v = pick (inLimits s) (pick (eqb (length v) (lengthOf s)) A.Accepte
 unfoldable pub renewAnswer : Shape → List ℕ → ℕ → Answer
 renewAnswer s v n = pick (accepts (lentAnswer s v)) (pick (ltb n (s .n)) A.Accepted A.PastEnd) (lentAnswer s v)
 
-unfoldable pub pathAnswer : Shape → ℕ → Bool → List ℕ → ℕ → Answer
-pathAnswer s epoch changing v n = pick (accepts (renewAnswer s v n)) (pathOf s epoch changing v n) (renewAnswer s v n)
+unfoldable pub pathAnswer : Shape → Gauge → List ℕ → ℕ → Answer
+pathAnswer s gauge v n = pick (accepts (renewAnswer s v n)) (pathOf s gauge v n) (renewAnswer s v n)
 
-unfoldable pub wholeAnswer : Shape → ℕ → Bool → List ℕ → Answer
-wholeAnswer s epoch changing v = pick (accepts (lentAnswer s v)) (wholeOf s epoch changing v) (lentAnswer s v)
+unfoldable pub wholeAnswer : Shape → Gauge → List ℕ → Answer
+wholeAnswer s gauge v = pick (accepts (lentAnswer s v)) (wholeOf s gauge v) (lentAnswer s v)
 
 unfoldable pub renewedBytes : Shape → ℕ → List ℕ → List ℕ
 renewedBytes s n v = pick (accepts (renewAnswer s v n)) (renewed s n v) v

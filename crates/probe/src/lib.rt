@@ -2,10 +2,12 @@
 // It touches `keys`, `tree` and `images`, and tests what it is given itself.
 use answers::Answer;
 use layout::Shape;
+use records::Gauge;
 ghost use mathlib.Core.Path.{_≡_};
 ghost use Rattle.keys.specs.Keys.{nuggetKey, tagKey, checkOf, sealOf};
 ghost use Rattle.keys.specs.Tags.{tagOf};
 ghost use Rattle.layout.specs.Shape.{shape};
+ghost use Rattle.records.specs.Record.{against};
 ghost use Rattle.images.specs.Answers.{answerImage};
 ghost use Rattle.probe.specs.Probes.{lentAnswer, pathAnswer, wholeAnswer, renewAnswer, laidBytes, renewedBytes, builtBytes};
 
@@ -83,22 +85,22 @@ fn lent_nugget(vol: &[u8], s: Shape, n: u32) -> Answer
     a
 }
 
-fn path(vol: &[u8], s: Shape, epoch: u16, changing: bool, n: u32) -> Answer
-    ensures { λ r. ⌜ r ≡ pathAnswer s epoch changing (now (vol .entry)) n ⌝ }
+fn path(vol: &[u8], s: Shape, gauge: Gauge, n: u32) -> Answer
+    ensures { λ r. ⌜ r ≡ pathAnswer s gauge (now (vol .entry)) n ⌝ }
 {
     let a = lent_nugget(vol, s, n);
     if answers::accepted(a) {
-        return tree::path(vol, s, epoch, changing, n);
+        return tree::path(vol, s, gauge, n);
     }
     a
 }
 
-fn whole(vol: &[u8], s: Shape, epoch: u16, changing: bool) -> Answer
-    ensures { λ r. ⌜ r ≡ wholeAnswer s epoch changing (now (vol .entry)) ⌝ }
+fn whole(vol: &[u8], s: Shape, gauge: Gauge) -> Answer
+    ensures { λ r. ⌜ r ≡ wholeAnswer s gauge (now (vol .entry)) ⌝ }
 {
     let a = lent(vol, s);
     if answers::accepted(a) {
-        return tree::whole(vol, s, epoch, changing);
+        return tree::whole(vol, s, gauge);
     }
     a
 }
@@ -114,7 +116,7 @@ pub extern "C" fn ngt_path(
     nugget: u32,
     answer: &mut [u8; 16],
 )
-    ensures { λ _. ⌜ now (answer .exit) ≡ answerImage (pathAnswer (shape n p f) epoch changing (now (vol .entry)) nugget) ⌝ }
+    ensures { λ _. ⌜ now (answer .exit) ≡ answerImage (pathAnswer (shape n p f) (against epoch changing) (now (vol .entry)) nugget) ⌝ }
 {
     let a = path(
         vol,
@@ -125,8 +127,7 @@ pub extern "C" fn ngt_path(
             version: 1,
             cipher: 0,
         },
-        epoch,
-        changing,
+        Gauge { epoch, changing },
         nugget,
     );
     *answer = images::answer_image(a);
@@ -142,7 +143,7 @@ pub extern "C" fn ngt_whole(
     changing: bool,
     answer: &mut [u8; 16],
 )
-    ensures { λ _. ⌜ now (answer .exit) ≡ answerImage (wholeAnswer (shape n p f) epoch changing (now (vol .entry))) ⌝ }
+    ensures { λ _. ⌜ now (answer .exit) ≡ answerImage (wholeAnswer (shape n p f) (against epoch changing) (now (vol .entry))) ⌝ }
 {
     let a = whole(
         vol,
@@ -153,8 +154,7 @@ pub extern "C" fn ngt_whole(
             version: 1,
             cipher: 0,
         },
-        epoch,
-        changing,
+        Gauge { epoch, changing },
     );
     *answer = images::answer_image(a);
 }

@@ -10,6 +10,7 @@ use borrow.Author.Tests.{eq-eqb, ne-eqb, eqb-true, eqb-false, lt-ltb, ltb-true}
 use Rattle.base.specs.Pick.{pick, both}
 use Rattle.base.proofs.PickLaws.{both-left, both-right, either-right, either-told}
 use Rattle.records.specs.declared.Record.{Record}
+use Rattle.records.specs.declared.Gauge.{Gauge}
 use Rattle.records.specs.declared.Way.{Way}
 use Rattle.records.specs.declared.Way.the-variants.{Idle, Add, Rekey}
 use Rattle.records.specs.Journal.{bit, union, shareNone}
@@ -61,35 +62,40 @@ keycount-rises Idle r = le-refl (r .keycount)
 keycount-rises (Add t) r = le-refl (r .keycount)
 keycount-rises (Rekey t) r = omega arith
 
-epoch-after : (way : Way) (head : ℕ) (changing : Bool) (r : Record) → epochFits head changing (r .epoch) ≡ true → epochFits head changing (epochAfter way head r) ≡ true
+epoch-after : (way : Way) (gauge : Gauge) (r : Record) → epochFits gauge (r .epoch) ≡ true → epochFits gauge (epochAfter way (gauge .epoch) r) ≡ true
 unfolding epochAfter
-epoch-after Idle head changing r e = e
-epoch-after (Add t) head changing r e = e
-epoch-after (Rekey t) head changing r e = rw (eq-eqb head head refl)
+epoch-after Idle gauge r e = e
+epoch-after (Add t) gauge r e = e
+epoch-after (Rekey t) gauge r e = rw (eq-eqb (gauge .epoch) (gauge .epoch) refl)
 
 -- what the two tests of a well-formed record say
-pub formed-journal : (p head : ℕ) (changing : Bool) (r : Record) → wellFormed p head changing r ≡ true → r .journal < 2 ^ p
+pub formed-journal : (p : ℕ) (gauge : Gauge) (r : Record) → wellFormed p gauge r ≡ true → r .journal < 2 ^ p
 unfolding wellFormed
-formed-journal p head changing r e = ltb-true (r .journal) (2 ^ p) (both-left (noneFrom p (r .journal)) (epochFits head changing (r .epoch)) e)
+formed-journal p gauge r e = ltb-true (r .journal) (2 ^ p) (both-left (noneFrom p (r .journal)) (epochFits gauge (r .epoch)) e)
 
-pub formed-epoch : (p head : ℕ) (changing : Bool) (r : Record) → wellFormed p head changing r ≡ true
-    → (r .epoch ≡ head) ⊎ ((changing ≡ true) × (r .epoch + 1 ≡ head))
+pub formed-fits : (p : ℕ) (gauge : Gauge) (r : Record) → wellFormed p gauge r ≡ true → epochFits gauge (r .epoch) ≡ true
 unfolding wellFormed
-formed-epoch p head changing r e =
-    go (either-told (eqb (r .epoch) head) (both changing (eqb (r .epoch + 1) head)) (both-right (noneFrom p (r .journal)) (epochFits head changing (r .epoch)) e))
+formed-fits p gauge r e = both-right (noneFrom p (r .journal)) (epochFits gauge (r .epoch)) e
+
+pub formed-epoch : (p : ℕ) (gauge : Gauge) (r : Record) → wellFormed p gauge r ≡ true
+    → (r .epoch ≡ gauge .epoch) ⊎ ((gauge .changing ≡ true) × (r .epoch + 1 ≡ gauge .epoch))
+formed-epoch p gauge r e =
+    go (either-told (eqb (r .epoch) (gauge .epoch)) (both (gauge .changing) (eqb (r .epoch + 1) (gauge .epoch))) (formed-fits p gauge r e))
   where
-    go : (eqb (r .epoch) head ≡ true) ⊎ (both changing (eqb (r .epoch + 1) head) ≡ true) → (r .epoch ≡ head) ⊎ ((changing ≡ true) × (r .epoch + 1 ≡ head))
-    go (inl d) = inl (eqb-true (r .epoch) head d)
+    go : (eqb (r .epoch) (gauge .epoch) ≡ true) ⊎ (both (gauge .changing) (eqb (r .epoch + 1) (gauge .epoch)) ≡ true)
+        → (r .epoch ≡ gauge .epoch) ⊎ ((gauge .changing ≡ true) × (r .epoch + 1 ≡ gauge .epoch))
+    go (inl d) = inl (eqb-true (r .epoch) (gauge .epoch) d)
     go (inr d) =
-        inr (both-left changing (eqb (r .epoch + 1) head) d, eqb-true (r .epoch + 1) head (both-right changing (eqb (r .epoch + 1) head) d))
+        let less = eqb (r .epoch + 1) (gauge .epoch) in
+        inr (both-left (gauge .changing) less d, eqb-true (r .epoch + 1) (gauge .epoch) (both-right (gauge .changing) less d))
 
 -- the record afterwards is well formed where the one before was
-pub well-formed-after : (p : ℕ) (way : Way) (head : ℕ) (changing : Bool) (r : Record) → touchedBy way < 2 ^ p
-    → wellFormed p head changing r ≡ true → wellFormed p head changing (turned way head r) ≡ true
+pub well-formed-after : (p : ℕ) (way : Way) (gauge : Gauge) (r : Record) → touchedBy way < 2 ^ p
+    → wellFormed p gauge r ≡ true → wellFormed p gauge (turned way (gauge .epoch) r) ≡ true
 unfolding wellFormed journalAfter
-well-formed-after p way head changing r h e =
-    rw (lt-ltb (bitOr (r .journal) (touchedBy way)) (2 ^ p) (or-lt p (r .journal) (touchedBy way) (formed-journal p head changing r e) h))
-    (epoch-after way head changing r (both-right (noneFrom p (r .journal)) (epochFits head changing (r .epoch)) e))
+well-formed-after p way gauge r h e =
+    rw (lt-ltb (bitOr (r .journal) (touchedBy way)) (2 ^ p) (or-lt p (r .journal) (touchedBy way) (formed-journal p gauge r e) h))
+    (epoch-after way gauge r (formed-fits p gauge r e))
 
 -- below its top the keycount has room for one more
 pub room : (way : Way) (r : Record) → rekeys way ≡ true → atTop way r ≡ false → r .keycount < 2 ^ 64 → r .keycount + 1 < 2 ^ 64

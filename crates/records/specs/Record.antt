@@ -9,6 +9,7 @@ use Rattle.layout.specs.declared.Shape.{Shape}
 use Rattle.layout.specs.Parts.{recordAt}
 use Rattle.codec.specs.Row.{Field, number, Values, _&_, row, rowIn}
 use Rattle.records.specs.declared.Record.{Record}
+use Rattle.records.specs.declared.Gauge.{Gauge}
 
 -- keycount, journal, epoch
 abbrev pub recordRow : List Field
@@ -32,17 +33,21 @@ recordIn s at v = recordFrom (rowIn recordRow at 0 v)
 abbrev pub recordOf : Shape → List ℕ → ℕ → Record
 recordOf s v n = recordIn s (recordAt s n) v
 
+-- what a record is held against
+abbrev pub against : ℕ → Bool → Gauge
+against epoch changing = record { epoch = epoch; changing = changing }
+
 -- "no bit at or above P is set"
 abbrev pub noneFrom : ℕ → ℕ → Bool
 noneFrom p j = ltb j (2 ^ p)
 
 -- "its epoch is the head's, or, while changing, the head's or one less"
-abbrev pub epochFits : ℕ → Bool → ℕ → Bool
-epochFits head changing e = either (eqb e head) (both changing (eqb (e + 1) head))
+abbrev pub epochFits : Gauge → ℕ → Bool
+epochFits gauge e = either (eqb e (gauge .epoch)) (both (gauge .changing) (eqb (e + 1) (gauge .epoch)))
 
 -- "A record is well formed if no bit at or above P is set and its epoch is the head's, or, while changing, the head's or one less."
-unfoldable pub wellFormed : ℕ → ℕ → Bool → Record → Bool
-wellFormed p head changing r = both (noneFrom p (r .journal)) (epochFits head changing (r .epoch))
+unfoldable pub wellFormed : ℕ → Gauge → Record → Bool
+wellFormed p gauge r = both (noneFrom p (r .journal)) (epochFits gauge (r .epoch))
 
 -- each field is within its width
 pub record Widths (r : Record) : Type 0 where

@@ -19,6 +19,12 @@ pub struct Record {
     pub epoch: u16,
 }
 
+// What a record is held against: the head's epoch, and whether the secret is being changed.
+pub struct Gauge {
+    pub epoch: u16,
+    pub changing: bool,
+}
+
 // What a change does to one nugget: nothing, add the touched flakes, or rekey it with them.
 pub enum Way {
     Idle,
@@ -132,24 +138,24 @@ fn none_from(journal: u64, p: u32) -> bool
 }
 
 // "its epoch is the head's, or, while changing, the head's or one less"
-fn epoch_fits(own: u16, epoch: u16, changing: bool) -> bool
-    ensures { λ r. ⌜ r ≡ epochFits epoch changing own ⌝ }
+fn epoch_fits(gauge: Gauge, own: u16) -> bool
+    ensures { λ r. ⌜ r ≡ epochFits gauge own ⌝ }
 {
-    if own == epoch {
+    if own == gauge.epoch {
         true
-    } else if changing {
-        own as u32 + 1 == epoch as u32
+    } else if gauge.changing {
+        own as u32 + 1 == gauge.epoch as u32
     } else {
         false
     }
 }
 
 // "A record is well formed if no bit at or above P is set and its epoch is .."
-pub fn well_formed(r: Record, p: u32, epoch: u16, changing: bool) -> bool
-    ensures { λ ok. ⌜ ok ≡ wellFormed p epoch changing r ⌝ }
+pub fn well_formed(r: Record, p: u32, gauge: Gauge) -> bool
+    ensures { λ ok. ⌜ ok ≡ wellFormed p gauge r ⌝ }
 {
     if none_from(r.journal, p) {
-        epoch_fits(r.epoch, epoch, changing)
+        epoch_fits(gauge, r.epoch)
     } else {
         false
     }

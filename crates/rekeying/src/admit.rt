@@ -102,8 +102,7 @@ fn finish_tests(d: Drive, vol: &[u8]) -> Answer
     requires { ⌜ Lent (shapeOf d) (now vol) ⌝ }
     ensures { λ r. ⌜ r ≡ finishTests d (now (vol .entry)) ⌝ }
 {
-    let state = d.state;
-    let a = tree::whole(vol, drive::shape_of(d), d.epoch, drive::is_changing(state));
+    let a = tree::whole(vol, drive::shape_of(d), drive::gauge_of(d));
     if answers::accepted(a) {
         let left = left_in(d, vol);
         if 0 < left {

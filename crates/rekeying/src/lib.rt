@@ -20,21 +20,17 @@ fn begun(d: Drive, secret: [u8; 32]) -> Drive
     requires { ⌜ (d .epoch < epochTop) × (d .counter < counterTop) ⌝ }
     ensures { λ r. ⌜ r ≡ begunDrive d secret ⌝ }
 {
-    let salt = d.salt;
     let node = d.node;
     let present = d.present;
-    Drive {
-        n: d.n,
-        p: d.p,
-        f: d.f,
-        salt: salt,
-        state: State::Changing(d.epoch),
-        epoch: d.epoch + 1,
-        counter: d.counter + 1,
-        node: node,
-        present: secret,
-        old: present,
-    }
+    drive::headed(
+        d,
+        State::Changing(d.epoch),
+        d.epoch + 1,
+        d.counter + 1,
+        node,
+        secret,
+        present,
+    )
 }
 
 // "the state steady", the check zeroed with the old secret
@@ -42,21 +38,17 @@ fn finished(d: Drive) -> Drive
     requires { ⌜ d .counter < counterTop ⌝ }
     ensures { λ r. ⌜ r ≡ finishedDrive d ⌝ }
 {
-    let salt = d.salt;
     let node = d.node;
     let present = d.present;
-    Drive {
-        n: d.n,
-        p: d.p,
-        f: d.f,
-        salt: salt,
-        state: State::Steady,
-        epoch: d.epoch,
-        counter: d.counter + 1,
-        node: node,
-        present: present,
-        old: [0u8; 32],
-    }
+    drive::headed(
+        d,
+        State::Steady,
+        d.epoch,
+        d.counter + 1,
+        node,
+        present,
+        [0u8; 32],
+    )
 }
 
 // "Begin takes a new secret: state changing, epoch plus 1, the old secret kept."

@@ -4,14 +4,12 @@ use mathlib.Core.Bool.{true}
 use mathlib.Core.List.{List}
 use Prim.Native.Nat.{ℕ, _+_, _-_, _^_, _<_}
 use native.Mathlib.Nat.{add-sub-cancel-left}
-use lib.Dec.{eqb, ltb}
-use lib.ListN.{length, take, drop}
-use borrow.Author.Tests.{eqb-true, ltb-true}
+use lib.Dec.{ltb}
+use lib.ListN.{take, drop}
+use borrow.Author.Tests.{ltb-true}
 use Rattle.base.specs.Pick.{pick}
 use Rattle.base.specs.Lists.{part}
 use Rattle.base.proofs.PickLaws.{both-left, both-right}
-use Rattle.layout.specs.Parts.{lengthOf}
-use Rattle.answers.specs.declared.Answer.{Answer}
 use Rattle.answers.specs.declared.Answer.the-variants as A
 use Rattle.answers.specs.Numbers.{accepts}
 use Rattle.answers.specs.Stages.{andThen}
@@ -19,23 +17,14 @@ use Rattle.records.proofs.RuleLaws.{formed-journal}
 use Rattle.tree.specs.Whole.{wholeOf}
 use Rattle.tree.proofs.WholeLaws.{whole-formed}
 use Rattle.drive.specs.declared.Drive.{Drive}
-use Rattle.drive.specs.Drive.{shapeOf, isChanging}
-use Rattle.drive.specs.Opening.{inForm, openingOf}
-use Rattle.drive.proofs.HeadLaws.{form-limits}
-use Rattle.drive.proofs.OpeningLaws.{opening-lent}
+use Rattle.drive.specs.Drive.{shapeOf, gaugeOf}
+use Rattle.drive.specs.Opening.{measureOf, openingOf}
+use Rattle.drive.proofs.OpeningLaws.{measure-lent, opening-lent}
 use Rattle.records.specs.Record.{recordOf}
 use Rattle.reports.specs.Report.{reportAnswer}
 use Rattle.reports.specs.Stored.{isFlake, storedAnswer}
 use Rattle.answers.proofs.StageLaws.{both-stages, passed, accepted-is}
 use Rattle.layout.specs.Lent.{Lent}
-
--- tests 1 and 2 passed: the shape is in limits and the volume has its length
-lent-if : (d : Drive) (v : List ℕ) (x : Answer)
-    → accepts (pick (inForm d) (pick (eqb (length v) (lengthOf (shapeOf d))) x A.Length) A.Limits) ≡ true → Lent (shapeOf d) v × (accepts x ≡ true)
-lent-if d v x h =
-    let form = passed (inForm d) _ A.Limits refl h in
-    let long = passed (eqb (length v) (lengthOf (shapeOf d))) x A.Length refl (form .1) in
-    (record { limited = form-limits d (form .0); size = eqb-true (length v) (lengthOf (shapeOf d)) (long .0) }, long .1)
 
 -- an accepted report
 pub record Told (d : Drive) (v : List ℕ) : Type 0 where
@@ -45,12 +34,12 @@ pub record Told (d : Drive) (v : List ℕ) : Type 0 where
 pub report-is : (d : Drive) (v : List ℕ) → accepts (reportAnswer d v) ≡ true → Told d v
 unfolding reportAnswer andThen
 report-is d v h =
-    let w = wholeOf (shapeOf d) (d .epoch) (isChanging (d .state)) v in
+    let w = wholeOf (shapeOf d) (gaugeOf d) v in
     let q = both-stages (openingOf d v) w h in
     let whole : w ≡ A.Accepted = accepted-is w (q .1) in
     record {
       lent = opening-lent d v (q .0);
-      journals = λ m l. formed-journal (d .p) (d .epoch) (isChanging (d .state)) (recordOf (shapeOf d) v m) (whole-formed (shapeOf d) (d .epoch) (isChanging (d .state)) v whole m l);
+      journals = λ m l. formed-journal (d .p) (gaugeOf d) (recordOf (shapeOf d) v m) (whole-formed (shapeOf d) (gaugeOf d) v whole m l);
     }
 
 -- a stored flake that is shown
@@ -62,10 +51,10 @@ pub record Shown (d : Drive) (v : List ℕ) (n f : ℕ) : Type 0 where
 pub stored-is : (d : Drive) (v : List ℕ) (n f : ℕ) → accepts (storedAnswer d v n f) ≡ true → Shown d v n f
 unfolding storedAnswer isFlake
 stored-is d v n f h =
-    let q = lent-if d v (pick (isFlake d n f) A.Accepted A.PastEnd) h in
+    let q = both-stages (measureOf d v) (pick (isFlake d n f) A.Accepted A.PastEnd) h in
     let e = passed (isFlake d n f) A.Accepted A.PastEnd refl (q .1) .0 in
     record {
-      lent = q .0;
+      lent = measure-lent d v (q .0);
       nugget = ltb-true n (d .n) (both-left _ (ltb f (d .p)) e);
       flake = ltb-true f (d .p) (both-right (ltb n (d .n)) _ e);
     }

@@ -5,14 +5,13 @@ use mathlib.Core.List.{List}
 use Prim.Native.Nat.{ℕ, zero, suc, _+_, _*_, _-_, _/_, min}
 use native.Mathlib.Omega.{arith}
 use lib.Dec.{eqb, ltb}
-use lib.ListN.{length}
-use borrow.Author.Tests.{eq-eqb}
 use Rattle.base.specs.Pick.{pick, both}
 use Rattle.base.specs.Lists.{part}
 use Rattle.base.proofs.PickLaws.{yes}
 use Rattle.answers.specs.declared.Answer.the-variants as A
 use Rattle.answers.specs.Numbers.{accepts}
-use Rattle.layout.specs.Parts.{lengthOf, flakeAt}
+use Rattle.answers.proofs.StageLaws.{goes-on}
+use Rattle.layout.specs.Parts.{flakeAt}
 use Rattle.layout.proofs.Limits.{limits}
 use Rattle.records.specs.Journal.{many, present}
 use Rattle.records.specs.Record.{recordOf}
@@ -20,7 +19,7 @@ use Rattle.layout.specs.declared.Shape.{Shape}
 use Rattle.drive.specs.declared.Drive.{Drive}
 use Rattle.drive.specs.Drive.{shapeOf}
 use Rattle.drive.specs.Opening.{openingOf}
-use Rattle.drive.proofs.OpeningLaws.{opening-told}
+use Rattle.drive.proofs.OpeningLaws.{opening-measured}
 use Rattle.reports.specs.declared.told.Report.{Report}
 use Rattle.reports.specs.Counts.{flakesIn, countOf, countsIn, shareOf}
 use Rattle.reports.specs.Report.{reportAnswer, reportOf}
@@ -89,7 +88,7 @@ module _ (d : Drive) (v : List ℕ) where
   -- stored flake: 8 past the end, else accepted
   pub stored-exact : openingOf d v ≡ A.Accepted → (n f : ℕ) → storedAnswer d v n f ≡ pick (both (ltb n (d .n)) (ltb f (d .p))) A.Accepted A.PastEnd
   unfolding storedAnswer isFlake
-  stored-exact e n f = let t = opening-told d v e in yes _ (t .form) (yes _ (eq-eqb (length v) (lengthOf (shapeOf d)) (t .long)) refl)
+  stored-exact e n f = goes-on _ _ (opening-measured d v (ap accepts e))
 
   -- "as that part of the volume itself"
   pub stored-shown : (n f : ℕ) → storedAnswer d v n f ≡ A.Accepted → storedFlake d v n f ≡ part (flakeAt (shapeOf d) n f) (d .f) v

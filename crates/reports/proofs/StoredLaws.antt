@@ -16,9 +16,10 @@ use Rattle.layout.proofs.Places.{flake-inside}
 use Rattle.answers.specs.declared.Answer.{Answer}
 use Rattle.answers.specs.declared.Answer.the-variants as A
 use Rattle.answers.specs.Numbers.{accepts}
+use Rattle.answers.specs.Stages.{andThen}
 use Rattle.drive.specs.declared.Drive.{Drive}
 use Rattle.drive.specs.Drive.{shapeOf}
-use Rattle.drive.specs.Opening.{inForm}
+use Rattle.drive.specs.Opening.{inForm, measureOf}
 use Rattle.reports.specs.Stored.{isFlake, storedAnswer, storedFlake}
 use Rattle.reports.proofs.AnswerLaws.{stored-is}
 
@@ -34,11 +35,11 @@ refusal-refuses a (inr (inr e)) = rw e refl
 module _ (d : Drive) (v : List ℕ) (n f : ℕ) where
   -- no other answer is given
   pub stored-answers : (storedAnswer d v n f ≡ A.Accepted) ⊎ Refusal (storedAnswer d v n f)
-  unfolding storedAnswer
+  unfolding storedAnswer measureOf andThen
   stored-answers = go (inForm d) (eqb (length v) (lengthOf (shapeOf d))) (isFlake d n f)
     where
-      go : (a b c : Bool) → (pick a (pick b (pick c A.Accepted A.PastEnd) A.Length) A.Limits ≡ A.Accepted)
-          ⊎ Refusal (pick a (pick b (pick c A.Accepted A.PastEnd) A.Length) A.Limits)
+      go : (a b c : Bool) → let m = pick a (pick b A.Accepted A.Length) A.Limits in
+          (andThen m (pick c A.Accepted A.PastEnd) ≡ A.Accepted) ⊎ Refusal (andThen m (pick c A.Accepted A.PastEnd))
       go true true true = inl refl
       go true true false = inr (inr (inr refl))
       go true false c = inr (inr (inl refl))

@@ -7,7 +7,7 @@ use Rattle.answers.specs.declared.Answer.{Answer}
 use Rattle.answers.specs.Numbers.{accepts}
 use Rattle.tree.specs.Whole.{wholeOf}
 use Rattle.drive.specs.declared.Drive.{Drive}
-use Rattle.drive.specs.Drive.{shapeOf, isChanging}
+use Rattle.drive.specs.Drive.{shapeOf, gaugeOf}
 use Rattle.drive.specs.Opening.{openingOf}
 use Rattle.reports.specs.declared.told.Report.{Report}
 use Rattle.reports.specs.declared.told.Counts.{Counts}
@@ -15,7 +15,7 @@ use Rattle.reports.specs.Counts.{countsIn, shareOf}
 
 -- "All others start 1, 2, 7 head." "Report: 7 whole."
 unfoldable pub reportAnswer : Drive → List ℕ → Answer
-reportAnswer d v = pick (accepts (openingOf d v)) (wholeOf (shapeOf d) (d .epoch) (isChanging (d .state)) v) (openingOf d v)
+reportAnswer d v = pick (accepts (openingOf d v)) (wholeOf (shapeOf d) (gaugeOf d) v) (openingOf d v)
 
 -- the report of n nuggets with these counts
 abbrev pub counted : Answer → ℕ → Counts → Report

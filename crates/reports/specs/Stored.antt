@@ -2,17 +2,17 @@
 use Prim.Native.Nat.{ℕ, _+_}
 use mathlib.Core.Bool.{Bool}
 use mathlib.Core.List.{List, []}
-use lib.Dec.{ltb, eqb}
-use lib.ListN.{length}
+use lib.Dec.{ltb}
 use Rattle.base.specs.Pick.{pick, both}
 use Rattle.base.specs.Lists.{part}
-use Rattle.layout.specs.Parts.{lengthOf, flakeAt}
+use Rattle.layout.specs.Parts.{flakeAt}
 use Rattle.answers.specs.declared.Answer.{Answer}
 use Rattle.answers.specs.declared.Answer.the-variants as A
 use Rattle.answers.specs.Numbers.{accepts}
+use Rattle.answers.specs.Stages.{andThen}
 use Rattle.drive.specs.declared.Drive.{Drive}
 use Rattle.drive.specs.Drive.{shapeOf}
-use Rattle.drive.specs.Opening.{inForm}
+use Rattle.drive.specs.Opening.{measureOf}
 
 -- 8: "nugget or flake number past the end"
 unfoldable pub isFlake : Drive → ℕ → ℕ → Bool
@@ -20,10 +20,7 @@ isFlake d n f = both (ltb n (d .n)) (ltb f (d .p))
 
 -- "Stored flake: 1, 2, 8."
 unfoldable pub storedAnswer : Drive → List ℕ → ℕ → ℕ → Answer
-storedAnswer d v n f =
-    pick (inForm d)
-    (pick (eqb (length v) (lengthOf (shapeOf d))) (pick (isFlake d n f) A.Accepted A.PastEnd) A.Length)
-    A.Limits
+storedAnswer d v n f = andThen (measureOf d v) (pick (isFlake d n f) A.Accepted A.PastEnd)
 
 -- "It is empty exactly for answers 1, 2 or 8"
 unfoldable pub storedFlake : Drive → List ℕ → ℕ → ℕ → List ℕ

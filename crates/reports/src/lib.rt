@@ -42,8 +42,7 @@ fn report_answer(d: Drive, vol: &[u8]) -> Answer
 {
     let a = drive::opening(d, vol);
     if answers::accepted(a) {
-        let state = d.state;
-        return tree::whole(vol, drive::shape_of(d), d.epoch, drive::is_changing(state));
+        return tree::whole(vol, drive::shape_of(d), drive::gauge_of(d));
     }
     a
 }
@@ -87,16 +86,14 @@ fn is_flake(d: Drive, nugget: u32, flake: u32) -> bool
 pub fn stored_flake_answer(d: Drive, vol: &[u8], nugget: u32, flake: u32) -> Answer
     ensures { λ r. ⌜ r ≡ storedAnswer d (now (vol .entry)) nugget flake ⌝ }
 {
-    if drive::in_form(d) {
-        if vol.len() == layout::length_of(drive::shape_of(d)) {
-            if is_flake(d, nugget, flake) {
-                return Answer::Accepted;
-            }
-            return Answer::PastEnd;
+    let a = drive::measure(d, vol);
+    if answers::accepted(a) {
+        if is_flake(d, nugget, flake) {
+            return a;
         }
-        return Answer::Length;
+        return Answer::PastEnd;
     }
-    Answer::Limits
+    a
 }
 
 // "shows a backup tool the stored bytes as that part of the volume itself, no copy"

@@ -8,7 +8,7 @@ use Rattle.drive.specs.declared.Drive.{Drive}
 use Rattle.nuggets.specs.Nugget.{contentsOf}
 use Rattle.changes.specs.Write.{writeWay, writeAnswer, writes, newContents, writtenDrive, writeVolume}
 use Rattle.changes.specs.Rekey.{beginAnswer, begunDrive, beginVolume, sweepAnswer, sweepWays, sweptDrive, sweepVolume, finishAnswer, finishedDrive, finishVolume}
-use Rattle.history.specs.World.{mount, read, write, begin, sweep, finish, report, stored}
+use Rattle.history.specs.World.{mount, write, begin, sweep, finish, asks}
 use Rattle.history.specs.Step.{step, left, mounted}
 use Rattle.stores.specs.Store.{applied}
 use Rattle.stores.specs.Calls.{writeStores, beginStores, sweepStores, finishStores, storesOf, StoresLaid}
@@ -36,10 +36,8 @@ module _ (d : Drive) (v : List ℕ) where
 pub stores-laid : StoresLaid
 unfolding step left mounted storesOf applied
 stores-laid w (mount any) = refl
-stores-laid w (read o buffer) = refl
 stores-laid w (write o bytes) = sym (write-stores (w .drive) (w .vol) o bytes)
 stores-laid w (begin secret) = sym (begin-stores (w .drive) (w .vol) secret)
 stores-laid w (sweep n) = sym (sweep-stores (w .drive) (w .vol) n)
 stores-laid w finish = sym (finish-stores (w .drive) (w .vol))
-stores-laid w report = refl
-stores-laid w (stored n f) = refl
+stores-laid w (asks q) = refl

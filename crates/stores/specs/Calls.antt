@@ -9,7 +9,7 @@ use Rattle.drive.specs.declared.Drive.{Drive}
 use Rattle.nuggets.specs.Nugget.{contentsOf}
 use Rattle.changes.specs.Write.{writeWay, writeAnswer, writes, newContents, writtenDrive}
 use Rattle.changes.specs.Rekey.{beginAnswer, begunDrive, sweepAnswer, sweepWays, sweptDrive, finishAnswer, finishedDrive}
-use Rattle.history.specs.World.{World, Call, mount, read, write, begin, sweep, finish, report, stored}
+use Rattle.history.specs.World.{World, Call, mount, write, begin, sweep, finish, asks}
 use Rattle.history.specs.Step.{step}
 use Rattle.stores.specs.Store.{Store, applied}
 use Rattle.stores.specs.Work.{workStores, headStores}
@@ -32,13 +32,11 @@ finishStores d v = pick (accepts (finishAnswer d v)) (headStores (finishedDrive 
 -- the list of a call of a history
 unfoldable pub storesOf : World → Call → List Store
 storesOf w (mount any) = []
-storesOf w (read o buffer) = []
 storesOf w (write o bytes) = writeStores (w .drive) (w .vol) o bytes
 storesOf w (begin secret) = beginStores (w .drive) (w .vol) secret
 storesOf w (sweep n) = sweepStores (w .drive) (w .vol) n
 storesOf w finish = finishStores (w .drive) (w .vol)
-storesOf w report = []
-storesOf w (stored n f) = []
+storesOf w (asks q) = []
 
 -- The volume after any call, of any drive and volume, is its list laid over the volume before.
 abbrev pub StoresLaid : Type 0

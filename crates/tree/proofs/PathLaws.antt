@@ -16,6 +16,7 @@ use Rattle.answers.specs.declared.Answer.the-variants as A
 use Rattle.answers.specs.declared.Place.{Place}
 use Rattle.answers.specs.declared.Place.the-variants as P
 use Rattle.answers.specs.Numbers.{numberOf}
+use Rattle.records.specs.declared.Gauge.{Gauge}
 use Rattle.nodes.specs.Nodes.{nodeIn, leafOf, innerOf}
 use Rattle.nodes.specs.Made.{goodNode}
 use Rattle.nodes.proofs.MadeLaws.{made-leaf, made-inner, good-true, true-good}
@@ -36,8 +37,8 @@ accepted-pick true a p e = (refl, e)
 accepted-pick false a p e = absurd (altered p e)
 
 -- "leaf n belongs to node 1": record, leaf, and each node above it made of its two
-pub record Belongs (s : Shape) (epoch : ℕ) (changing : Bool) (v : List ℕ) (n : ℕ) : Type 0 where
-  pub well-formed : formed s epoch changing v n ≡ true
+pub record Belongs (s : Shape) (gauge : Gauge) (v : List ℕ) (n : ℕ) : Type 0 where
+  pub well-formed : formed s gauge v n ≡ true
   pub leaf : nodeIn s v (leaves (s .n) + n) ≡ leafOf s v n
   pub above : (i : ℕ) → upward (heightOf (s .n)) ((leaves (s .n) + n) / 2) i ≡ true → nodeIn s v i ≡ innerOf (nodeIn s v (2 * i)) (nodeIn s v (2 * i + 1))
 
@@ -52,15 +53,15 @@ climbed-all s v (suc k) j e i u =
     go g (inl w) again = rw (eqb-true j i w) at g
     go g (inr w) again = again w
 
-pub path-belongs : (s : Shape) (epoch : ℕ) (changing : Bool) (v : List ℕ) (n : ℕ) → Lent s v → n < s .n → pathOf s epoch changing v n ≡ A.Accepted
-    → Belongs s epoch changing v n
+pub path-belongs : (s : Shape) (gauge : Gauge) (v : List ℕ) (n : ℕ) → Lent s v → n < s .n → pathOf s gauge v n ≡ A.Accepted
+    → Belongs s gauge v n
 unfolding pathOf goodRecord
-path-belongs s epoch changing v n l h e =
+path-belongs s gauge v n l h e =
     let small = lent-small l in
-    let q = accepted-pick (goodRecord s epoch changing v n) (climbed s v (heightOf (s .n)) ((leaves (s .n) + n) / 2)) (P.Record n) e in
+    let q = accepted-pick (goodRecord s gauge v n) (climbed s v (heightOf (s .n)) ((leaves (s .n) + n) / 2)) (P.Record n) e in
     record {
       well-formed = both-left _ _ (q .0);
-      leaf = good-true s v (leaves (s .n) + n) (both-right (formed s epoch changing v n) _ (q .0)) ∙ made-leaf s v n h;
+      leaf = good-true s v (leaves (s .n) + n) (both-right (formed s gauge v n) _ (q .0)) ∙ made-leaf s v n h;
       above =
           λ i u.
           good-true s v i (climbed-all s v (heightOf (s .n)) ((leaves (s .n) + n) / 2) (q .1) i u)
@@ -74,10 +75,10 @@ climbed-good s v g (suc k) j r h =
     yes _ (true-good s v j (g j (rises-some (suc k) j r (omega arith)) h)) (climbed-good s v g k (j / 2) (rises-half k j r) (omega arith))
 
 -- in a good tree every path over a well formed record is accepted
-pub good-path : (s : Shape) (epoch : ℕ) (changing : Bool) (v : List ℕ) (n : ℕ) → Lent s v → n < s .n → AllGood s v → formed s epoch changing v n ≡ true
-    → pathOf s epoch changing v n ≡ A.Accepted
+pub good-path : (s : Shape) (gauge : Gauge) (v : List ℕ) (n : ℕ) → Lent s v → n < s .n → AllGood s v → formed s gauge v n ≡ true
+    → pathOf s gauge v n ≡ A.Accepted
 unfolding pathOf goodRecord
-good-path s epoch changing v n l h g f =
+good-path s gauge v n l h g f =
     let small = lent-small l in
     yes _ (both-on f (true-good s v (leaves (s .n) + n) (g (leaves (s .n) + n) (omega (arith, small .some-leaves)) (omega (arith, small .enough-leaves)))))
     (climbed-good s v g (heightOf (s .n)) ((leaves (s .n) + n) / 2) (rises-half (heightOf (s .n)) (leaves (s .n) + n) (rises-leaf s n small h))

@@ -16,6 +16,7 @@ use Rattle.answers.specs.declared.Place.the-variants as P
 use Rattle.answers.specs.Numbers.{accepts}
 use Rattle.records.specs.Record.{recordOf, wellFormed}
 use Rattle.records.specs.declared.Record.{Record}
+use Rattle.records.specs.declared.Gauge.{Gauge}
 use Rattle.nodes.specs.Made.{goodNode, storeNode}
 use Rattle.tree.specs.Path.{goodRecord, climbed, pathOf, Rises}
 use Rattle.tree.specs.Whole.{recordsFrom, nuggetLeaf, badOf, worst, atNode, wholeOf}
@@ -100,51 +101,51 @@ module _ (s : Shape) (v : List ℕ) (i : ℕ) where
   unfolding badOf
   bad-bad a e = sym (no _ a (no _ e refl))
 
-module _ (s : Shape) (epoch : ℕ) (changing : Bool) (v : List ℕ) where
-  pub record-on : (n : ℕ) {l : ℕ} {r : Record} {ok : Bool} → r ≡ recordOf s v n → wellFormed (s .p) epoch changing r ≡ true → l ≡ leaves (s .n)
-      → ok ≡ goodNode s v (l + n) → ok ≡ goodRecord s epoch changing v n
+module _ (s : Shape) (gauge : Gauge) (v : List ℕ) where
+  pub record-on : (n : ℕ) {l : ℕ} {r : Record} {ok : Bool} → r ≡ recordOf s v n → wellFormed (s .p) gauge r ≡ true → l ≡ leaves (s .n)
+      → ok ≡ goodNode s v (l + n) → ok ≡ goodRecord s gauge v n
   unfolding goodRecord
   record-on n er ew el eo = rw (eo, el) (sym (both-on (rw er at ew) refl))
 
-  pub record-off : (n : ℕ) {r : Record} → r ≡ recordOf s v n → wellFormed (s .p) epoch changing r ≡ false
-      → false ≡ goodRecord s epoch changing v n
+  pub record-off : (n : ℕ) {r : Record} → r ≡ recordOf s v n → wellFormed (s .p) gauge r ≡ false
+      → false ≡ goodRecord s gauge v n
   unfolding goodRecord
   record-off n er ew = sym (both-off _ (rw er at ew))
 
-  recordsFrom-suc : (k m n : ℕ) → k ≡ suc m → goodRecord s epoch changing v n ≡ true → recordsFrom s epoch changing v m (n + 1) ≡ recordsFrom s epoch changing v k n
+  recordsFrom-suc : (k m n : ℕ) → k ≡ suc m → goodRecord s gauge v n ≡ true → recordsFrom s gauge v m (n + 1) ≡ recordsFrom s gauge v k n
   unfolding recordsFrom
   recordsFrom-suc k m n q e = rw (q, add-one n) (sym (yes _ e refl))
 
-  pub recordsFrom-on : (n : ℕ) → n < s .n → goodRecord s epoch changing v n ≡ true
-      → recordsFrom s epoch changing v (s .n - (n + 1)) (n + 1) ≡ recordsFrom s epoch changing v (s .n - n) n
+  pub recordsFrom-on : (n : ℕ) → n < s .n → goodRecord s gauge v n ≡ true
+      → recordsFrom s gauge v (s .n - (n + 1)) (n + 1) ≡ recordsFrom s gauge v (s .n - n) n
   recordsFrom-on n h e = recordsFrom-suc (s .n - n) (s .n - (n + 1)) n (omega arith) e
 
-  recordsFrom-no : (k m n : ℕ) → k ≡ suc m → goodRecord s epoch changing v n ≡ false → A.Altered (P.Record n) ≡ recordsFrom s epoch changing v k n
+  recordsFrom-no : (k m n : ℕ) → k ≡ suc m → goodRecord s gauge v n ≡ false → A.Altered (P.Record n) ≡ recordsFrom s gauge v k n
   unfolding recordsFrom
   recordsFrom-no k m n q e = rw q (sym (no _ e refl))
 
-  pub recordsFrom-off : (n : ℕ) → n < s .n → goodRecord s epoch changing v n ≡ false → A.Altered (P.Record n) ≡ recordsFrom s epoch changing v (s .n - n) n
+  pub recordsFrom-off : (n : ℕ) → n < s .n → goodRecord s gauge v n ≡ false → A.Altered (P.Record n) ≡ recordsFrom s gauge v (s .n - n) n
   recordsFrom-off n h e = recordsFrom-no (s .n - n) (s .n - (n + 1)) n (omega arith) e
 
-  pub recordsFrom-end : (n : ℕ) → s .n ≤ n → A.Accepted ≡ recordsFrom s epoch changing v (s .n - n) n
+  pub recordsFrom-end : (n : ℕ) → s .n ≤ n → A.Accepted ≡ recordsFrom s gauge v (s .n - n) n
   unfolding recordsFrom
   recordsFrom-end n h = let q : s .n - n ≡ 0 = omega arith in rw q
 
-  pub path-on : (n : ℕ) {h l : ℕ} {r : Answer} → goodRecord s epoch changing v n ≡ true → h ≡ heightOf (s .n) → l ≡ leaves (s .n) → r ≡ climbed s v h ((l + n) / 2)
-      → r ≡ pathOf s epoch changing v n
+  pub path-on : (n : ℕ) {h l : ℕ} {r : Answer} → goodRecord s gauge v n ≡ true → h ≡ heightOf (s .n) → l ≡ leaves (s .n) → r ≡ climbed s v h ((l + n) / 2)
+      → r ≡ pathOf s gauge v n
   unfolding pathOf
   path-on n e eh el er = rw (er, eh, el) (sym (yes _ e refl))
 
-  pub path-off : (n : ℕ) → goodRecord s epoch changing v n ≡ false → A.Altered (P.Record n) ≡ pathOf s epoch changing v n
+  pub path-off : (n : ℕ) → goodRecord s gauge v n ≡ false → A.Altered (P.Record n) ≡ pathOf s gauge v n
   unfolding pathOf
   path-off n e = sym (no _ e refl)
 
-  pub whole-on : {a r : Answer} {h w : ℕ} → a ≡ recordsFrom s epoch changing v (s .n) 0 → accepts a ≡ true → h ≡ heightOf (s .n) → w ≡ worst s v h 1 → r ≡ atNode w
-      → r ≡ wholeOf s epoch changing v
+  pub whole-on : {a r : Answer} {h w : ℕ} → a ≡ recordsFrom s gauge v (s .n) 0 → accepts a ≡ true → h ≡ heightOf (s .n) → w ≡ worst s v h 1 → r ≡ atNode w
+      → r ≡ wholeOf s gauge v
   unfolding wholeOf
   whole-on ea e eh ew er = rw (er, ew, eh) (sym (yes _ (rw ea at e) refl))
 
-  pub whole-off : {a : Answer} → a ≡ recordsFrom s epoch changing v (s .n) 0 → accepts a ≡ false → a ≡ wholeOf s epoch changing v
+  pub whole-off : {a : Answer} → a ≡ recordsFrom s gauge v (s .n) 0 → accepts a ≡ false → a ≡ wholeOf s gauge v
   unfolding wholeOf
   whole-off ea e = ea ∙ sym (no _ (rw ea at e) refl)
 

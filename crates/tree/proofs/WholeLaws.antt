@@ -1,6 +1,6 @@
 -- The whole is accepted exactly if every record is well formed and every node good.
 use mathlib.Core.Path.{_≡_, refl, sym, ap, _∙_}
-use mathlib.Core.Bool.{Bool, true, false}
+use mathlib.Core.Bool.{true, false}
 use mathlib.Core.Logic.{_⊎_, inl, inr}
 use mathlib.Core.List.{List}
 use Prim.Native.Nat.{ℕ, zero, suc, _+_, _-_, _<_, _≤_}
@@ -15,6 +15,7 @@ use Rattle.answers.specs.declared.Answer.{Answer}
 use Rattle.answers.specs.declared.Answer.the-variants as A
 use Rattle.answers.specs.declared.Place.the-variants as P
 use Rattle.answers.specs.Numbers.{accepts}
+use Rattle.records.specs.declared.Gauge.{Gauge}
 use Rattle.nodes.specs.Made.{goodNode}
 use Rattle.nodes.proofs.MadeLaws.{good-true, true-good}
 use Rattle.tree.specs.Path.{formed, goodRecord, pathOf}
@@ -42,43 +43,43 @@ stages a b e = go (told (accepts a))
     go (inl q) = (q, sym (yes a q refl) ∙ e)
     go (inr q) = absurd (clash (ap accepts (sym (no b q refl) ∙ e)) q)
 
-module _ (s : Shape) (epoch : ℕ) (changing : Bool) (v : List ℕ) where
-  records-all : (k m : ℕ) → accepts (recordsFrom s epoch changing v k m) ≡ true → (n : ℕ) → m ≤ n → n < m + k → goodRecord s epoch changing v n ≡ true
+module _ (s : Shape) (gauge : Gauge) (v : List ℕ) where
+  records-all : (k m : ℕ) → accepts (recordsFrom s gauge v k m) ≡ true → (n : ℕ) → m ≤ n → n < m + k → goodRecord s gauge v n ≡ true
   unfolding recordsFrom
   records-all zero m e n a b = absurd (omega arith)
-  records-all (suc k) m e n a b = go (told (goodRecord s epoch changing v m)) (told (eqb m n)) (λ q r. records-all k (suc m) q n r (omega arith))
+  records-all (suc k) m e n a b = go (told (goodRecord s gauge v m)) (told (eqb m n)) (λ q r. records-all k (suc m) q n r (omega arith))
     where
-      go : (goodRecord s epoch changing v m ≡ true) ⊎ (goodRecord s epoch changing v m ≡ false) → (eqb m n ≡ true) ⊎ (eqb m n ≡ false)
-          → (accepts (recordsFrom s epoch changing v k (suc m)) ≡ true → suc m ≤ n → goodRecord s epoch changing v n ≡ true)
-          → goodRecord s epoch changing v n ≡ true
+      go : (goodRecord s gauge v m ≡ true) ⊎ (goodRecord s gauge v m ≡ false) → (eqb m n ≡ true) ⊎ (eqb m n ≡ false)
+          → (accepts (recordsFrom s gauge v k (suc m)) ≡ true → suc m ≤ n → goodRecord s gauge v n ≡ true)
+          → goodRecord s gauge v n ≡ true
       go (inl g) (inl q) again = rw (eqb-true m n q) at g
       go (inl g) (inr q) again = again (rw g at e) (omega (arith, eqb-false m n q))
       go (inr g) x again = absurd (clash (rw g at e) refl)
 
-  records-good : (k m : ℕ) → ((n : ℕ) → m ≤ n → n < m + k → goodRecord s epoch changing v n ≡ true) → recordsFrom s epoch changing v k m ≡ A.Accepted
+  records-good : (k m : ℕ) → ((n : ℕ) → m ≤ n → n < m + k → goodRecord s gauge v n ≡ true) → recordsFrom s gauge v k m ≡ A.Accepted
   unfolding recordsFrom
   records-good zero m g = refl
   records-good (suc k) m g = yes _ (g m (omega arith) (omega arith)) (records-good k (suc m) (λ n a b. g n (omega arith) (omega arith)))
 
-  whole-stages : wholeOf s epoch changing v ≡ A.Accepted → (accepts (recordsFrom s epoch changing v (s .n) 0) ≡ true) × (worst s v (heightOf (s .n)) 1 ≡ 0)
+  whole-stages : wholeOf s gauge v ≡ A.Accepted → (accepts (recordsFrom s gauge v (s .n) 0) ≡ true) × (worst s v (heightOf (s .n)) 1 ≡ 0)
   unfolding wholeOf
   whole-stages e =
-      let q = stages (recordsFrom s epoch changing v (s .n) 0) (atNode (worst s v (heightOf (s .n)) 1)) e in
+      let q = stages (recordsFrom s gauge v (s .n) 0) (atNode (worst s v (heightOf (s .n)) 1)) e in
       (q .0, at-accepted (worst s v (heightOf (s .n)) 1) (q .1))
 
   -- accepted: every record is well formed
-  pub whole-formed : wholeOf s epoch changing v ≡ A.Accepted → (n : ℕ) → n < s .n → formed s epoch changing v n ≡ true
+  pub whole-formed : wholeOf s gauge v ≡ A.Accepted → (n : ℕ) → n < s .n → formed s gauge v n ≡ true
   unfolding goodRecord
   whole-formed e n h = both-left _ _ (records-all (s .n) 0 (whole-stages e .0) n (omega arith) (omega arith))
 
   -- and every node is good
-  pub whole-good : wholeOf s epoch changing v ≡ A.Accepted → AllGood s v
+  pub whole-good : wholeOf s gauge v ≡ A.Accepted → AllGood s v
   unfolding goodRecord nuggetLeaf
   whole-good e i a b = good-true s v i (go (told (nuggetLeaf s i)) (told (goodNode s v i)))
     where
       leaf : (n : ℕ) → n < s .n → goodNode s v (leaves (s .n) + n) ≡ true
       leaf n h =
-          both-right (formed s epoch changing v n) (goodNode s v (leaves (s .n) + n)) (records-all (s .n) 0 (whole-stages e .0) n (omega arith) (omega arith))
+          both-right (formed s gauge v n) (goodNode s v (leaves (s .n) + n)) (records-all (s .n) 0 (whole-stages e .0) n (omega arith) (omega arith))
 
       go : (nuggetLeaf s i ≡ true) ⊎ (nuggetLeaf s i ≡ false) → (goodNode s v i ≡ true) ⊎ (goodNode s v i ≡ false) → goodNode s v i ≡ true
       go x (inl g) = g
@@ -91,7 +92,7 @@ module _ (s : Shape) (epoch : ℕ) (changing : Bool) (v : List ℕ) where
           absurd (omega (arith, whole-stages e .1, worst-most s v (heightOf (s .n)) 1 i (record { within = under-root (heightOf (s .n)) i a b; other = x; bad = g })))
 
   -- and these two give acceptance
-  pub good-whole : Lent s v → AllGood s v → ((n : ℕ) → n < s .n → formed s epoch changing v n ≡ true) → wholeOf s epoch changing v ≡ A.Accepted
+  pub good-whole : Lent s v → AllGood s v → ((n : ℕ) → n < s .n → formed s gauge v n ≡ true) → wholeOf s gauge v ≡ A.Accepted
   unfolding wholeOf goodRecord atNode
   good-whole l g f =
       yes _ (ap accepts records) (ap atNode (none (worst-bad s v (heightOf (s .n)) 1)))
@@ -99,10 +100,10 @@ module _ (s : Shape) (epoch : ℕ) (changing : Bool) (v : List ℕ) where
       small : Small s
       small = lent-small l
 
-      record-good : (n : ℕ) → n < s .n → goodRecord s epoch changing v n ≡ true
+      record-good : (n : ℕ) → n < s .n → goodRecord s gauge v n ≡ true
       record-good n h = both-on (f n h) (true-good s v (leaves (s .n) + n) (g (leaves (s .n) + n) (omega (arith, small .some-leaves)) (omega (arith, small .enough-leaves))))
 
-      records : recordsFrom s epoch changing v (s .n) 0 ≡ A.Accepted
+      records : recordsFrom s gauge v (s .n) 0 ≡ A.Accepted
       records = records-good (s .n) 0 (λ n a b. record-good n (omega arith))
 
       none : (worst s v (heightOf (s .n)) 1 ≡ 0) ⊎ Bad s v (heightOf (s .n)) 1 (worst s v (heightOf (s .n)) 1) → worst s v (heightOf (s .n)) 1 ≡ 0
@@ -112,5 +113,5 @@ module _ (s : Shape) (epoch : ℕ) (changing : Bool) (v : List ℕ) where
           absurd (clash (true-good s v _ (g _ (r .0) (r .1))) (x .bad))
 
   -- if the whole passes, every path passes
-  pub whole-paths : Lent s v → wholeOf s epoch changing v ≡ A.Accepted → (n : ℕ) → n < s .n → pathOf s epoch changing v n ≡ A.Accepted
-  whole-paths l e n h = good-path s epoch changing v n l h (whole-good e) (whole-formed e n h)
+  pub whole-paths : Lent s v → wholeOf s gauge v ≡ A.Accepted → (n : ℕ) → n < s .n → pathOf s gauge v n ≡ A.Accepted
+  whole-paths l e n h = good-path s gauge v n l h (whole-good e) (whole-formed e n h)

@@ -8,25 +8,26 @@ use Rattle.layout.specs.declared.Shape.{Shape}
 use Rattle.answers.specs.declared.Answer.{Answer}
 use Rattle.answers.specs.declared.Answer.the-variants as A
 use Rattle.answers.specs.declared.Place.the-variants as P
+use Rattle.records.specs.declared.Gauge.{Gauge}
 use Rattle.records.specs.Record.{recordOf, wellFormed}
 use Rattle.nodes.specs.Made.{goodNode}
 
--- it is well formed, under the head's epoch and state
-abbrev pub formed : Shape → ℕ → Bool → List ℕ → ℕ → Bool
-formed s epoch changing v n = wellFormed (s .p) epoch changing (recordOf s v n)
+-- it is well formed
+abbrev pub formed : Shape → Gauge → List ℕ → ℕ → Bool
+formed s gauge v n = wellFormed (s .p) gauge (recordOf s v n)
 
 -- and its leaf is node L + n
-unfoldable pub goodRecord : Shape → ℕ → Bool → List ℕ → ℕ → Bool
-goodRecord s epoch changing v n = both (formed s epoch changing v n) (goodNode s v (leaves (s .n) + n))
+unfoldable pub goodRecord : Shape → Gauge → List ℕ → ℕ → Bool
+goodRecord s gauge v n = both (formed s gauge v n) (goodNode s v (leaves (s .n) + n))
 
 -- "then node i, from its parent up": node i and those above it, k in all
 unfoldable pub climbed : Shape → List ℕ → ℕ → ℕ → Answer
 climbed s v zero i = A.Accepted
 climbed s v (suc k) i = pick (goodNode s v i) (climbed s v k (i / 2)) (A.Altered (P.Node i))
 
-unfoldable pub pathOf : Shape → ℕ → Bool → List ℕ → ℕ → Answer
-pathOf s epoch changing v n =
-    pick (goodRecord s epoch changing v n) (climbed s v (heightOf (s .n)) ((leaves (s .n) + n) / 2)) (A.Altered (P.Record n))
+unfoldable pub pathOf : Shape → Gauge → List ℕ → ℕ → Answer
+pathOf s gauge v n =
+    pick (goodRecord s gauge v n) (climbed s v (heightOf (s .n)) ((leaves (s .n) + n) / 2)) (A.Altered (P.Record n))
 
 -- node i and those above it, up to node 1, are k nodes
 pub record Rises (k i : ℕ) : Type 0 where

@@ -10,14 +10,15 @@ use Rattle.answers.specs.declared.Answer.{Answer}
 use Rattle.answers.specs.declared.Answer.the-variants as A
 use Rattle.answers.specs.declared.Place.the-variants as P
 use Rattle.answers.specs.Numbers.{accepts}
+use Rattle.records.specs.declared.Gauge.{Gauge}
 use Rattle.nodes.specs.Made.{goodNode}
 use Rattle.tree.specs.Path.{goodRecord}
 
 -- "records ascending": the k records from n on
-unfoldable pub recordsFrom : Shape → ℕ → Bool → List ℕ → ℕ → ℕ → Answer
-recordsFrom s epoch changing v zero n = A.Accepted
-recordsFrom s epoch changing v (suc k) n =
-    pick (goodRecord s epoch changing v n) (recordsFrom s epoch changing v k (suc n)) (A.Altered (P.Record n))
+unfoldable pub recordsFrom : Shape → Gauge → List ℕ → ℕ → ℕ → Answer
+recordsFrom s gauge v zero n = A.Accepted
+recordsFrom s gauge v (suc k) n =
+    pick (goodRecord s gauge v n) (recordsFrom s gauge v k (suc n)) (A.Altered (P.Record n))
 
 -- "all other nodes": a nugget's leaf was tested with its record
 unfoldable pub nuggetLeaf : Shape → ℕ → Bool
@@ -36,9 +37,9 @@ worst s v (suc h) i = max (badOf s v i) (max (worst s v h (2 * i)) (worst s v h 
 unfoldable pub atNode : ℕ → Answer
 atNode i = pick (eqb i 0) A.Accepted (A.Altered (P.Node i))
 
-unfoldable pub wholeOf : Shape → ℕ → Bool → List ℕ → Answer
-wholeOf s epoch changing v =
-    let a = recordsFrom s epoch changing v (s .n) 0 in
+unfoldable pub wholeOf : Shape → Gauge → List ℕ → Answer
+wholeOf s gauge v =
+    let a = recordsFrom s gauge v (s .n) 0 in
     pick (accepts a) (atNode (worst s v (heightOf (s .n)) 1)) a
 
 -- node i has height h: all that is h steps below it is a leaf

@@ -3,6 +3,7 @@
 use answers::Answer;
 use answers::Place;
 use layout::Shape;
+use records::Gauge;
 ghost use mathlib.Core.Path.{_≡_};
 ghost use mathlib.Core.Bool.{true};
 ghost use Prim.Native.Nat.{_*_, _<_, _≤_, max};
@@ -13,12 +14,12 @@ ghost use Rattle.tree.specs.Renewed.{renewed, built};
 ghost use Rattle.layout.specs.Lent.{Lent};
 
 // Whether record n is well formed and its leaf is node L + n.
-fn good_record(vol: &[u8], s: Shape, epoch: u16, changing: bool, n: u32) -> bool
+fn good_record(vol: &[u8], s: Shape, gauge: Gauge, n: u32) -> bool
     requires { ⌜ Lent s (now vol) × (n < s .n) ⌝ }
-    ensures { λ r. ⌜ r ≡ goodRecord s epoch changing (now (vol .entry)) n ⌝ }
+    ensures { λ r. ⌜ r ≡ goodRecord s gauge (now (vol .entry)) n ⌝ }
 {
     let r = records::read(vol, s, n);
-    if records::well_formed(r, s.p, epoch, changing) {
+    if records::well_formed(r, s.p, gauge) {
         nodes::good(vol, s, (layout::leaves_of(s.n) as u32) + n)
     } else {
         false
@@ -44,11 +45,11 @@ fn climb(vol: &[u8], s: Shape, count: u32, from: u32) -> Answer
 }
 
 // The test "path" of nugget n.
-pub fn path(vol: &[u8], s: Shape, epoch: u16, changing: bool, n: u32) -> Answer
+pub fn path(vol: &[u8], s: Shape, gauge: Gauge, n: u32) -> Answer
     requires { ⌜ Lent s (now vol) × (n < s .n) ⌝ }
-    ensures { λ r. ⌜ r ≡ pathOf s epoch changing (now (vol .entry)) n ⌝ }
+    ensures { λ r. ⌜ r ≡ pathOf s gauge (now (vol .entry)) n ⌝ }
 {
-    if good_record(vol, s, epoch, changing, n) {
+    if good_record(vol, s, gauge, n) {
         let leaf = (layout::leaves_of(s.n) as u32) + n;
         climb(vol, s, layout::height_of(s.n), leaf / 2)
     } else {
@@ -57,14 +58,14 @@ pub fn path(vol: &[u8], s: Shape, epoch: u16, changing: bool, n: u32) -> Answer
 }
 
 // "records ascending"
-fn all_records(vol: &[u8], s: Shape, epoch: u16, changing: bool) -> Answer
+fn all_records(vol: &[u8], s: Shape, gauge: Gauge) -> Answer
     requires { ⌜ Lent s (now vol) ⌝ }
-    ensures { λ r. ⌜ r ≡ recordsFrom s epoch changing (now (vol .entry)) (s .n) 0 ⌝ }
+    ensures { λ r. ⌜ r ≡ recordsFrom s gauge (now (vol .entry)) (s .n) 0 ⌝ }
 {
     let count = s.n;
     let mut n = 0;
     while n < count {
-        if good_record(vol, s, epoch, changing, n) {
+        if good_record(vol, s, gauge, n) {
             n += 1;
         } else {
             return Answer::Altered(Place::Record(n));
@@ -130,11 +131,11 @@ fn at_node(i: u32) -> Answer
 }
 
 // The test "whole": "records ascending, then all other nodes from 2L - 1 down to 1".
-pub fn whole(vol: &[u8], s: Shape, epoch: u16, changing: bool) -> Answer
+pub fn whole(vol: &[u8], s: Shape, gauge: Gauge) -> Answer
     requires { ⌜ Lent s (now vol) ⌝ }
-    ensures { λ r. ⌜ r ≡ wholeOf s epoch changing (now (vol .entry)) ⌝ }
+    ensures { λ r. ⌜ r ≡ wholeOf s gauge (now (vol .entry)) ⌝ }
 {
-    let a = all_records(vol, s, epoch, changing);
+    let a = all_records(vol, s, gauge);
     if answers::accepted(a) {
         at_node(worst_under(vol, s, layout::height_of(s.n), 1))
     } else {

@@ -1,7 +1,7 @@
 use Rattle.laying.proofs.ChangeLaws.{advanced-is}
 use Rattle.layout.specs.Lent.{Lent}
 use Rattle.layout.specs.declared.Shape.{Shape}
-use mathlib.Core.Path.{sym, subst}
+use mathlib.Core.Path.{sym, subst, _∙_}
 use borrow.Author.Needs.{needs}
 use Rattle.laying.proofs.advanced_drive.Statement.{statement}
 use Rattle.laying.proofs.advanced_drive.Tie as tie
@@ -17,14 +17,18 @@ first-requires c κs =
 kept-old-requires : tie.Need-kept-old-requires
 kept-old-requires c κs = search needs
 
-add-t10 : tie.Need-add-t10
-add-t10 c = search needs
+add-headed : tie.Need-add-headed
+add-headed c = search needs
+
+headed-requires : tie.Need-headed-requires
+headed-requires c κs = search needs
 
 returns : tie.Need-returns
 returns c =
     let a = c .before .before .before .before .before .before .before .before .args in
-    advanced-is (a .d) (a .vol .now) (c .before .before .before .before .before .before .shape-of .ensures) (c .before .before .before .before .before .first .ensures) (c .before .before .before .kept-old .ensures)
+    c .headed .ensures ∙ advanced-is (a .d) (a .vol .now) (c .before .before .before .before .before .before .shape-of .ensures) (c .before .before .before .before .before .first .ensures) (c .before .before .before .kept-old .ensures)
 
 pub advanced-drive-spec : {M : Type 1} → statement M
 advanced-drive-spec =
-    tie.close (tie.spec shape-of-requires first-requires kept-old-requires add-t10 returns)
+    tie.close
+    (tie.spec shape-of-requires first-requires kept-old-requires add-headed headed-requires returns)

@@ -6,14 +6,14 @@ use Rattle.nuggets.proofs.test_path.Tie as tie
 shape-of-requires : tie.Need-shape-of-requires
 shape-of-requires c κs = search needs
 
-is-changing-requires : tie.Need-is-changing-requires
-is-changing-requires c κs = search needs
+gauge-of-requires : tie.Need-gauge-of-requires
+gauge-of-requires c κs = search needs
 
 path-requires : tie.Need-path-requires
 path-requires c κs = rw (c .before .shape-of .ensures) (c .before .before .before .pre .0, c .before .before .before .pre .1)
 
 returns : tie.Need-returns
-returns c = c .path .ensures ∙ rw (c .before .before .shape-of .ensures, c .before .is-changing .ensures)
+returns c = c .path .ensures ∙ rw (c .before .before .shape-of .ensures, c .before .gauge-of .ensures)
 
 pub test-path-spec : {M : Type 1} → statement M
-test-path-spec = tie.close (tie.spec shape-of-requires is-changing-requires path-requires returns)
+test-path-spec = tie.close (tie.spec shape-of-requires gauge-of-requires path-requires returns)

@@ -1,7 +1,6 @@
 use Rattle.opening.proofs.FormatLaws.{format-lent, format-on, format-off}
 use Rattle.opening.specs.Format.{formatAnswer, planted}
 use Rattle.tree.specs.Renewed.{built}
-use Rattle.layout.specs.Shape.{shape}
 use Rattle.answers.specs.Numbers.{accepts}
 use Rattle.answers.specs.declared.Answer.{Answer}
 use lib.Seq.{sets}
@@ -24,7 +23,7 @@ accepted-requires c κs = search needs
 lay-bare-requires : tie.Need-lay-bare-requires
 lay-bare-requires c κs =
     let a = c .before .before .before .before .before .before .args in
-    let s = shape (a .n) (a .p) (a .f) in
+    let s = a .s in
     let v = a .vol .now in
     let t : accepts (formatAnswer s (a .outside) v) ≡ true = sym (ap (λ (x : Answer). accepts x) (c .before .before .before .format-tests .ensures)) ∙ sym (c .before .before .accepted .ensures) ∙ c .before .if1 .taken in
     let l = format-lent s (a .outside) v t in
@@ -33,7 +32,7 @@ lay-bare-requires c κs =
 build-requires : tie.Need-build-requires
 build-requires c κs =
     let a = c .before .before .before .before .before .before .before .before .before .before .args in
-    let s = shape (a .n) (a .p) (a .f) in
+    let s = a .s in
     let v = a .vol .now in
     let t : accepts (formatAnswer s (a .outside) v) ≡ true = sym (ap (λ (x : Answer). accepts x) (c .before .before .before .before .before .before .before .format-tests .ensures)) ∙ sym (c .before .before .before .before .before .before .accepted .ensures) ∙ c .before .before .before .before .before .if1 .taken in
     let l = format-lent s (a .outside) v t in
@@ -43,7 +42,7 @@ fresh-drive-requires : tie.Need-fresh-drive-requires
 unfolding planted
 fresh-drive-requires c κs =
     let a = c .before .before .before .before .before .before .before .before .before .before .before .before .before .before .args in
-    let s = shape (a .n) (a .p) (a .f) in
+    let s = a .s in
     let v = a .vol .now in
     let t : accepts (formatAnswer s (a .outside) v) ≡ true = sym (ap (λ (x : Answer). accepts x) (c .before .before .before .before .before .before .before .before .before .before .before .format-tests .ensures)) ∙ sym (c .before .before .before .before .before .before .before .before .before .before .accepted .ensures) ∙ c .before .before .before .before .before .before .before .before .before .if1 .taken in
     let l = format-lent s (a .outside) v t in
@@ -59,7 +58,7 @@ slice-aggregate-copy c = search needs
 copy-requires : tie.Need-copy-requires
 copy-requires c κs =
     let a = c .before .before .before .before .before .before .before .before .before .before .before .before .before .before .before .before .before .before .args in
-    let s = shape (a .n) (a .p) (a .f) in
+    let s = a .s in
     let v = a .vol .now in
     let t : accepts (formatAnswer s (a .outside) v) ≡ true = sym (ap (λ (x : Answer). accepts x) (c .before .before .before .before .before .before .before .before .before .before .before .before .before .before .before .format-tests .ensures)) ∙ sym (c .before .before .before .before .before .before .before .before .before .before .before .before .before .before .accepted .ensures) ∙ c .before .before .before .before .before .before .before .before .before .before .before .before .before .if1 .taken in
     let l = format-lent s (a .outside) v t in
@@ -73,7 +72,7 @@ returns : tie.Need-returns
 unfolding planted
 returns c =
     let a = c .before .before .before .before .before .before .before .before .before .before .before .before .before .before .before .before .before .before .before .before .before .args in
-    let s = shape (a .n) (a .p) (a .f) in
+    let s = a .s in
     let v = a .vol .now in
     let t : accepts (formatAnswer s (a .outside) v) ≡ true = sym (ap (λ (x : Answer). accepts x) (c .before .before .before .before .before .before .before .before .before .before .before .before .before .before .before .before .before .before .format-tests .ensures)) ∙ sym (c .before .before .before .before .before .before .before .before .before .before .before .before .before .before .before .before .before .accepted .ensures) ∙ c .before .before .before .before .before .before .before .before .before .before .before .before .before .before .before .before .if1 .taken in
     let l = format-lent s (a .outside) v t in
@@ -90,7 +89,7 @@ same-length-2 c = search needs
 returns-2 : tie.Need-returns-2
 returns-2 c =
     let a = c .before .before .before .before .before .before .args in
-    format-off (shape (a .n) (a .p) (a .f)) (a .salt) (a .secret) (a .outside) (a .vol .now) (sym (c .before .before .before .format-tests .ensures)) (sym (c .before .before .accepted .ensures) ∙ c .before .if1 .left) (c .blank .ensures)
+    format-off (a .s) (a .salt) (a .secret) (a .outside) (a .vol .now) (sym (c .before .before .before .format-tests .ensures)) (sym (c .before .before .accepted .ensures) ∙ c .before .if1 .left) (c .blank .ensures)
 
 pub format-spec : {M : Type 1} → statement M
 format-spec =

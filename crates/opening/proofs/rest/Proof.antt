@@ -3,7 +3,7 @@ use Rattle.tree.specs.Whole.{wholeOf}
 use Rattle.answers.specs.Numbers.{accepts}
 use Rattle.answers.specs.declared.Answer.{Answer}
 use Rattle.layout.specs.declared.Shape.{Shape}
-use mathlib.Core.Bool.{Bool}
+use Rattle.records.specs.declared.Gauge.{Gauge}
 use mathlib.Core.Path.{sym, _∙_, ap, ap₂}
 use borrow.Author.Needs.{needs}
 use Rattle.opening.proofs.rest.Statement.{statement}
@@ -19,8 +19,8 @@ accepted-requires c κs = search needs
 shape-of-requires : tie.Need-shape-of-requires
 shape-of-requires c κs = search needs
 
-is-changing-requires : tie.Need-is-changing-requires
-is-changing-requires c κs = search needs
+gauge-of-requires : tie.Need-gauge-of-requires
+gauge-of-requires c κs = search needs
 
 whole-requires : tie.Need-whole-requires
 whole-requires c κs = rw (c .before .shape-of .ensures) (c .before .before .before .before .before .before .pre)
@@ -29,7 +29,7 @@ returns : tie.Need-returns
 unfolding restOf
 returns c =
     let a = c .before .before .before .before .before .before .before .args in
-    c .whole .ensures ∙ ap₂ (λ (s : Shape) (b : Bool). wholeOf s (a .d .epoch) b (a .vol .now)) (c .before .before .shape-of .ensures) (c .before .is-changing .ensures)
+    c .whole .ensures ∙ ap₂ (λ (s : Shape) (g : Gauge). wholeOf s g (a .vol .now)) (c .before .before .shape-of .ensures) (c .before .gauge-of .ensures)
     ∙ sym (goes-on _ _ (sym (ap (λ (x : Answer). accepts x) (c .before .before .before .before .before .keys-fit .ensures)) ∙ sym (c .before .before .before .before .accepted .ensures) ∙ c .before .before .before .if1 .taken))
 
 returns-2 : tie.Need-returns-2
@@ -43,7 +43,7 @@ rest-spec =
     keys-fit-requires
     accepted-requires
     shape-of-requires
-    is-changing-requires
+    gauge-of-requires
     whole-requires
     returns
     returns-2)

@@ -16,15 +16,15 @@ accepted-requires c κs = search needs
 shape-of-requires : tie.Need-shape-of-requires
 shape-of-requires c κs = search needs
 
-is-changing-requires : tie.Need-is-changing-requires
-is-changing-requires c κs = search needs
+gauge-of-requires : tie.Need-gauge-of-requires
+gauge-of-requires c κs = search needs
 
 whole-requires : tie.Need-whole-requires
 whole-requires c κs = rw (c .before .shape-of .ensures) (opening-lent (c .before .before .before .before .before .before .args .d) (c .before .before .before .before .before .before .args .vol .now) (ap accepts (sym (c .before .before .before .before .opening .ensures)) ∙ sym (c .before .before .before .accepted .ensures) ∙ c .before .before .if1 .taken))
 
 returns : tie.Need-returns
 unfolding reportAnswer
-returns c = c .whole .ensures ∙ rw (c .before .before .shape-of .ensures, c .before .is-changing .ensures) (sym (yes _ (ap accepts (sym (c .before .before .before .before .before .opening .ensures)) ∙ sym (c .before .before .before .before .accepted .ensures) ∙ c .before .before .before .if1 .taken) refl))
+returns c = c .whole .ensures ∙ rw (c .before .before .shape-of .ensures, c .before .gauge-of .ensures) (sym (yes _ (ap accepts (sym (c .before .before .before .before .before .opening .ensures)) ∙ sym (c .before .before .before .before .accepted .ensures) ∙ c .before .before .before .if1 .taken) refl))
 
 returns-2 : tie.Need-returns-2
 unfolding reportAnswer
@@ -37,7 +37,7 @@ report-answer-spec =
     opening-requires
     accepted-requires
     shape-of-requires
-    is-changing-requires
+    gauge-of-requires
     whole-requires
     returns
     returns-2)

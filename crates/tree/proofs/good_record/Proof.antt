@@ -31,13 +31,13 @@ good-requires c κs =
 returns : tie.Need-returns
 returns c =
     let a = c .before .before .before .before .before .before .args in
-    record-on (a .s) (a .epoch) (a .changing) (a .vol .now) (a .n) (c .before .before .before .before .read .ensures) (sym (c .before .before .before .well-formed .ensures) ∙ c .before .before .if1 .taken)
+    record-on (a .s) (a .gauge) (a .vol .now) (a .n) (c .before .before .before .before .read .ensures) (sym (c .before .before .before .well-formed .ensures) ∙ c .before .before .if1 .taken)
     (c .before .leaves-of .ensures) (c .good2 .ensures)
 
 returns-2 : tie.Need-returns-2
 returns-2 c =
     let a = c .before .before .before .before .args in
-    record-off (a .s) (a .epoch) (a .changing) (a .vol .now) (a .n) (c .before .before .read .ensures) (sym (c .before .well-formed .ensures) ∙ c .if1 .left)
+    record-off (a .s) (a .gauge) (a .vol .now) (a .n) (c .before .before .read .ensures) (sym (c .before .well-formed .ensures) ∙ c .if1 .left)
 
 pub good-record-spec : {M : Type 1} → statement M
 good-record-spec =

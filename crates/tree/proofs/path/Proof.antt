@@ -35,12 +35,12 @@ climb-requires c κs =
 returns : tie.Need-returns
 returns c =
     let a = c .before .before .before .before .before .before .args in
-    path-on (a .s) (a .epoch) (a .changing) (a .vol .now) (a .n) (sym (c .before .before .before .before .good-record .ensures) ∙ c .before .before .before .if1 .taken) (c .before .height-of .ensures) (c .before .before .leaves-of .ensures) (c .climb .ensures)
+    path-on (a .s) (a .gauge) (a .vol .now) (a .n) (sym (c .before .before .before .before .good-record .ensures) ∙ c .before .before .before .if1 .taken) (c .before .height-of .ensures) (c .before .before .leaves-of .ensures) (c .climb .ensures)
 
 returns-2 : tie.Need-returns-2
 returns-2 c =
     let a = c .before .before .before .args in
-    path-off (a .s) (a .epoch) (a .changing) (a .vol .now) (a .n) (sym (c .before .good-record .ensures) ∙ c .if1 .left)
+    path-off (a .s) (a .gauge) (a .vol .now) (a .n) (sym (c .before .good-record .ensures) ∙ c .if1 .left)
 
 pub path-spec : {M : Type 1} → statement M
 path-spec =

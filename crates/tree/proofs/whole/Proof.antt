@@ -23,12 +23,12 @@ at-node-requires c κs = search needs
 returns : tie.Need-returns
 returns c =
     let a = c .before .before .before .before .before .before .before .args in
-    whole-on (a .s) (a .epoch) (a .changing) (a .vol .now) (c .before .before .before .before .before .all-records .ensures) (sym (c .before .before .before .before .accepted .ensures) ∙ c .before .before .before .if1 .taken) (c .before .before .height-of .ensures) (c .before .worst-under .ensures) (c .at-node .ensures)
+    whole-on (a .s) (a .gauge) (a .vol .now) (c .before .before .before .before .before .all-records .ensures) (sym (c .before .before .before .before .accepted .ensures) ∙ c .before .before .before .if1 .taken) (c .before .before .height-of .ensures) (c .before .worst-under .ensures) (c .at-node .ensures)
 
 returns-2 : tie.Need-returns-2
 returns-2 c =
     let a = c .before .before .before .before .args in
-    whole-off (a .s) (a .epoch) (a .changing) (a .vol .now) (c .before .before .all-records .ensures) (sym (c .before .accepted .ensures) ∙ c .if1 .left)
+    whole-off (a .s) (a .gauge) (a .vol .now) (c .before .before .all-records .ensures) (sym (c .before .accepted .ensures) ∙ c .if1 .left)
 
 pub whole-spec : {M : Type 1} → statement M
 whole-spec =
