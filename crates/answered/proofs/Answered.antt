@@ -9,9 +9,10 @@ use lib.Dec.{leb}
 use borrow.Author.Tests.{leb-true, leb-false}
 use Rattle.base.specs.Pick.{pick}
 use Rattle.base.specs.Lists.{same}
-use Rattle.base.proofs.PickLaws.{yes, no, told, clash, both-right}
+use Rattle.base.proofs.PickLaws.{yes, no, told, clash}
 use Rattle.records.specs.Journal.{bit}
-use Rattle.records.specs.Record.{epochFits, noneFrom, wellFormed, recordOf}
+use Rattle.records.specs.Record.{epochFits, recordOf}
+use Rattle.records.proofs.RuleLaws.{formed-fits}
 use Rattle.drive.specs.Drive.{shapeOf, isChanging}
 use Rattle.nuggets.specs.Nugget.{secretFor}
 use Rattle.pages.specs.Words.{t-old, t-needed, t-free}
@@ -31,8 +32,7 @@ use Rattle.answered.proofs.Input.{page-holds}
 
 module _ (w : World) (x : Sound w) where
   epoch-fits : (n : ℕ) → n < w .drive .n → epochFits (w .drive .epoch) (isChanging (w .drive .state)) (recordOf (shapeOf (w .drive)) (w .vol) n .epoch) ≡ true
-  unfolding wellFormed
-  epoch-fits n h = both-right (noneFrom (w .drive .p) (recordOf (shapeOf (w .drive)) (w .vol) n .journal)) _ (x .inv .formed n h)
+  epoch-fits n h = formed-fits (w .drive .p) (w .drive .epoch) (isChanging (w .drive .state)) (recordOf (shapeOf (w .drive)) (w .vol) n) (x .inv .formed n h)
 
   -- the secrets that the user holds are the drive's; when steady no word names the old one
   by-word : (e : ℕ) → epochFits (w .drive .epoch) (isChanging (w .drive .state)) e ≡ true → secretBy w (keyWord (w .drive) e) ≡ secretNamed (w .drive) (keyWord (w .drive) e)
@@ -44,7 +44,7 @@ module _ (w : World) (x : Sound w) where
       go (inl is) = rw is (sym (kept-changing (w .drive .state) (w .old) (old-word (w .drive) e fits is)) ∙ x .handed .kept)
       go (inr not) = rw not (sym (x .present))
 
-  tells : (any : List ℕ) (n f : ℕ) → Fits w any → n < w .drive .n → f < w .drive .p → bit (recordOf (shapeOf (w .drive)) (w .vol) n .journal) f ≡ true → LastPad w n f
+  tells : (any : List ℕ) (n f : ℕ) → Fits w any → n < w .drive .n → f < w .drive .p → bit (recordOf (shapeOf (w .drive)) (w .vol) n .held) f ≡ true → LastPad w n f
       → TellsPad (pageFor w any) w n f
   tells any n f fits h g on l =
       let a = page-holds w x any fits in
@@ -65,10 +65,10 @@ module _ (w : World) (x : Sound w) where
         go (inl e) = absurd (omega (arith, shown, page-holds w x any fits .noOthers n f h (leb-true (w .drive .p) f e)))
         go (inr e) = leb-false (w .drive .p) f e
 
-    present : bit (recordOf (shapeOf (w .drive)) (w .vol) n .journal) f ≡ true
-    present = go (told (bit (recordOf (shapeOf (w .drive)) (w .vol) n .journal) f))
+    present : bit (recordOf (shapeOf (w .drive)) (w .vol) n .held) f ≡ true
+    present = go (told (bit (recordOf (shapeOf (w .drive)) (w .vol) n .held) f))
       where
-        go : (bit (recordOf (shapeOf (w .drive)) (w .vol) n .journal) f ≡ true) ⊎ (bit (recordOf (shapeOf (w .drive)) (w .vol) n .journal) f ≡ false) → bit (recordOf (shapeOf (w .drive)) (w .vol) n .journal) f ≡ true
+        go : (bit (recordOf (shapeOf (w .drive)) (w .vol) n .held) f ≡ true) ⊎ (bit (recordOf (shapeOf (w .drive)) (w .vol) n .held) f ≡ false) → bit (recordOf (shapeOf (w .drive)) (w .vol) n .held) f ≡ true
         go (inl e) = e
         go (inr e) = absurd (omega (arith, shown, page-holds w x any fits .flakes n f h inside ∙ no _ e refl))
 
