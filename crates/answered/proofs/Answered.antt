@@ -44,7 +44,7 @@ module _ (w : World) (x : Sound w) where
       go (inl is) = rw is (sym (kept-changing (w .drive .state) (w .old) (old-word (w .drive) e fits is)) ∙ x .handed .kept)
       go (inr not) = rw not (sym (x .present))
 
-  tells : (any : List ℕ) (n f : ℕ) → Fits w any → n < w .drive .n → f < w .drive .p → bit (recordOf (shapeOf (w .drive)) (w .vol) n .journal) f ≡ true → LastPad w n f
+  tells : (any : List ℕ) (n f : ℕ) → Fits w any → n < w .drive .n → f < w .drive .p → bit (recordOf (shapeOf (w .drive)) (w .vol) n .held) f ≡ true → LastPad w n f
       → TellsPad (pageFor w any) w n f
   tells any n f fits h g on l =
       let a = page-holds w x any fits in
@@ -65,10 +65,10 @@ module _ (w : World) (x : Sound w) where
         go (inl e) = absurd (omega (arith, shown, page-holds w x any fits .noOthers n f h (leb-true (w .drive .p) f e)))
         go (inr e) = leb-false (w .drive .p) f e
 
-    present : bit (recordOf (shapeOf (w .drive)) (w .vol) n .journal) f ≡ true
-    present = go (told (bit (recordOf (shapeOf (w .drive)) (w .vol) n .journal) f))
+    present : bit (recordOf (shapeOf (w .drive)) (w .vol) n .held) f ≡ true
+    present = go (told (bit (recordOf (shapeOf (w .drive)) (w .vol) n .held) f))
       where
-        go : (bit (recordOf (shapeOf (w .drive)) (w .vol) n .journal) f ≡ true) ⊎ (bit (recordOf (shapeOf (w .drive)) (w .vol) n .journal) f ≡ false) → bit (recordOf (shapeOf (w .drive)) (w .vol) n .journal) f ≡ true
+        go : (bit (recordOf (shapeOf (w .drive)) (w .vol) n .held) f ≡ true) ⊎ (bit (recordOf (shapeOf (w .drive)) (w .vol) n .held) f ≡ false) → bit (recordOf (shapeOf (w .drive)) (w .vol) n .held) f ≡ true
         go (inl e) = e
         go (inr e) = absurd (omega (arith, shown, page-holds w x any fits .flakes n f h inside ∙ no _ e refl))
 

@@ -53,14 +53,14 @@ abbrev pub PageTellsPads : Type 0
 PageTellsPads =
     (start : Start) (calls : List Call) (any : List ℕ) (n f : ℕ)
     → let w = history start calls in
-    Fits w any → n < w .drive .n → f < w .drive .p → bit (recordOf (shapeOf (w .drive)) (w .vol) n .journal) f ≡ true → TellsPad (pageFor w any) w n f
+    Fits w any → n < w .drive .n → f < w .drive .p → bit (recordOf (shapeOf (w .drive)) (w .vol) n .held) f ≡ true → TellsPad (pageFor w any) w n f
 
 -- And no other flake is told: one that the page lists is present.
 abbrev pub PageTellsNoOthers : Type 0
 PageTellsNoOthers =
     (start : Start) (calls : List Call) (any : List ℕ) (n f : ℕ)
     → let w = history start calls in
-    Fits w any → n < w .drive .n → 0 < times f (toldOf (pageFor w any) n .flakes) → (f < w .drive .p) × (bit (recordOf (shapeOf (w .drive)) (w .vol) n .journal) f ≡ true)
+    Fits w any → n < w .drive .n → 0 < times f (toldOf (pageFor w any) n .flakes) → (f < w .drive .p) × (bit (recordOf (shapeOf (w .drive)) (w .vol) n .held) f ≡ true)
 
 -- The page's last line goes by the state alone: while changing it is `old=needed`, with a share of 100.00 too.
 abbrev pub PageTellsOld : Type 0
@@ -71,7 +71,7 @@ PageTellsOld =
 
 -- Nothing needs the old secret: each present flake is under the present one, and a mount with anything as the old one gives the very drive.
 pub record Free (w : World) : Type 0 where
-  pub pads : (n f : ℕ) → n < w .drive .n → bit (recordOf (shapeOf (w .drive)) (w .vol) n .journal) f ≡ true → (l : LastPad w n f) → l .pad .secret ≡ w .secret
+  pub pads : (n f : ℕ) → n < w .drive .n → bit (recordOf (shapeOf (w .drive)) (w .vol) n .held) f ≡ true → (l : LastPad w n f) → l .pad .secret ≡ w .secret
   pub mounts : (other : List ℕ) → mountDone (w .vol) (w .secret) other (w .outside) ≡ record { answer = A.Accepted; drive = w .drive }
 
 -- `old=free` is leave to destroy the old secret.

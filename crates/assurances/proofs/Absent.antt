@@ -91,24 +91,24 @@ module _ (d : Drive) (v w : List ℕ) (x : ButAbsent d v w) where
   unfolding keyFor
   nugget-same n h = rw (x .records n h) refl
 
-  flake-same : (n f : ℕ) → n < d .n → f < d .p → bit (recordOf (shapeOf d) v n .journal) f ≡ true → goodFlake s w (nuggetOf d v n) f ≡ goodFlake s v (nuggetOf d v n) f
+  flake-same : (n f : ℕ) → n < d .n → f < d .p → bit (recordOf (shapeOf d) v n .held) f ≡ true → goodFlake s w (nuggetOf d v n) f ≡ goodFlake s v (nuggetOf d v n) f
   unfolding goodFlake
   flake-same n f h l on = rw (x .tags n f h l on, x .flakes n f h l on) refl
 
   tests : Lent s v → (n t : ℕ) → n < d .n → nuggetRead d w n t ≡ nuggetRead d v n t
   unfolding nuggetRead flakesIn
   tests l n t h =
-      let mask = bitAnd (recordOf (shapeOf d) v n .journal) t in
+      let mask = bitAnd (recordOf (shapeOf d) v n .held) t in
       rw (path-same l n h, nugget-same n h, x .records n h)
       (yes-same (accepts (pathFor d v n)) _
       (λ p. up-same s v w (nuggetOf d v n) mask (d .p) 0
-      (λ i a on. flake-same n i h (omega arith) (both-left (bit (recordOf (shapeOf d) v n .journal) i) (bit t i) (sym (bit-and (recordOf (shapeOf d) v n .journal) t i) ∙ on)))))
+      (λ i a on. flake-same n i h (omega arith) (both-left (bit (recordOf (shapeOf d) v n .held) i) (bit t i) (sym (bit-and (recordOf (shapeOf d) v n .held) t i) ∙ on)))))
 
   bytes : (n f : ℕ) → n < d .n → f < d .p → contentsOf d w n f ≡ contentsOf d v n f
   unfolding contentsIn
   bytes n f h l =
       ap (λ (g : Nugget). contentsIn s w g f) (nugget-same n h)
-      ∙ yes-same (bit (recordOf (shapeOf d) v n .journal) f) (zeros (d .f)) (λ on. ap (under (nuggetOf d v n .key) (recordOf (shapeOf d) v n .keycount) f (d .f)) (x .flakes n f h l on))
+      ∙ yes-same (bit (recordOf (shapeOf d) v n .held) f) (zeros (d .f)) (λ on. ap (under (nuggetOf d v n .key) (recordOf (shapeOf d) v n .keycount) f (d .f)) (x .flakes n f h l on))
 
 pub absent-unseen : AbsentUnseen
 absent-unseen d v w o buffer x = (
@@ -116,7 +116,7 @@ absent-unseen d v w o buffer x = (
   buffer-alike d (d .old) v w (opens d v w x) (tests d v w x) (λ l n f h k p. bytes d v w x n f h k) o buffer,
 )
 
-module _ (d : Drive) (v : List ℕ) (n f : ℕ) (other : List ℕ) (h : n < d .n) (few : f < d .p) (off : bit (recordOf (shapeOf d) v n .journal) f ≡ false) (long : length other ≡ d .f) where
+module _ (d : Drive) (v : List ℕ) (n f : ℕ) (other : List ℕ) (h : n < d .n) (few : f < d .p) (off : bit (recordOf (shapeOf d) v n .held) f ≡ false) (long : length other ≡ d .f) where
   abbrev w : List ℕ
   w = sets v (flakeAt (shapeOf d) n f) other
 
@@ -124,8 +124,8 @@ module _ (d : Drive) (v : List ℕ) (n f : ℕ) (other : List ℕ) (h : n < d .n
   before : (at k : ℕ) → at + k ≤ flakesAt (shapeOf d) → part at k w ≡ part at k v
   before at k low = part-apart at k v (flakeAt (shapeOf d) n f) (d .f) other long (inl (omega (arith, low)))
 
-  far : (m g : ℕ) → bit (recordOf (shapeOf d) v m .journal) g ≡ true → Other m g n f
-  far m g on p q = clash on (ap₂ (λ (i j : ℕ). bit (recordOf (shapeOf d) v i .journal) j) p q ∙ off)
+  far : (m g : ℕ) → bit (recordOf (shapeOf d) v m .held) g ≡ true → Other m g n f
+  far m g on p q = clash on (ap₂ (λ (i j : ℕ). bit (recordOf (shapeOf d) v i .held) j) p q ∙ off)
 
   but-absent : ButAbsent d v w
   but-absent =

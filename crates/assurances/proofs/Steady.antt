@@ -84,7 +84,7 @@ module _ (d : Drive) (any v : List ℕ) (steady : isChanging (d .state) ≡ fals
 
   pub tests : Lent (shapeOf d) v → (n t : ℕ) → n < d .n → nuggetRead (withOld d any) v n t ≡ nuggetRead d v n t
   unfolding nuggetRead
-  tests l n t h = yes-same (accepts (pathFor d v n)) _ (λ p. ap (λ (g : Nugget). flakesIn (shapeOf d) v g (bitAnd (recordOf (shapeOf d) v n .journal) t)) (nugget-same l n h p))
+  tests l n t h = yes-same (accepts (pathFor d v n)) _ (λ p. ap (λ (g : Nugget). flakesIn (shapeOf d) v g (bitAnd (recordOf (shapeOf d) v n .held) t)) (nugget-same l n h p))
 
   pub bytes : Lent (shapeOf d) v → (n f : ℕ) → n < d .n → f < d .p → accepts (pathFor d v n) ≡ true → contentsOf (withOld d any) v n f ≡ contentsOf d v n f
   bytes l n f h k p = ap (λ (g : Nugget). contentsIn (shapeOf d) v g f) (nugget-same l n h p)
@@ -94,7 +94,7 @@ module _ (d : Drive) (any v : List ℕ) (steady : isChanging (d .state) ≡ fals
   change-same l n way h =
       no-same (idles way) _
       (λ busy. yes-same (accepts (pathFor d v n)) _
-      (λ p. ap (λ (g : Nugget). pick (atTop way (recordOf (shapeOf d) v n)) A.KeycountTop (pick (rekeys way) (flakesIn (shapeOf d) v g (recordOf (shapeOf d) v n .journal)) A.Accepted)) (nugget-same l n h p)))
+      (λ p. ap (λ (g : Nugget). pick (atTop way (recordOf (shapeOf d) v n)) A.KeycountTop (pick (rekeys way) (flakesIn (shapeOf d) v g (recordOf (shapeOf d) v n .held)) A.Accepted)) (nugget-same l n h p)))
 
   tested-same : Lent (shapeOf d) v → (way : ℕ → Way) (n : ℕ) → n ≤ d .n → testedTo e v way n ≡ testedTo d v way n
   unfolding testedTo

@@ -79,8 +79,8 @@ pub record ButAbsent (d : Drive) (v w : List ℕ) : Type 0 where
   pub records : (n : ℕ) → n < d .n → recordOf (shapeOf d) w n ≡ recordOf (shapeOf d) v n
   pub nodes : (i : ℕ) → 1 ≤ i → i < 2 * leaves (d .n) → nodeIn (shapeOf d) w i ≡ nodeIn (shapeOf d) v i
   pub made : (n : ℕ) → n < d .n → leafOf (shapeOf d) w n ≡ leafOf (shapeOf d) v n
-  pub flakes : (n f : ℕ) → n < d .n → f < d .p → bit (recordOf (shapeOf d) v n .journal) f ≡ true → storedIn (shapeOf d) w n f ≡ storedIn (shapeOf d) v n f
-  pub tags : (n f : ℕ) → n < d .n → f < d .p → bit (recordOf (shapeOf d) v n .journal) f ≡ true → part (tagAt (shapeOf d) n f) 16 w ≡ part (tagAt (shapeOf d) n f) 16 v
+  pub flakes : (n f : ℕ) → n < d .n → f < d .p → bit (recordOf (shapeOf d) v n .held) f ≡ true → storedIn (shapeOf d) w n f ≡ storedIn (shapeOf d) v n f
+  pub tags : (n f : ℕ) → n < d .n → f < d .p → bit (recordOf (shapeOf d) v n .held) f ≡ true → part (tagAt (shapeOf d) n f) 16 w ≡ part (tagAt (shapeOf d) n f) 16 v
 
 -- A read of either answers the same and fills the buffer the same.
 abbrev pub AbsentUnseen : Type 0
@@ -91,5 +91,5 @@ AbsentUnseen =
 -- Such is a volume with other stored bytes for a flake that is absent.
 abbrev pub AbsentBytes : Type 0
 AbsentBytes =
-    (d : Drive) (v : List ℕ) (n f : ℕ) (other : List ℕ) → n < d .n → f < d .p → bit (recordOf (shapeOf d) v n .journal) f ≡ false → length other ≡ d .f
+    (d : Drive) (v : List ℕ) (n f : ℕ) (other : List ℕ) → n < d .n → f < d .p → bit (recordOf (shapeOf d) v n .held) f ≡ false → length other ≡ d .f
     → ButAbsent d v (sets v (flakeAt (shapeOf d) n f) other)

@@ -123,12 +123,12 @@ pub record LineTold (d : Drive) (r : Record) (n : ℕ) : Type 0 where
   pub key : lineRead (nuggetText d r n) .key ≡ keyText d (r .epoch)
   pub epoch : lineRead (nuggetText d r n) .epoch ≡ r .epoch
   pub keycount : lineRead (nuggetText d r n) .keycount ≡ r .keycount
-  pub flakes : lineRead (nuggetText d r n) .flakes ≡ presentFlakes (d .p) (r .journal)
+  pub flakes : lineRead (nuggetText d r n) .flakes ≡ presentFlakes (d .p) (r .held)
 
 pub line-told : (d : Drive) (r : Record) (n : ℕ) → n < 10 ^ 10 → r .epoch < 10 ^ 10 → r .keycount < 10 ^ 20 → d .p ≤ 10 ^ 10 → LineTold d r n
 unfolding nuggetText free
 line-told d r n hn he hk hp =
-    let fs = presentFlakes (d .p) (r .journal) in
+    let fs = presentFlakes (d .p) (r .held) in
     let a = decimal n in
     let b = keyText d (r .epoch) in
     let c = decimal (r .epoch) in
@@ -145,7 +145,7 @@ line-told d r n hn he hk hp =
       key = field-1 a b c q e fa fb fc fq fe;
       epoch = ap value (field-2 a b c q e fa fb fc fq fe) ∙ decimal-value (r .epoch) he;
       keycount = ap value (field-3 a b c q e fa fb fc fq fe) ∙ long-value (r .keycount) hk;
-      flakes = ap flakesRead (field-4 a b c q e fa fb fc fq fe) ∙ flakes-back fs (short-flakes (d .p) (r .journal) hp);
+      flakes = ap flakesRead (field-4 a b c q e fa fb fc fq fe) ∙ flakes-back fs (short-flakes (d .p) (r .held) hp);
     }
 
 -- what the counter's line tells

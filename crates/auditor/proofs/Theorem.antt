@@ -20,7 +20,7 @@ use Rattle.layout.proofs.Limits.{Limits, limits}
 use Rattle.layout.proofs.Places.{record-inside, parts-inside}
 use Rattle.records.specs.Record.{epochFits, recordOf}
 use Rattle.records.proofs.RuleLaws.{formed-fits}
-use Rattle.records.proofs.RecordLaws.{read-widths}
+use Rattle.records.proofs.RecordLaws.{read-codes}
 use Rattle.layout.specs.Lent.{Lent}
 use Rattle.tree.proofs.WholeLaws.{whole-formed}
 use Rattle.keys.specs.Keys.{nuggetKey}
@@ -50,7 +50,7 @@ Narrow d v = (n : ℕ) → n < d .n → (recordOf (shapeOf d) v n .keycount < 2 
 -- those of bytes are
 narrow-bytes : (d : Drive) (v : List ℕ) → Lent (shapeOf d) v → Bytes v → Narrow d v
 narrow-bytes d v lent bytes n h =
-    let w = read-widths (shapeOf d) v (recordAt (shapeOf d) n) bytes (omega (arith, lent .size, record-inside (shapeOf d) n h, parts-inside (shapeOf d))) in
+    let w = read-codes (shapeOf d) v (recordAt (shapeOf d) n) bytes (omega (arith, lent .size, record-inside (shapeOf d) n h, parts-inside (shapeOf d))) in
     (w .keycountWidth, w .epochWidth)
 
 -- a drive whose volume is what it has to be
@@ -109,14 +109,14 @@ module _ (d : Drive) (v : List ℕ) (lent : Lent (shapeOf d) v) (narrow : Narrow
     unfolding keyFor
     answered small counter is =
         let named : (n : ℕ) → n < d .n → toldOf page n .key ≡ keyWord d (recordOf (shapeOf d) v n .epoch) = λ n h. ap (λ (l : List ℕ). lineRead l .key) (nugget-text n h) ∙ line n h .key ∙ key-word d (recordOf (shapeOf d) v n .epoch) (fits n h) in
-        let flakes : (n : ℕ) → n < d .n → toldOf page n .flakes ≡ presentFlakes (d .p) (recordOf (shapeOf d) v n .journal) = λ n h. ap (λ (l : List ℕ). lineRead l .flakes) (nugget-text n h) ∙ line n h .flakes in
+        let flakes : (n : ℕ) → n < d .n → toldOf page n .flakes ≡ presentFlakes (d .p) (recordOf (shapeOf d) v n .held) = λ n h. ap (λ (l : List ℕ). lineRead l .flakes) (nugget-text n h) ∙ line n h .flakes in
         record {
           sheet = first-line ∙ is;
           nugget = λ n h. ap (λ (l : List ℕ). lineRead l .nugget) (nugget-text n h) ∙ line n h .nugget;
           epoch = λ n h. ap (λ (l : List ℕ). lineRead l .epoch) (nugget-text n h) ∙ line n h .epoch;
           keycount = λ n h. ap (λ (l : List ℕ). lineRead l .keycount) (nugget-text n h) ∙ line n h .keycount;
-          flakes = λ n f h l. ap (times f) (flakes n h) ∙ times-present (d .p) (recordOf (shapeOf d) v n .journal) f l;
-          noOthers = λ n f h l. ap (times f) (flakes n h) ∙ times-above (d .p) (recordOf (shapeOf d) v n .journal) f l;
+          flakes = λ n f h l. ap (times f) (flakes n h) ∙ times-present (d .p) (recordOf (shapeOf d) v n .held) f l;
+          noOthers = λ n f h l. ap (times f) (flakes n h) ∙ times-above (d .p) (recordOf (shapeOf d) v n .held) f l;
           word = named;
           key = λ n h. ap (λ (s : List ℕ). nuggetKey s (d .salt) n) (secret-named d (recordOf (shapeOf d) v n .epoch) (fits n h) ∙ ap (secretNamed d) (sym (named n h)));
           counter = ap (λ (l : List ℕ). value (fieldAt 0 l)) counter-line ∙ counter-told outside small;

@@ -33,7 +33,7 @@ pub record Answers (page : List ℕ) (d : Drive) (v : List ℕ) (outside : ℕ) 
   pub epoch : (n : ℕ) → n < d .n → toldOf page n .epoch ≡ recordOf (shapeOf d) v n .epoch
   pub keycount : (n : ℕ) → n < d .n → toldOf page n .keycount ≡ recordOf (shapeOf d) v n .keycount
   -- "which flakes": a flake is listed exactly once if its bit is set, and else not at all
-  pub flakes : (n f : ℕ) → n < d .n → f < d .p → times f (toldOf page n .flakes) ≡ pick (bit (recordOf (shapeOf d) v n .journal) f) 1 0
+  pub flakes : (n f : ℕ) → n < d .n → f < d .p → times f (toldOf page n .flakes) ≡ pick (bit (recordOf (shapeOf d) v n .held) f) 1 0
   pub noOthers : (n f : ℕ) → n < d .n → d .p ≤ f → times f (toldOf page n .flakes) ≡ 0
   -- "under which key": the word is that of the record's epoch, and the nugget's key is made from the secret that the word names
   pub word : (n : ℕ) → n < d .n → toldOf page n .key ≡ keyWord d (recordOf (shapeOf d) v n .epoch)

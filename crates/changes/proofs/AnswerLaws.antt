@@ -63,7 +63,7 @@ pub record Moves (d : Drive) (v : List ℕ) (n : ℕ) : Type 0 where
   pub path : pathFor d v n ≡ A.Accepted
   pub counterRoom : d .counter ≡ counterTop → ⊥
   pub keycountRoom : atTop sweepWay (recordOf (shapeOf d) v n) ≡ false
-  pub flakes : flakesOf d v n (recordOf (shapeOf d) v n .journal) ≡ A.Accepted
+  pub flakes : flakesOf d v n (recordOf (shapeOf d) v n .held) ≡ A.Accepted
 
 pub sweep-told : (d : Drive) (v : List ℕ) (n : ℕ) → accepts (sweepAnswer d v n) ≡ true → Moves d v n
 unfolding sweepAnswer nuggetTests moveTests
@@ -83,7 +83,7 @@ sweep-told d v n e =
       path = accepted-is (pathFor d v n) (path .0);
       counterRoom = eqb-false (d .counter) counterTop (counter .0);
       keycountRoom = keycount .0;
-      flakes = accepted-is (flakesOf d v n (recordOf (shapeOf d) v n .journal)) (keycount .1);
+      flakes = accepted-is (flakesOf d v n (recordOf (shapeOf d) v n .held)) (keycount .1);
     }
 
 pub record Finishes (d : Drive) (v : List ℕ) : Type 0 where
@@ -115,7 +115,7 @@ finish-told d v e =
 -- of a nugget that a change touches: "path; 14; flakes, ascending"; "a rekey tests all of J"
 pub record Tests (d : Drive) (v : List ℕ) (n : ℕ) (way : Way) : Type 0 where
   pub path : pathFor d v n ≡ A.Accepted
-  pub flakes : rekeys way ≡ true → flakesOf d v n (recordOf (shapeOf d) v n .journal) ≡ A.Accepted
+  pub flakes : rekeys way ≡ true → flakesOf d v n (recordOf (shapeOf d) v n .held) ≡ A.Accepted
 
 change-told : (d : Drive) (v : List ℕ) (n : ℕ) (way : Way) → idles way ≡ false → accepts (nuggetChange d v n way) ≡ true → Tests d v n way
 unfolding nuggetChange

@@ -39,7 +39,7 @@ pub record Clean (d : Drive) (v : List ℕ) : Type 0 where
   pub opens : openingOf d v ≡ A.Accepted
   pub paths : (n : ℕ) → n < d .n → pathFor d v n ≡ A.Accepted
   pub whole : wholeOf (shapeOf d) (gaugeOf d) v ≡ A.Accepted
-  pub flakes : (n : ℕ) → n < d .n → flakesOf d v n (recordOf (shapeOf d) v n .journal) ≡ A.Accepted
+  pub flakes : (n : ℕ) → n < d .n → flakesOf d v n (recordOf (shapeOf d) v n .held) ≡ A.Accepted
   -- no keycount is above the counter, nor that above its top
   pub counted : d .counter ≤ counterTop
   pub below : (n : ℕ) → n < d .n → recordOf (shapeOf d) v n .keycount ≤ d .counter

@@ -17,7 +17,7 @@ use Rattle.layout.proofs.Places.{record-inside, records-above}
 use Rattle.records.specs.declared.Record.{Record}
 use Rattle.records.specs.declared.Way.{Way}
 use Rattle.records.specs.declared.Way.the-variants.{Idle, Add, Rekey}
-use Rattle.records.specs.Record.{recordBytes, Widths, recordOf}
+use Rattle.records.specs.Record.{recordBytes, Codes, recordOf}
 use Rattle.records.specs.Rule.{turned}
 use Rattle.records.proofs.RecordLaws.{record-told, length-record, read-stored}
 use Rattle.records.proofs.RuleLaws.{turned-idle}
@@ -51,7 +51,7 @@ module _ (s : Shape) (head : ℕ) (way : Way) (r : Record) (n : ℕ) (w : List �
       (told (idles way))
 
   -- the nugget's record is the one turned
-  pub mark-put : Widths (turned way head r) → recordAt s n + widthOf s ≤ length w → recordOf s w n ≡ r → recordOf s (marked s head way r n w) n ≡ turned way head r
+  pub mark-put : Codes s (turned way head r) → recordAt s n + widthOf s ≤ length w → recordOf s w n ≡ r → recordOf s (marked s head way r n w) n ≡ turned way head r
   mark-put wide room was =
       ⊎-elim (λ e. ap (λ (x : List ℕ). recordOf s x n) (mark-idle e) ∙ was ∙ turned-idle way head r (idle-is way e))
       (λ e. ap (λ (x : List ℕ). recordOf s x n) (mark-sets e) ∙ read-stored s w (recordAt s n) (turned way head r) wide room)
@@ -90,7 +90,7 @@ module _ (s : Shape) (head : ℕ) (way : ℕ → Way) (v : List ℕ) where
   marks-idle n m w idle = marks-leave (recordAt s n) (widthOf s) m w (λ q low off. records-apart s n q (λ e. clash (ap (λ (x : ℕ). idles (way x)) (sym e) ∙ idle) off))
 
   -- and each that was reached
-  pub marks-put : (n m : ℕ) (w : List ℕ) → n < m → Widths (turned (way n) head (recordOf s v n)) → recordAt s n + widthOf s ≤ length w → recordOf s w n ≡ recordOf s v n
+  pub marks-put : (n m : ℕ) (w : List ℕ) → n < m → Codes s (turned (way n) head (recordOf s v n)) → recordAt s n + widthOf s ≤ length w → recordOf s w n ≡ recordOf s v n
       → recordOf s (markedTo s head way v m w) n ≡ turned (way n) head (recordOf s v n)
   unfolding markedTo
   marks-put n zero w c wide room was = absurd (omega (arith, c))

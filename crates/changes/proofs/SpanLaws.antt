@@ -82,7 +82,7 @@ module _ (s : Shape) (o len n : ℕ) (l : Limits s) where
 -- a nugget with no flake touched is idle, whatever its record
 pub idles-way : (r : Record) (t head : ℕ) → idles (wayOf r t head) ≡ eqb t 0
 unfolding wayOf
-idles-way r t head = go (eqb t 0) (both (shareNone (r .journal) t) (eqb (r .epoch) head))
+idles-way r t head = go (eqb t 0) (both (shareNone (r .spent) t) (eqb (r .epoch) head))
   where
     go : (a b : Bool) → idles (pick a Idle (pick b (Add t) (Rekey t))) ≡ a
     go true b = refl

@@ -19,7 +19,7 @@ use Rattle.layout.proofs.Places.{apart, record-inside, tag-inside, node-inside,
 use Rattle.records.specs.declared.Record.{Record}
 use Rattle.records.specs.declared.Way.{Way}
 use Rattle.records.specs.declared.Way.the-variants.{Idle, Add, Rekey}
-use Rattle.records.specs.Record.{Widths, recordOf}
+use Rattle.records.specs.Record.{Codes, recordOf}
 use Rattle.records.specs.Journal.{bit}
 use Rattle.records.specs.Rule.{enciphered, keycountAfter, turned}
 use Rattle.records.specs.Listing.{Entry}
@@ -90,7 +90,7 @@ module _ (d : Drive) (v : List ℕ) (way : ℕ → Way) (new : ℕ → ℕ → L
   worked-lent = tends-lent s way (d .n) two two-lent (omega arith)
 
   -- each record is the one turned in its nugget's way
-  pub worked-record : (n : ℕ) → n < d .n → Widths (turned (way n) (d .epoch) (recordOf (shapeOf d) v n)) → recordOf (shapeOf d) (worked d v way new) n ≡ turned (way n) (d .epoch) (recordOf (shapeOf d) v n)
+  pub worked-record : (n : ℕ) → n < d .n → Codes (shapeOf d) (turned (way n) (d .epoch) (recordOf (shapeOf d) v n)) → recordOf (shapeOf d) (worked d v way new) n ≡ turned (way n) (d .epoch) (recordOf (shapeOf d) v n)
   worked-record n h wide =
       record-told (shapeOf d) (recordAt (shapeOf d) n) (worked d v way new) two (sym (outside-alike n three-outside h .records))
       ∙ marks-put s (d .epoch) way v n (d .n) one h wide (rw (one-lent .size) (omega (arith, record-inside s n h, parts-inside s)))

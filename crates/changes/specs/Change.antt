@@ -35,7 +35,7 @@ nuggetChange d v n way =
     pick (idles way) A.Accepted
     (andThen (pathFor d v n)
     (pick (atTop way (recordOf (shapeOf d) v n)) A.KeycountTop
-    (pick (rekeys way) (flakesOf d v n (recordOf (shapeOf d) v n .journal)) A.Accepted)))
+    (pick (rekeys way) (flakesOf d v n (recordOf (shapeOf d) v n .held)) A.Accepted)))
 
 -- "*Nuggets*: ascending": those below n
 unfoldable pub testedTo : Drive → List ℕ → (ℕ → Way) → ℕ → Answer

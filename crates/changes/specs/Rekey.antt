@@ -57,7 +57,7 @@ unfoldable pub moveTests : Drive → List ℕ → ℕ → Answer
 moveTests d v n =
     pick (eqb (recordOf (shapeOf d) v n .epoch) (d .epoch)) A.Moved
     (pick (eqb (d .counter) counterTop) A.CounterTop
-    (pick (atTop sweepWay (recordOf (shapeOf d) v n)) A.KeycountTop (flakesOf d v n (recordOf (shapeOf d) v n .journal))))
+    (pick (atTop sweepWay (recordOf (shapeOf d) v n)) A.KeycountTop (flakesOf d v n (recordOf (shapeOf d) v n .held))))
 
 -- "7 path", and those
 unfoldable pub nuggetTests : Drive → List ℕ → ℕ → Answer

@@ -86,7 +86,7 @@ read-byte d v o buffer i h e =
 
 -- the same contents: of an absent flake whatever is stored, of a present one if the same is stored
 module _ (d : Drive) (v w : List ℕ) (a : ℕ) (x : Alike (shapeOf d) v w (spotAt (shapeOf d) a .nugget)) where
-  absent-byte : bit (recordOf (shapeOf d) v (spotAt (shapeOf d) a .nugget) .journal) (spotAt (shapeOf d) a .flake) ≡ false → byteOf d v a ≡ byteOf d w a
+  absent-byte : bit (recordOf (shapeOf d) v (spotAt (shapeOf d) a .nugget) .held) (spotAt (shapeOf d) a .flake) ≡ false → byteOf d v a ≡ byteOf d w a
   unfolding byteOf contentsIn
   absent-byte off =
       let off′ = rw (one-record d v w (spotAt (shapeOf d) a .nugget) x) at off in
@@ -111,7 +111,7 @@ module _ (d : Drive) (v w : List ℕ) (o len a : ℕ) (ev : readAnswer d v o len
   by-stored x p (inr differ) = inr (inr (record { differ = differ; alike = one-drive-one-tag d v w o len a ev ew h k x p }))
 
   by-bit : (let s = shapeOf d in let at = spotAt s a in Alike s v w (at .nugget)
-      → (bit (recordOf (shapeOf d) v (at .nugget) .journal) (at .flake) ≡ true) ⊎ (bit (recordOf (shapeOf d) v (at .nugget) .journal) (at .flake) ≡ false) → Told)
+      → (bit (recordOf (shapeOf d) v (at .nugget) .held) (at .flake) ≡ true) ⊎ (bit (recordOf (shapeOf d) v (at .nugget) .held) (at .flake) ≡ false) → Told)
   by-bit x (inl p) = by-stored x p (decided _ _)
   by-bit x (inr off) = inl (absent-byte d v w a x off)
 

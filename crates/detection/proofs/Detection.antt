@@ -1,6 +1,6 @@
 -- The theorems of specs/Detection.antt, each under its name.
 use mathlib.Core.Path.{_≡_, refl, ap, _∙_}
-use mathlib.Core.Logic.{_⊎_}
+use mathlib.Core.Logic.{_⊎_, inl, inr, ⊎-elim}
 use mathlib.Core.List.{List}
 use Prim.Native.Nat.{ℕ, _+_, _<_, _≤_}
 use native.Mathlib.Omega.{arith}
@@ -70,8 +70,8 @@ read-detected d v o len a e h k =
     let x = spot-within s o len a lim h k (t .fits) in (
       path-good d v (at .nugget) lent (x .nugget-is) (t .path),
       λ p.
-          tag-right d v (at .nugget) (bitAnd (recordOf (shapeOf d) v (at .nugget) .journal) (touchedOf s o len (at .nugget))) (at .flake) (t .flakes) (x .flake-is)
-          (bit-and (recordOf (shapeOf d) v (at .nugget) .journal) (touchedOf s o len (at .nugget)) (at .flake) ∙ both-on p (touched-bit s o len a lim h k x)),
+          tag-right d v (at .nugget) (bitAnd (recordOf (shapeOf d) v (at .nugget) .held) (touchedOf s o len (at .nugget))) (at .flake) (t .flakes) (x .flake-is)
+          (bit-and (recordOf (shapeOf d) v (at .nugget) .held) (touchedOf s o len (at .nugget)) (at .flake) ∙ both-on p (touched-bit s o len a lim h k x)),
     )
 
 -- the tests of the nugget of a written byte
@@ -99,8 +99,10 @@ module _ (d : Drive) (v : List ℕ) (o len a : ℕ) (e : writeAnswer d v o len �
       → TagsRight d v (spotAt (shapeOf d) a .nugget)
   rekeyed-tags why f l p =
       let n = spotAt (shapeOf d) a .nugget in
+      let at = spotAt (shapeOf d) a .flake in
       let on = touched-bit (shapeOf d) o len a lim h k spot in
-      tag-right d v n (recordOf (shapeOf d) v n .journal) f (tested .flakes (way-rekeys (recordOf (shapeOf d) v n) (touchedOf (shapeOf d) o len n) (d .epoch) (spotAt (shapeOf d) a .flake) on why)) l p
+      let spent = ⊎-elim (λ here. inl (written-path .formed .held at here)) inr why in
+      tag-right d v n (recordOf (shapeOf d) v n .held) f (tested .flakes (way-rekeys (recordOf (shapeOf d) v n) (touchedOf (shapeOf d) o len n) (d .epoch) at on spent)) l p
 
 pub write-detected : WriteDetected
 write-detected d v o len a e h k = written-path d v o len a e h k
@@ -111,7 +113,7 @@ rekey-detected d v o len a e h k why = rekeyed-tags d v o len a e h k why
 pub sweep-detected : SweepDetected
 sweep-detected d v n e =
     let m = sweep-told d v n (ap accepts e) in
-    (m .inside, path-good d v n (m .lent) (m .inside) (m .path), λ f l p. tag-right d v n (recordOf (shapeOf d) v n .journal) f (m .flakes) l p)
+    (m .inside, path-good d v n (m .lent) (m .inside) (m .path), λ f l p. tag-right d v n (recordOf (shapeOf d) v n .held) f (m .flakes) l p)
 
 pub finish-detected : FinishDetected
 finish-detected d v e = let t = finish-told d v (ap accepts e) in whole-right d v (t .whole) (t .lent)

@@ -22,8 +22,8 @@ use Rattle.answers.proofs.StageLaws.{granted}
 use Rattle.records.specs.declared.Record.{Record}
 use Rattle.records.specs.Journal.{bit}
 use Rattle.records.specs.Record.{wellFormed, recordOf}
-use Rattle.records.proofs.BitLaws.{none-above}
-use Rattle.records.proofs.RuleLaws.{formed-journal, formed-epoch}
+use Rattle.records.proofs.BitLaws.{none-above, lies-bits}
+use Rattle.records.proofs.RuleLaws.{formed-spent, formed-lies, formed-epoch}
 use Rattle.nodes.proofs.MadeLaws.{made-leaf, made-inner, made-bottom, bottom-zero}
 use Rattle.tree.specs.Good.{upward}
 use Rattle.tree.specs.Whole.{wholeOf}
@@ -52,7 +52,8 @@ head-right d v e =
 formed-right : (d : Drive) (r : Record) → wellFormed (d .p) (gaugeOf d) r ≡ true → Formed d r
 formed-right d r e =
     record {
-      flakes = λ f h. none-above (d .p) (r .journal) f (formed-journal (d .p) (gaugeOf d) r e) h;
+      flakes = λ f h. none-above (d .p) (r .spent) f (formed-spent (d .p) (gaugeOf d) r e) h;
+      held = λ f. lies-bits (r .held) (r .spent) (formed-lies (d .p) (gaugeOf d) r e) f;
       epoch = formed-epoch (d .p) (gaugeOf d) r e;
     }
 

@@ -41,12 +41,12 @@ pub touched-some : (t f : ℕ) → bit t f ≡ true → eqb t 0 ≡ false
 touched-some t f on = ne-eqb t 0 (some-bit t f on)
 
 -- "If J and T share none and its epoch is the head's [..]. Otherwise the nugget is rekeyed"
-pub way-rekeys : (r : Record) (t head f : ℕ) → bit t f ≡ true → (bit (r .journal) f ≡ true) ⊎ (r .epoch ≡ head → ⊥) → rekeys (wayOf r t head) ≡ true
+pub way-rekeys : (r : Record) (t head f : ℕ) → bit t f ≡ true → (bit (r .spent) f ≡ true) ⊎ (r .epoch ≡ head → ⊥) → rekeys (wayOf r t head) ≡ true
 unfolding wayOf
-way-rekeys r t head f on why = rw (touched-some t f on) (go (told (both (shareNone (r .journal) t) (eqb (r .epoch) head))) why)
+way-rekeys r t head f on why = rw (touched-some t f on) (go (told (both (shareNone (r .spent) t) (eqb (r .epoch) head))) why)
   where
-    go : (both (shareNone (r .journal) t) (eqb (r .epoch) head) ≡ true) ⊎ (both (shareNone (r .journal) t) (eqb (r .epoch) head) ≡ false)
-        → (bit (r .journal) f ≡ true) ⊎ (r .epoch ≡ head → ⊥) → rekeys (pick (both (shareNone (r .journal) t) (eqb (r .epoch) head)) (Add t) (Rekey t)) ≡ true
-    go (inl e) (inl p) = absurd (clash (both-on p on) (share-none-bits (r .journal) t (both-left _ _ e) f))
-    go (inl e) (inr q) = absurd (q (eqb-true (r .epoch) head (both-right (shareNone (r .journal) t) _ e)))
+    go : (both (shareNone (r .spent) t) (eqb (r .epoch) head) ≡ true) ⊎ (both (shareNone (r .spent) t) (eqb (r .epoch) head) ≡ false)
+        → (bit (r .spent) f ≡ true) ⊎ (r .epoch ≡ head → ⊥) → rekeys (pick (both (shareNone (r .spent) t) (eqb (r .epoch) head)) (Add t) (Rekey t)) ≡ true
+    go (inl e) (inl p) = absurd (clash (both-on p on) (share-none-bits (r .spent) t (both-left _ _ e) f))
+    go (inl e) (inr q) = absurd (q (eqb-true (r .epoch) head (both-right (shareNone (r .spent) t) _ e)))
     go (inr e) x = rw e refl

@@ -25,9 +25,11 @@ pub record HeadRight (d : Drive) (v : List ℕ) : Type 0 where
   pub head : part 0 104 v ≡ headOf d
   pub node : nodeIn (shapeOf d) v 1 ≡ d .node
 
--- "no bit at or above P is set and its epoch is the head's, or, while changing, the head's or one less"
+-- "no bit at or above P is set and its epoch is the head's, or, while changing, the head's or one less", and no "held bit that
+-- isn't spent"
 pub record Formed (d : Drive) (r : Record) : Type 0 where
-  pub flakes : (f : ℕ) → d .p ≤ f → bit (r .journal) f ≡ false
+  pub flakes : (f : ℕ) → d .p ≤ f → bit (r .spent) f ≡ false
+  pub held : (f : ℕ) → bit (r .held) f ≡ true → bit (r .spent) f ≡ true
   pub epoch : (r .epoch ≡ d .epoch) ⊎ ((isChanging (d .state) ≡ true) × (r .epoch + 1 ≡ d .epoch))
 
 -- "Leaf, node L + n"
@@ -50,7 +52,7 @@ pub record PathGood (d : Drive) (v : List ℕ) (n : ℕ) : Type 0 where
 
 -- "Bit f of a journal (lowest first) says that flake f is present."
 abbrev pub Present : Drive → List ℕ → ℕ → ℕ → Type 0
-Present d v n f = bit (recordOf (shapeOf d) v n .journal) f ≡ true
+Present d v n f = bit (recordOf (shapeOf d) v n .held) f ≡ true
 
 -- "Tag = Poly1305 under the tag key over the stored flake.": the tag of these bytes as flake f of nugget n
 abbrev pub tagFor : Drive → List ℕ → ℕ → ℕ → List ℕ → List ℕ

@@ -10,7 +10,7 @@ use Rattle.line.specs.Decimal.{digits, widthIn, decimal}
 use Rattle.line.specs.Lines.{shareText}
 use Rattle.records.specs.declared.Record.{Record}
 use Rattle.records.specs.Journal.{bit, shareNone, flakesWith, many, present}
-use Rattle.records.specs.Rule.{wayOf, enciphered, keycountAfter, journalAfter}
+use Rattle.records.specs.Rule.{wayOf, enciphered, keycountAfter, spentAfter, heldAfter}
 use Rattle.drive.specs.Drive.{shapeOf}
 use Rattle.drive.specs.Drive.{zeros}
 use Rattle.nuggets.specs.Touched.{meets, touchedOf}
@@ -31,7 +31,7 @@ shows {w} h =
 -- "write 64 bytes at 0": none present, so flake 0 under keycount 0; "64 at 64": flake 1 under keycount 0; "1 at 0": both flakes under keycount 1
 after-ten : (x : Start) (a b c : List ℕ) → Fresh 3 x → length a ≡ 64 → length b ≡ 64 → length c ≡ 1
     → Holds (step (step (step (begun x) (write 0 a)) (write 64 b)) (write 0 c)) 1 3 4 2 (x .outside + 1 + 1 + 1 + 1)
-unfolding touchedOf flakesWith meets wayOf shareNone enciphered keycountAfter journalAfter many bit
+unfolding touchedOf flakesWith meets wayOf shareNone enciphered keycountAfter spentAfter heldAfter many bit
 after-ten x a b c fresh la lb lc =
     let one = holds-on (begun x) (starts-so x (fresh .shaped)) 0 64 a la (omega arith) (omega arith) (omega (arith, fresh .room)) in
     let two = holds-on (step (begun x) (write 0 a)) one 64 64 b lb (omega arith) (omega arith) (omega (arith, fresh .room)) in
@@ -39,7 +39,7 @@ after-ten x a b c fresh la lb lc =
 
 -- both flakes under keycount 0
 after-eleven : (x : Start) (a : List ℕ) → Fresh 1 x → length a ≡ 10 → Holds (step (begun x) (write 60 a)) 0 3 2 0 (x .outside + 1 + 1)
-unfolding touchedOf flakesWith meets wayOf shareNone enciphered keycountAfter journalAfter many bit
+unfolding touchedOf flakesWith meets wayOf shareNone enciphered keycountAfter spentAfter heldAfter many bit
 after-eleven x a fresh la = holds-on (begun x) (starts-so x (fresh .shaped)) 60 10 a la (omega arith) (omega arith) (omega (arith, fresh .room))
 
 -- there are such drives
@@ -62,9 +62,9 @@ figures =
       nine = refl;
       ten = λ x a b c fresh la lb lc.
           let h = after-ten x a b c fresh la lb lc in
-          (ap (λ (r : Record). r .keycount) (h .nugget), ap (λ (r : Record). r .journal) (h .nugget), shows h);
+          (ap (λ (r : Record). r .keycount) (h .nugget), ap (λ (r : Record). r .held) (h .nugget), shows h);
       eleven = λ x a fresh la.
           let h = after-eleven x a fresh la in
-          (ap (λ (r : Record). r .keycount) (h .nugget), ap (λ (r : Record). r .journal) (h .nugget));
+          (ap (λ (r : Record). r .keycount) (h .nugget), ap (λ (r : Record). r .held) (h .nugget));
       twelve = refl;
     }

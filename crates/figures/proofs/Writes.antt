@@ -10,7 +10,7 @@ use Rattle.records.specs.declared.Record.{Record}
 use Rattle.records.specs.declared.Way.{Way}
 use Rattle.records.specs.declared.Way.the-variants.{Idle, Add, Rekey}
 use Rattle.records.specs.Journal.{present}
-use Rattle.records.specs.Rule.{wayOf, enciphered, keycountAfter, journalAfter, epochAfter, turned}
+use Rattle.records.specs.Rule.{wayOf, enciphered, keycountAfter, spentAfter, heldAfter, epochAfter, turned}
 use Rattle.records.specs.Listing.{padsTo}
 use Rattle.records.proofs.ListingLaws.{length-padsBy}
 use Rattle.drive.specs.declared.Drive.{Drive}
@@ -32,7 +32,7 @@ use Rattle.figures.specs.Figures.{small}
 
 -- the nugget's record under the first epoch
 abbrev pub first : ℕ → ℕ → Record
-first k j = record { keycount = k; journal = j; epoch = 1 }
+first k j = record { keycount = k; spent = j; held = j; epoch = 1 }
 
 -- what a drive of that shape holds
 pub record Holds (w : World) (k j listed retired counter : ℕ) : Type 0 where
@@ -65,6 +65,13 @@ epoch-stays Idle k j = refl
 epoch-stays (Add t) k j = refl
 epoch-stays (Rekey t) k j = refl
 
+-- and its masks agree
+masks-agree : (way : Way) (k j : ℕ) → spentAfter way (first k j) ≡ heldAfter way (first k j)
+unfolding spentAfter heldAfter
+masks-agree Idle k j = refl
+masks-agree (Add t) k j = refl
+masks-agree (Rekey t) k j = refl
+
 -- of one nugget with two flakes: how many pads its way lists, how many flakes are retired, how many are present
 module _ (n p : ℕ) (one : n ≡ 1) (two : p ≡ 2) where
   one-listed : (way : ℕ → Way) (records : ℕ → Record) (secret : List ℕ) {t : Way} {r : Record} → way 0 ≡ t → records 0 ≡ r
@@ -76,7 +83,7 @@ module _ (n p : ℕ) (one : n ≡ 1) (two : p ≡ 2) where
   unfolding sum
   one-gone before after e q = rw (one, two, e, q) (zero-add _)
 
-  pub one-present : (s : Shape) (v : List ℕ) {r : Record} → recordOf s v 0 ≡ r → flakesIn s p v n ≡ present 2 (r .journal)
+  pub one-present : (s : Shape) (v : List ℕ) {r : Record} → recordOf s v 0 ≡ r → flakesIn s p v n ≡ present 2 (r .held)
   unfolding flakesIn
   one-present s v e = rw (one, two, e) (zero-add _)
 
@@ -133,7 +140,7 @@ module _ (w : World) {k j listed retired counter : ℕ} (h : Holds w k j listed 
   unfolding step left
   gone-are = ap₂ (λ (a b : ℕ). a + b) (h .gone) (one-gone (w .drive .n) (w .drive .p) n-is p-is (recordOf (shapeOf (w .drive)) (w .vol)) (recordOf (shapeOf (u .drive)) (u .vol)) (h .nugget) nugget-is)
 
-  pub holds-on : Holds (step w (write o bytes)) (keycountAfter (wayAt k j o len) (first k j)) (journalAfter (wayAt k j o len) (first k j))
+  pub holds-on : Holds (step w (write o bytes)) (keycountAfter (wayAt k j o len) (first k j)) (heldAfter (wayAt k j o len) (first k j))
       (listed + present 2 (enciphered (wayAt k j o len) (first k j))) (retired + retiredOf 2 (first k j) (turned (wayAt k j o len) 1 (first k j))) (counter + 1)
   unfolding advanced
   holds-on =
@@ -142,7 +149,7 @@ module _ (w : World) {k j listed retired counter : ℕ} (h : Holds w k j listed 
         shaped = ap shapeOf drive-is ∙ h .shaped;
         epoch = ap (λ (d : Drive). d .epoch) drive-is ∙ h .epoch;
         counts = ap (λ (d : Drive). d .counter) drive-is ∙ ap (λ (c : ℕ). c + 1) (h .counts);
-        nugget = nugget-is ∙ (λ i. record { keycount = keycountAfter way r; journal = journalAfter way r; epoch = epoch-stays way k j i });
+        nugget = nugget-is ∙ (λ i. record { keycount = keycountAfter way r; spent = masks-agree way k j i; held = heldAfter way r; epoch = epoch-stays way k j i });
         entries = entries-are;
         gone = gone-are;
       }

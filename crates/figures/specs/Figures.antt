@@ -37,7 +37,7 @@ abbrev pub keycountIn : World → ℕ
 keycountIn w = recordOf (shapeOf (w .drive)) (w .vol) 0 .keycount
 
 abbrev pub journalIn : World → ℕ
-journalIn w = recordOf (shapeOf (w .drive)) (w .vol) 0 .journal
+journalIn w = recordOf (shapeOf (w .drive)) (w .vol) 0 .held
 
 -- pads listed, flakes present, flakes retired
 abbrev pub countsOf : World → List ℕ

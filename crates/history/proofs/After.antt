@@ -7,7 +7,7 @@ use Prim.Native.Nat.{ℕ, _^_, _<_}
 use native.Mathlib.Nat.{lt-of-lt-of-le}
 use lib.ListN.{length}
 use lib.Pow.{pow-mono}
-use Rattle.base.proofs.PickLaws.{yes, told, clash, either-told}
+use Rattle.base.proofs.PickLaws.{yes, told, clash}
 use Rattle.base.proofs.FoldLaws.{same-refl}
 use borrow.Author.Tests.{eq-eqb}
 use Rattle.layout.specs.declared.Shape.{Shape}
@@ -16,9 +16,9 @@ use Rattle.layout.proofs.Limits.{limits}
 use Rattle.records.specs.declared.Record.{Record}
 use Rattle.records.specs.declared.Way.{Way}
 use Rattle.records.specs.Journal.{bit}
-use Rattle.records.specs.Record.{Widths, recordOf}
-use Rattle.records.specs.Rule.{touchedBy, keycountAfter, journalAfter, epochAfter, turned, atTop}
-use Rattle.records.proofs.RuleLaws.{well-formed-after, widths-after}
+use Rattle.records.specs.Record.{Codes, recordOf}
+use Rattle.records.specs.Rule.{touchedBy, keycountAfter, heldAfter, epochAfter, turned, atTop}
+use Rattle.records.proofs.RuleLaws.{well-formed-after, codes-after}
 use Rattle.keys.specs.Keys.{nuggetKey}
 use Rattle.drive.specs.declared.Drive.{Drive}
 use Rattle.drive.specs.Drive.{shapeOf, gaugeOf, keptOld}
@@ -52,7 +52,7 @@ pub record Due (d : Drive) (v : List ℕ) (way : ℕ → Way) (new : ℕ → ℕ
   pub epoch-low : d .epoch < 2 ^ 16
   pub kept : keptOld (d .state) (d .old) ≡ d .old
   pub fits : (n : ℕ) → n < d .n → Fits (d .p) (d .epoch) (recordOf (shapeOf d) v n) (way n)
-  pub widths : (n : ℕ) → n < d .n → Widths (recordOf (shapeOf d) v n)
+  pub codes : (n : ℕ) → n < d .n → Codes (shapeOf d) (recordOf (shapeOf d) v n)
   pub room : (n : ℕ) → n < d .n → atTop (way n) (recordOf (shapeOf d) v n) ≡ false
   pub long : Long (shapeOf d) new
 
@@ -79,14 +79,14 @@ module _ (d : Drive) (v : List ℕ) (way : ℕ → Way) (new : ℕ → ℕ → L
   touched-low : (n : ℕ) → n < d .n → touchedBy (way n) < 2 ^ d .p
   touched-low n h = touched-lt (d .p) (d .epoch) (recordOf (shapeOf d) v n) (way n) (x .fits n h)
 
-  widths-turned : (n : ℕ) → n < d .n → Widths (turned (way n) (d .epoch) (recordOf (shapeOf d) v n))
-  widths-turned n h =
-      widths-after (way n) (d .epoch) (recordOf (shapeOf d) v n) (x .widths n h)
+  codes-turned : (n : ℕ) → n < d .n → Codes (shapeOf d) (turned (way n) (d .epoch) (recordOf (shapeOf d) v n))
+  codes-turned n h =
+      codes-after (shapeOf d) (way n) (d .epoch) (recordOf (shapeOf d) v n) (x .codes n h)
       (lt-of-lt-of-le (touched-low n h) (pow-mono (limits s (lent .limited) .narrow))) (x .epoch-low) (x .room n h)
 
   -- each record is the one turned in its nugget's way
   pub record-after : (n : ℕ) → n < d .n → recordOf (shapeOf d) z n ≡ turned (way n) (d .epoch) (recordOf (shapeOf d) v n)
-  record-after n h = settled-record s e u head-long n ∙ worked-record d v way new lent (x .long) n h (widths-turned n h)
+  record-after n h = settled-record s e u head-long n ∙ worked-record d v way new lent (x .long) n h (codes-turned n h)
 
   -- each enciphered flake is its new contents under its pad, and every other is as it was
   pub put-after : (n f : ℕ) → n < d .n → f < d .p → chosen way (recordOf (shapeOf d) v) n f ≡ true
@@ -123,21 +123,17 @@ module _ (d : Drive) (v : List ℕ) (way : ℕ → Way) (new : ℕ → ℕ → L
   keycount-after : (n : ℕ) → n < d .n → recordOf (shapeOf d) z n .keycount ≡ keycountAfter (way n) (recordOf (shapeOf d) v n)
   keycount-after n h = ap (λ (r : Record). r .keycount) (record-after n h)
 
-  -- a flake that is present and wasn't enciphered was there before, and its nugget was not rekeyed
-  stays : (n f : ℕ) → n < d .n → chosen way (recordOf (shapeOf d) v) n f ≡ false → bit (recordOf (shapeOf d) z n .journal) f ≡ true
-      → (bit (recordOf (shapeOf d) v n .journal) f ≡ true) × Adds (d .epoch) (way n) (recordOf (shapeOf d) v n)
+  -- a flake that is held and wasn't enciphered was held before, and its nugget was not rekeyed
+  stays : (n f : ℕ) → n < d .n → chosen way (recordOf (shapeOf d) v) n f ≡ false → bit (recordOf (shapeOf d) z n .held) f ≡ true
+      → (bit (recordOf (shapeOf d) v n .held) f ≡ true) × Adds (d .epoch) (way n) (recordOf (shapeOf d) v n)
   stays n f h off on = go (turn n h) (rw (record-after n h) at on)
     where
-      go : Adds (d .epoch) (way n) (recordOf (shapeOf d) v n) ⊎ Rekeyed (d .epoch) (way n) (recordOf (shapeOf d) v n) → bit (journalAfter (way n) (recordOf (shapeOf d) v n)) f ≡ true
-          → (bit (recordOf (shapeOf d) v n .journal) f ≡ true) × Adds (d .epoch) (way n) (recordOf (shapeOf d) v n)
-      go (inl a) t = (one (either-told (bit (recordOf (shapeOf d) v n .journal) f) (chosen way (recordOf (shapeOf d) v) n f) (sym (a .joined f) ∙ t)), a)
-        where
-          one : (bit (recordOf (shapeOf d) v n .journal) f ≡ true) ⊎ (chosen way (recordOf (shapeOf d) v) n f ≡ true) → bit (recordOf (shapeOf d) v n .journal) f ≡ true
-          one (inl p) = p
-          one (inr q) = absurd (clash q off)
-      go (inr a) t = absurd (clash (ap (λ (j : ℕ). bit j f) (sym (a .whole)) ∙ t) off)
+      go : Adds (d .epoch) (way n) (recordOf (shapeOf d) v n) ⊎ Rekeyed (d .epoch) (way n) (recordOf (shapeOf d) v n) → bit (heldAfter (way n) (recordOf (shapeOf d) v n)) f ≡ true
+          → (bit (recordOf (shapeOf d) v n .held) f ≡ true) × Adds (d .epoch) (way n) (recordOf (shapeOf d) v n)
+      go (inl a) t = (a .stays f t off, a)
+      go (inr a) t = absurd (clash (ap (λ (j : ℕ). bit j f) (sym (a .rest)) ∙ t) off)
 
-  tag-after : (n f : ℕ) → n < d .n → f < d .p → bit (recordOf (shapeOf d) z n .journal) f ≡ true → flakeGood e z n f ≡ true
+  tag-after : (n f : ℕ) → n < d .n → f < d .p → bit (recordOf (shapeOf d) z n .held) f ≡ true → flakeGood e z n f ≡ true
   unfolding advanced
   tag-after n f h l on = go (told (chosen way (recordOf (shapeOf d) v) n f))
     where

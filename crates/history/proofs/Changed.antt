@@ -10,10 +10,11 @@ use lib.ListN.{length}
 use lib.Pow.{pow-mono}
 use Rattle.base.proofs.PickLaws.{clash}
 use Rattle.base.proofs.TabLaws.{length-tab}
+use Rattle.layout.specs.Parts.{recordAt}
 use Rattle.layout.proofs.Limits.{limits}
 use Rattle.records.specs.declared.Way.{Way}
 use Rattle.records.specs.Journal.{bit}
-use Rattle.records.specs.Record.{Widths, recordOf}
+use Rattle.records.specs.Record.{Codes, recordOf}
 use Rattle.records.specs.Rule.{touchedBy, turned, atTop}
 use Rattle.drive.specs.declared.Drive.{Drive}
 use Rattle.drive.specs.declared.State.{State}
@@ -32,7 +33,8 @@ use Rattle.history.proofs.Quiet.{untouched-lent}
 use Rattle.history.proofs.View.{kitOf, viewOf, ledgerOf}
 use Rattle.history.proofs.After.{Due, record-after, put-after, kept-after, untouched-after}
 use Rattle.history.proofs.Sound.{Sound, Keeps, counter-room}
-use Rattle.records.proofs.RuleLaws.{formed-journal, formed-epoch}
+use Rattle.records.proofs.RuleLaws.{formed-spent, formed-held, formed-epoch}
+use Rattle.records.proofs.RecordLaws.{read-one}
 
 kept-twice : (s : State) (a b : List ℕ) → keptOld s a ≡ b → keptOld s b ≡ b
 kept-twice Steady a b e = e
@@ -61,16 +63,17 @@ module _ (w : World) (x : Sound w) (way : ℕ → Way) (new : ℕ → ℕ → Li
     pub rest : (n f : ℕ) → n < w .drive .n → f < w .drive .p → bit (touchedBy (way n)) f ≡ false
         → plainIn (shapeOf (w .drive)) after n f ≡ plainIn (shapeOf (w .drive)) (w .contents) n f
 
-  -- the widths of the records, by the invariant
-  widths : (n : ℕ) → n < d .n → Widths (recordOf (shapeOf d) v n)
-  widths n h =
+  -- the records are told by their bytes, by the invariant
+  codes : (n : ℕ) → n < d .n → Codes (shapeOf d) (recordOf (shapeOf d) v n)
+  codes n h =
       let formed = x .inv .formed n h in
+      let wide = pow-mono (limits (shapeOf d) (untouched-lent d v (x .untouched) .limited) .narrow) in
       record {
         keycountWidth = omega (arith, x .inv .below n h, x .handed .counter-lt);
-        journalWidth =
-            lt-of-lt-of-le (formed-journal (d .p) (gaugeOf d) (recordOf (shapeOf d) v n) formed)
-            (pow-mono (limits (shapeOf d) (untouched-lent d v (x .untouched) .limited) .narrow));
+        spentWidth = lt-of-lt-of-le (formed-spent (d .p) (gaugeOf d) (recordOf (shapeOf d) v n) formed) wide;
+        heldWidth = lt-of-lt-of-le (formed-held (d .p) (gaugeOf d) (recordOf (shapeOf d) v n) formed) wide;
         epochWidth = low (formed-epoch (d .p) (gaugeOf d) (recordOf (shapeOf d) v n) formed);
+        oneMask = read-one (shapeOf d) v (recordAt (shapeOf d) n);
       }
     where
       low : (recordOf (shapeOf d) v n .epoch ≡ d .epoch) ⊎ ((isChanging (d .state) ≡ true) × (recordOf (shapeOf d) v n .epoch + 1 ≡ d .epoch)) → recordOf (shapeOf d) v n .epoch < 2 ^ 16
@@ -90,7 +93,7 @@ module _ (w : World) (x : Sound w) (way : ℕ → Way) (new : ℕ → ℕ → Li
           epoch-low = x .handed .epoch-lt;
           kept = kept-twice (d .state) (w .old) (d .old) (x .handed .kept);
           fits = r .fits;
-          widths = widths;
+          codes = codes;
           room = r .room;
           long = λ n f a b. ap length (r .news n f a b) ∙ plain-long n f;
         }

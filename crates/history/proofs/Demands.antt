@@ -15,7 +15,7 @@ use Rattle.layout.specs.Parts.{tagAt}
 use Rattle.layout.specs.Spots.{spotAt, offsetAt, capacity}
 use Rattle.layout.proofs.Limits.{limits}
 use Rattle.layout.proofs.Places.{offset-spot, spot-inside}
-use Rattle.records.specs.Journal.{bit}
+use Rattle.records.specs.Journal.{bit, present}
 use Rattle.poly1305.specs.Poly1305.{poly1305}
 use Rattle.keys.specs.Keys.{nuggetKey, tagKey}
 use Rattle.keys.specs.Tags.{covered, tagOf}
@@ -27,7 +27,7 @@ use Rattle.reading.proofs.AnswerLaws.{read-lent}
 use Rattle.reports.specs.Counts.{flakesIn}
 use Rattle.reports.proofs.ReportLaws.{report-full}
 use Rattle.opening.specs.Format.{freshDrive, formatDone}
-use Rattle.ledger.specs.Totals.{sum, presentIn}
+use Rattle.ledger.specs.Totals.{sum}
 use Rattle.ledger.specs.Ledger.{secretAt, entryAt}
 use Rattle.ledger.proofs.Theorems.{no-entry-twice as none-twice-in}
 use Rattle.history.specs.World.{World, write}
@@ -91,19 +91,17 @@ never-written x calls a off = run-kept a (begun x) calls off
 pub no-entry-twice : NoEntryTwice
 no-entry-twice x calls = let w = history x calls in none-twice-in (kitOf (w .drive)) (ledgerOf w) (sound x calls .inv)
 
--- the report's count of flakes is the ledger's
-pub flakes-sum : (s : Shape) (p : ℕ) (v : List ℕ) (n : ℕ) → presentIn p n (recordOf s v) ≡ flakesIn s p v n
+-- the report's count of flakes, nugget by nugget
+pub flakes-sum : (s : Shape) (p : ℕ) (v : List ℕ) (n : ℕ) → sum n (λ i. present p (recordOf s v i .held)) ≡ flakesIn s p v n
 unfolding flakesIn sum
 flakes-sum s p v zero = refl
 flakes-sum s p v (suc n) = rw (flakes-sum s p v n)
 
 pub entries-listed : EntriesListed
-entries-listed x calls =
-    let w = history x calls in
-    sound x calls .inv .tally ∙ ap (λ (k : ℕ). k + w .retired) (flakes-sum (shapeOf (w .drive)) (w .drive .p) (w .vol) (w .drive .n))
+entries-listed x calls = sound x calls .inv .tally
 
 -- a present flake's tag, under the key of its nugget
-flake-tag : (w : World) → Sound w → (n f : ℕ) → n < w .drive .n → f < w .drive .p → bit (recordOf (shapeOf (w .drive)) (w .vol) n .journal) f ≡ true
+flake-tag : (w : World) → Sound w → (n f : ℕ) → n < w .drive .n → f < w .drive .p → bit (recordOf (shapeOf (w .drive)) (w .vol) n .held) f ≡ true
     → part (tagAt (shapeOf (w .drive)) n f) 16 (w .vol)
     ≡ poly1305 (tagKey (nuggetKey (entryAt (ledgerOf w) n f .secret) (w .drive .salt) n) f (recordOf (shapeOf (w .drive)) (w .vol) n .keycount)) (storedIn (shapeOf (w .drive)) (w .vol) n f)
 unfolding goodFlake keyFor tagOf covered secretAt secretFor

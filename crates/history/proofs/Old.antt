@@ -39,7 +39,7 @@ use Rattle.history.proofs.Sound.{Sound}
 use Rattle.history.proofs.Steps.{kept-any, sound, mount-back}
 use Rattle.history.proofs.Moves.{steady-epoch}
 
-pad-present : (w : World) → Sound w → changing w ≡ false → (n f : ℕ) (pad : Entry) → n < w .drive .n → bit (recordOf (shapeOf (w .drive)) (w .vol) n .journal) f ≡ true
+pad-present : (w : World) → Sound w → changing w ≡ false → (n f : ℕ) (pad : Entry) → n < w .drive .n → bit (recordOf (shapeOf (w .drive)) (w .vol) n .held) f ≡ true
     → lastOf n f (w .listing) ≡ some pad → pad .secret ≡ w .secret
 unfolding secretAt
 pad-present w x steady n f pad h on last =

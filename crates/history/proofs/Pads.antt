@@ -20,7 +20,7 @@ use Rattle.layout.specs.declared.Shape.{Shape}
 use Rattle.layout.specs.Shape.{leaves, widthOf}
 use Rattle.layout.specs.Parts.{recordAt}
 use Rattle.layout.specs.Lent.{Lent}
-use Rattle.layout.proofs.Limits.{limits, lent-small}
+use Rattle.layout.proofs.Limits.{limits, lent-small, by-numbers}
 use Rattle.records.specs.Listing.{Entry}
 use Rattle.keys.specs.Keys.{nuggetKey, tagKey, checkOf, sealOf}
 use Rattle.keys.specs.Pads.{Size, Stretch, Lies, padOf, inputOf}
@@ -47,7 +47,7 @@ use Rattle.ledger.proofs.OnwardLaws.{onward-same, onward-trans}
 use Rattle.history.specs.World.{World, Call}
 use Rattle.history.specs.Step.{step}
 use Rattle.history.specs.History.{Start, begun, run, history}
-use Rattle.history.specs.Pads.{keyOf, stretchOf, stretchSource, StretchSource, StretchMade, NoStretchTwice, tagSource, TagSource, TagKeyMade, NoTagKeyTwice, Present, OnePadOneContents, liesUnder, OneStretchOneContents, OneTagKeyOneMessage, Hashed, HashesStand}
+use Rattle.history.specs.Pads.{keyOf, stretchOf, stretchSource, StretchSource, StretchMade, NoStretchTwice, tagSource, TagSource, TagKeyMade, NoTagKeyTwice, Spent, OnePadOneContents, liesUnder, OneStretchOneContents, OneTagKeyOneMessage, Hashed, HashesStand}
 use Rattle.history.proofs.Quiet.{untouched-lent, whole-quiet}
 use Rattle.history.proofs.Heads.{untouched-node}
 use Rattle.history.proofs.View.{kitOf, ledgerOf}
@@ -76,7 +76,7 @@ listed w x i e at =
       count = omega (arith, low, x .handed .counter-lt);
     }
 
-lain : (x : Start) (calls : List Call) (n f : ℕ) → Present (x .shape) (history x calls .vol) n f → Within (liesUnder (history x calls) n f)
+lain : (x : Start) (calls : List Call) (n f : ℕ) → Spent (x .shape) (history x calls .vol) n f → Within (liesUnder (history x calls) n f)
 lain x calls n f y =
     let w = history x calls in
     let kept = shape-kept x calls .0 in
@@ -163,15 +163,15 @@ one-pad-one-contents x calls later n f y same =
     let at = shape-kept x calls .0 in
     let to = shape-kept x (calls ++ later) .0 in
     let keycounts = ap (λ (s : Shape). recordOf s (u .vol) n .keycount) to ∙ same ∙ sym (ap (λ (s : Shape). recordOf s (w .vol) n .keycount) at) in
-    let on = subst (λ (s : Shape). bit (recordOf s (w .vol) n .journal) f ≡ true) (sym at) (y .on) in
+    let on = subst (λ (s : Shape). bit (recordOf s (w .vol) n .spent) f ≡ true) (sym at) (y .on) in
     let stays =
     onward .stays n f (omega (arith, y .nugget, ap (λ (s : Shape). s .n) at)) (omega (arith, y .flake, ap (λ (s : Shape). s .p) at)) on keycounts in (
-      record { nugget = y .nugget; flake = y .flake; on = subst (λ (s : Shape). bit (recordOf s (u .vol) n .journal) f ≡ true) to (stays .0) },
+      record { nugget = y .nugget; flake = y .flake; on = subst (λ (s : Shape). bit (recordOf s (u .vol) n .spent) f ≡ true) to (stays .0) },
       sym (ap (λ (s : Shape). storedIn s (u .vol) n f) to) ∙ stays .1 ∙ ap (λ (s : Shape). storedIn s (w .vol) n f) at,
     )
 
--- present flakes under entries alike are one flake, as it was
-one-flake : (x : Start) (calls later : List Call) (n f m g : ℕ) → Present (x .shape) (history x calls .vol) n f
+-- spent flakes under entries alike are one flake, as it was
+one-flake : (x : Start) (calls later : List Call) (n f m g : ℕ) → Spent (x .shape) (history x calls .vol) n f
     → Alike (liesUnder (history x calls) n f) (liesUnder (history x (calls ++ later)) m g)
     → storedIn (x .shape) (history x (calls ++ later) .vol) m g ≡ storedIn (x .shape) (history x calls .vol) n f
 one-flake x calls later n f m g y alike =
@@ -198,7 +198,7 @@ check-for (Changing left) old salt epoch e = refl
 -- "the 18 record bytes"
 record-long : {s : Shape} {v : List ℕ} (n : ℕ) → Lent s v → n < s .n → length (part (recordAt s n) (widthOf s) v) ≡ 18
 unfolding widthOf
-record-long {s} {v} n l h = length-part (recordAt s n) (widthOf s) v (record-room n l h)
+record-long {s} {v} n l h = length-part (recordAt s n) (widthOf s) v (record-room n l h) ∙ by-numbers (λ (x : Shape). widthOf x ≡ 18) s (l .limited) refl
 
 -- head and tree of a sound world
 module _ (w : World) (x : Sound w) where

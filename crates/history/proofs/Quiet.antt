@@ -33,7 +33,7 @@ pub record Untouched (d : Drive) (v : List ℕ) : Type 0 where
   pub opens : openingOf d v ≡ A.Accepted
   pub good : AllGood (shapeOf d) v
   pub well : (n : ℕ) → n < d .n → formed (shapeOf d) (gaugeOf d) v n ≡ true
-  pub tags : (n f : ℕ) → n < d .n → f < d .p → bit (recordOf (shapeOf d) v n .journal) f ≡ true → flakeGood d v n f ≡ true
+  pub tags : (n f : ℕ) → n < d .n → f < d .p → bit (recordOf (shapeOf d) v n .held) f ≡ true → flakeGood d v n f ≡ true
 
 -- flakes that pass one by one
 flakes-pass : (s : Shape) (v : List ℕ) (g : Nugget) (mask k f : ℕ) → ((i : ℕ) → f ≤ i → i < f + k → bit mask i ≡ true → goodFlake s v g i ≡ true)
@@ -56,8 +56,8 @@ module _ (d : Drive) (v : List ℕ) (x : Untouched d v) where
   pub whole-quiet : wholeOf (shapeOf d) (gaugeOf d) v ≡ A.Accepted
   whole-quiet = good-whole (shapeOf d) (gaugeOf d) v untouched-lent (x .good) (x .well)
 
-  -- flakes of a set within the journal
-  pub flakes-quiet : (n mask : ℕ) → n < d .n → ((f : ℕ) → bit mask f ≡ true → bit (recordOf (shapeOf d) v n .journal) f ≡ true) → flakesOf d v n mask ≡ A.Accepted
+  -- flakes of a set within those held
+  pub flakes-quiet : (n mask : ℕ) → n < d .n → ((f : ℕ) → bit mask f ≡ true → bit (recordOf (shapeOf d) v n .held) f ≡ true) → flakesOf d v n mask ≡ A.Accepted
   unfolding flakesIn
   flakes-quiet n mask h within = flakes-pass (shapeOf d) v (nuggetOf d v n) mask (d .p) 0 (λ f a b e. x .tags n f h (omega arith) (within f e))
 
@@ -65,7 +65,7 @@ module _ (d : Drive) (v : List ℕ) (x : Untouched d v) where
   unfolding nuggetRead
   nugget-read n t h =
       yes _ (ap accepts (path-quiet n h))
-      (flakes-quiet n (bitAnd (recordOf (shapeOf d) v n .journal) t) h (λ f e. both-left (bit (recordOf (shapeOf d) v n .journal) f) (bit t f) (sym (bit-and (recordOf (shapeOf d) v n .journal) t f) ∙ e)))
+      (flakes-quiet n (bitAnd (recordOf (shapeOf d) v n .held) t) h (λ f e. both-left (bit (recordOf (shapeOf d) v n .held) f) (bit t f) (sym (bit-and (recordOf (shapeOf d) v n .held) t f) ∙ e)))
 
   pub report-accepts : reportAnswer d v ≡ A.Accepted
   unfolding reportAnswer

@@ -71,7 +71,7 @@ module _ (a p f : ℕ) (salt secret : List ℕ) (outside : ℕ) (salted : length
         opens = fresh-opens s salt secret outside salted limited;
         good = whole-good s (gaugeOf d) v whole;
         well = whole-formed s (gaugeOf d) v whole;
-        tags = λ n f h l on. absurd (clash on (ap (λ (r : Record). bit (r .journal) f) (numbers-record n h) ∙ bit-empty f));
+        tags = λ n f h l on. absurd (clash on (ap (λ (r : Record). bit (r .held) f) (numbers-record n h) ∙ bit-empty f));
       }
 
   numbers-inv : Inv (kitOf d) (viewOf d v [] 0 (λ a. 0))

@@ -34,7 +34,7 @@ module _ (w : World) (x : Sound w) where
         opens = x .untouched .opens;
         paths = path-quiet (w .drive) (w .vol) (x .untouched);
         whole = whole-quiet (w .drive) (w .vol) (x .untouched);
-        flakes = λ n h. flakes-quiet (w .drive) (w .vol) (x .untouched) n (recordOf (shapeOf (w .drive)) (w .vol) n .journal) h (λ f e. e);
+        flakes = λ n h. flakes-quiet (w .drive) (w .vol) (x .untouched) n (recordOf (shapeOf (w .drive)) (w .vol) n .held) h (λ f e. e);
         counted = omega (arith, x .handed .counter-lt);
         below = x .inv .below;
       }

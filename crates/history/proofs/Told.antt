@@ -30,7 +30,7 @@ use Rattle.history.proofs.Demands.{flakes-sum}
 use Rattle.history.proofs.Moves.{sweep-tells, sweep-leaves, swept-own, swept-other}
 
 -- the report's count of flakes done is the ledger's sum
-done-sum : (s : Shape) (p e : ℕ) (v : List ℕ) (n : ℕ) → sum n (λ i. pick (eqb (recordOf s v i .epoch) e) (present p (recordOf s v i .journal)) 0) ≡ doneIn s p e v n
+done-sum : (s : Shape) (p e : ℕ) (v : List ℕ) (n : ℕ) → sum n (λ i. pick (eqb (recordOf s v i .epoch) e) (present p (recordOf s v i .held)) 0) ≡ doneIn s p e v n
 unfolding doneIn sum
 done-sum s p e v zero = refl
 done-sum s p e v (suc n) = rw (done-sum s p e v n)

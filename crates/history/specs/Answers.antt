@@ -166,7 +166,7 @@ OldSecretFree =
     (start : Start) (calls : List Call)
     → let w = history start calls in
     changing w ≡ false
-    → ((n f : ℕ) (pad : Entry) → n < w .drive .n → bit (recordOf (shapeOf (w .drive)) (w .vol) n .journal) f ≡ true → lastOf n f (w .listing) ≡ some pad → pad .secret ≡ w .secret)
+    → ((n f : ℕ) (pad : Entry) → n < w .drive .n → bit (recordOf (shapeOf (w .drive)) (w .vol) n .held) f ≡ true → lastOf n f (w .listing) ≡ some pad → pad .secret ≡ w .secret)
     × ((any : List ℕ) → mountDone (w .vol) (w .secret) any (w .outside) ≡ record { answer = A.Accepted; drive = w .drive })
 
 -- "Seal: keyed with the present secret, `H`, head bytes 0-71, node 1."
@@ -218,8 +218,8 @@ pub record Tells (w : World) (r : Report) : Type 0 where
   pub nuggets : r .n ≡ w .drive .n
   pub moved : r .moved ≡ many (w .drive .n) (hasMoved w)
   pub left : r .left ≡ nuggetsLeft w
-  pub flakes : r .flakes ≡ sum (w .drive .n) (λ n. many (w .drive .p) (bit (recordOf (shapeOf (w .drive)) (w .vol) n .journal)))
-  pub done : r .done ≡ sum (w .drive .n) (λ n. pick (hasMoved w n) (many (w .drive .p) (bit (recordOf (shapeOf (w .drive)) (w .vol) n .journal))) 0)
+  pub flakes : r .flakes ≡ sum (w .drive .n) (λ n. many (w .drive .p) (bit (recordOf (shapeOf (w .drive)) (w .vol) n .held)))
+  pub done : r .done ≡ sum (w .drive .n) (λ n. pick (hasMoved w n) (many (w .drive .p) (bit (recordOf (shapeOf (w .drive)) (w .vol) n .held))) 0)
   pub share : (r .flakes ≡ 0 → ⊥) → r .share ≡ min (pick (eqb (r .left) 0) 10000 9999) (r .done * 10000 / r .flakes)
   pub empty : r .flakes ≡ 0 → r .share ≡ r .moved * 10000 / r .n
 

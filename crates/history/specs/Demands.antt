@@ -32,10 +32,10 @@ use Rattle.drive.specs.Drive.{shapeOf}
 use Rattle.opening.specs.Mount.{mountAnswer, mountDone}
 use Rattle.nuggets.specs.Nugget.{secretFor, storedIn}
 use Rattle.reading.specs.Read.{readBuffer}
-use Rattle.reports.specs.Counts.{flakesIn}
 use Rattle.reports.specs.Report.{reportOf}
 use Rattle.ledger.specs.Listing.{lastOf, NoneTwice}
 use Rattle.history.specs.World.{World, Call, asks, read, write}
+use Rattle.ledger.specs.Totals.{spentIn}
 use Rattle.history.specs.Step.{oldFor, answerTo, step, changesBy, writesAt}
 use Rattle.history.specs.History.{Start, begun, history, among}
 use Rattle.records.specs.Record.{recordOf}
@@ -74,12 +74,13 @@ NeverWritten = (start : Start) (calls : List Call) (a : ℕ) → among (writesAt
 abbrev pub NoEntryTwice : Type 0
 NoEntryTwice = (start : Start) (calls : List Call) → NoneTwice (history start calls .listing)
 
--- 3. "Entries listed equal flakes now present plus, for each keycount rise, its nugget's flakes present just before."
+-- 3. "Entries listed equal flakes now present plus, for each keycount rise, its nugget's flakes present just before." Present
+-- reads as spent here.
 abbrev pub EntriesListed : Type 0
 EntriesListed =
     (start : Start) (calls : List Call)
     → let w = history start calls in
-    length (w .listing) ≡ flakesIn (shapeOf (w .drive)) (w .drive .p) (w .vol) (w .drive .n) + w .retired
+    length (w .listing) ≡ spentIn (w .drive .p) (w .drive .n) (recordOf (shapeOf (w .drive)) (w .vol)) + w .retired
 
 -- the F bytes last written to a flake, by the contents of all offsets
 unfoldable pub plainIn : Shape → (ℕ → ℕ) → ℕ → ℕ → List ℕ
@@ -102,7 +103,7 @@ abbrev pub UnderLastPad : Type 0
 UnderLastPad =
     (start : Start) (calls : List Call) (n f : ℕ)
     → let w = history start calls in
-    n < w .drive .n → f < w .drive .p → bit (recordOf (shapeOf (w .drive)) (w .vol) n .journal) f ≡ true → LastPad w n f
+    n < w .drive .n → f < w .drive .p → bit (recordOf (shapeOf (w .drive)) (w .vol) n .held) f ≡ true → LastPad w n f
 
 -- 5. "An image this drive left before its last accepted change never mounts against the present outside counter."
 -- Whatever secrets are brought.

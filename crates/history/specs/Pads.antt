@@ -91,13 +91,13 @@ NoTagKeyTwice =
     → let listing = history start calls .listing in
     getElem? listing i ≡ some e → getElem? listing j ≡ some g → tagSource start e ≡ tagSource start g → i ≡ j
 
--- flake f of nugget n is there and present
-pub record Present (s : Shape) (v : List ℕ) (n f : ℕ) : Type 0 where
+-- flake f of nugget n is there, and its pad is spent
+pub record Spent (s : Shape) (v : List ℕ) (n f : ℕ) : Type 0 where
   pub nugget : n < s .n
   pub flake : f < s .p
-  pub on : bit (recordOf s v n .journal) f ≡ true
+  pub on : bit (recordOf s v n .spent) f ≡ true
 
--- One pad, one contents: as long as a nugget keeps its keycount, a flake present stays present, and stays to the byte. So
+-- One pad, one contents: as long as a nugget keeps its keycount, a flake spent stays spent, and stays to the byte. So
 -- nothing is laid anew under a pad that was laid before, listed or not.
 abbrev pub OnePadOneContents : Type 0
 OnePadOneContents =
@@ -105,13 +105,13 @@ OnePadOneContents =
     → let s = start .shape in
     let v = history start calls .vol in
     let u = history start (calls ++ later) .vol in
-    Present s v n f → recordOf s u n .keycount ≡ recordOf s v n .keycount → Present s u n f × (storedIn s u n f ≡ storedIn s v n f)
+    Spent s v n f → recordOf s u n .keycount ≡ recordOf s v n .keycount → Spent s u n f × (storedIn s u n f ≡ storedIn s v n f)
 
--- what a present flake lies under, by its nugget's record; by `LastPad` this is the pad last listed for it
+-- what a spent flake lies under, by its nugget's record; by `LastPad` this is the pad last listed for each one present
 abbrev pub liesUnder : World → ℕ → ℕ → Entry
 liesUnder w n f = entry n (recordOf (shapeOf (w .drive)) (w .vol) n .keycount) f (secretFor (w .drive) (recordOf (shapeOf (w .drive)) (w .vol) n .epoch))
 
--- The auditor's question, of what stands in the volume at any two points of a history: two present flakes under stretches of
+-- The auditor's question, of what stands in the volume at any two points of a history: two spent flakes under stretches of
 -- keystream made of the same are one flake with the same stored bytes, at one place of it.
 abbrev pub OneStretchOneContents : Type 0
 OneStretchOneContents =
@@ -119,11 +119,11 @@ OneStretchOneContents =
     → let s = start .shape in
     let w = history start calls in
     let u = history start (calls ++ later) in
-    Present s (w .vol) n f → Present s (u .vol) m g → a < s .f / 64 → b < s .f / 64
+    Spent s (w .vol) n f → Spent s (u .vol) m g → a < s .f / 64 → b < s .f / 64
     → stretchSource start (liesUnder w n f) a ≡ stretchSource start (liesUnder u m g) b
     → (n ≡ m) × (f ≡ g) × (a ≡ b) × (storedIn s (u .vol) m g ≡ storedIn s (w .vol) n f)
 
--- Poly1305's key is for one message: two present flakes whose tag keys are made of the same are one flake with the same stored
+-- Poly1305's key is for one message: two spent flakes whose tag keys are made of the same are one flake with the same stored
 -- bytes.
 abbrev pub OneTagKeyOneMessage : Type 0
 OneTagKeyOneMessage =
@@ -131,7 +131,7 @@ OneTagKeyOneMessage =
     → let s = start .shape in
     let w = history start calls in
     let u = history start (calls ++ later) in
-    Present s (w .vol) n f → Present s (u .vol) m g → tagSource start (liesUnder w n f) ≡ tagSource start (liesUnder u m g)
+    Spent s (w .vol) n f → Spent s (u .vol) m g → tagSource start (liesUnder w n f) ≡ tagSource start (liesUnder u m g)
     → (n ≡ m) × (f ≡ g) × (storedIn s (u .vol) m g ≡ storedIn s (w .vol) n f)
 
 -- a value is the hash of a message under a key, and each part of the message has its width; so by `OneMessage` of crate

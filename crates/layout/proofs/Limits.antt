@@ -1,11 +1,12 @@
 -- What the limits say, as facts about the numbers.
 use mathlib.Core.Path.{_≡_, refl, sym, _∙_}
-use mathlib.Core.Bool.{true, false}
+use mathlib.Core.Bool.{Bool, true, false}
 use Prim.Native.Nat.{ℕ, _*_, _%_, _≤_}
 use native.Mathlib.Nat.{mul-le-mul, le-trans}
 use native.Mathlib.Omega.{arith}
 use lib.Dec.{leb, eqb, lit≤}
 use borrow.Author.Tests.{leb-true, eqb-true}
+use Rattle.base.specs.Pick.{pick}
 use Rattle.base.proofs.PickLaws.{both-left, both-right}
 use Rattle.layout.specs.Shape.{shape, sized, known, inLimits, widthOf, within, leaves}
 use Rattle.layout.proofs.Height.{leaves-least, leaves-enough, leaves-some}
@@ -26,11 +27,19 @@ pub record Limits (s : Shape) : Type 0 where
 -- what the code's arithmetic has to know of a record's width
 pub width-le : (s : Shape) → widthOf s ≤ 26
 unfolding widthOf
-width-le s = omega arith
+width-le s = go (eqb (s .version) 1)
+  where
+    go : (b : Bool) → pick b 18 26 ≤ 26
+    go true = omega arith
+    go false = omega arith
 
 pub width-ge : (s : Shape) → 18 ≤ widthOf s
 unfolding widthOf
-width-ge s = omega arith
+width-ge s = go (eqb (s .version) 1)
+  where
+    go : (b : Bool) → 18 ≤ pick b 18 26
+    go true = omega arith
+    go false = omega arith
 
 limits-sized : (s : Shape) → sized s ≡ true → Limits s
 unfolding sized

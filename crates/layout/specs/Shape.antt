@@ -16,17 +16,21 @@ sized s =
     (both (leb (s .n) 16384)
     (both (leb 1 (s .p)) (both (leb (s .p) 64) (both (leb 64 (s .f)) (both (leb (s .f) 4096) (eqb (s .f % 64) 0))))))
 
--- "version 1", and ChaCha20 as the one cipher
+-- "version 1"
+abbrev pub isOne : Shape → Bool
+isOne s = eqb (s .version) 1
+
+-- that version, and ChaCha20 as the one cipher
 unfoldable pub known : Shape → Bool
-known s = both (eqb (s .version) 1) (eqb (s .cipher) 0)
+known s = both (isOne s) (eqb (s .cipher) 0)
 
 -- the numbers within their limits, the version and the cipher known
 unfoldable pub inLimits : Shape → Bool
 inLimits s = both (sized s) (known s)
 
--- how many bytes a record has
+-- how many bytes a record has: in version 1 one mask stands for the flakes spent and held, in a later one a mask for each
 unfoldable pub widthOf : Shape → ℕ
-widthOf s = 18
+widthOf s = pick (isOne s) 18 26
 
 -- the smallest m from the given one on whose power of two is not below n, in k tries
 unfoldable pub heightFrom : ℕ → ℕ → ℕ → ℕ

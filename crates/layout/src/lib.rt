@@ -66,7 +66,7 @@ pub fn in_limits(s: Shape) -> bool
 pub fn width_of(s: Shape) -> usize
     ensures { λ r. ⌜ r ≡ widthOf s ⌝ }
 {
-    18
+    if s.version == 1 { 18 } else { 26 }
 }
 
 // L is 2 to this height: 32 less the leading zeros of N - 1.

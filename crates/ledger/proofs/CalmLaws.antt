@@ -11,21 +11,20 @@ use lib.ListN.{length}
 use lib.Pow.{pow-pos}
 use borrow.Author.Tests.{eq-eqb, ne-eqb, lt-ltb}
 use Rattle.base.specs.Pick.{pick}
-use Rattle.base.proofs.PickLaws.{clash, both-on}
+use Rattle.base.proofs.PickLaws.{clash}
 use Rattle.words.specs.Xor.{xorl}
-use Rattle.records.specs.declared.Record.{Record}
 use Rattle.records.specs.declared.Gauge.{Gauge}
 use Rattle.records.specs.Journal.{bit, present as presentOf}
-use Rattle.records.specs.Record.{noneFrom, epochFits, wellFormed}
+use Rattle.records.specs.Record.{epochFits, wellFormed}
 use Rattle.records.specs.Listing.{Entry}
-use Rattle.records.proofs.BitLaws.{bit-empty, bit-below}
+use Rattle.records.proofs.BitLaws.{bit-empty, bit-below, lies-self}
 use Rattle.ledger.specs.Listing.{times, lastOf}
-use Rattle.ledger.specs.Totals.{presentIn}
+use Rattle.ledger.specs.Totals.{spentIn}
 use Rattle.ledger.specs.Ledger.{Kit, Ledger, gaugeIn, secretAt, entryAt}
 use Rattle.ledger.specs.Invariant.{Inv, Fresh}
 use Rattle.ledger.specs.Step.{Kept, Calm, Begun, Finished}
 use Rattle.ledger.proofs.TotalLaws.{sum-same, sum-none}
-use Rattle.records.proofs.RuleLaws.{formed-journal, formed-epoch}
+use Rattle.records.proofs.RuleLaws.{formed-spent, formed-lies, formed-held, formed-epoch, formed-by}
 use Rattle.records.proofs.CountLaws.{present-none}
 
 module _ (κ : Kit) (l m : Ledger) (inv : Inv κ l) (calm : Calm κ l m) where
@@ -38,13 +37,13 @@ module _ (κ : Kit) (l m : Ledger) (inv : Inv κ l) (calm : Calm κ l m) where
   entry-same : (n f : ℕ) → n < κ .n → entryAt m n f ≡ entryAt l n f
   entry-same n f h = rw (same n h, calm .sameSecrets n h)
 
-  present-same : presentIn (κ .p) (κ .n) (m .records) ≡ presentIn (κ .p) (κ .n) (l .records)
-  present-same = sum-same (κ .n) (λ n. presentOf (κ .p) (m .records n .journal)) (λ n. presentOf (κ .p) (l .records n .journal)) (λ n h. rw (same n h))
+  spent-same : spentIn (κ .p) (κ .n) (m .records) ≡ spentIn (κ .p) (κ .n) (l .records)
+  spent-same = sum-same (κ .n) (λ n. presentOf (κ .p) (m .records n .spent)) (λ n. presentOf (κ .p) (l .records n .spent)) (λ n h. rw (same n h))
 
-  laid-after : (n f : ℕ) → n < κ .n → bit (m .records n .journal) f ≡ true → m .stored n f ≡ xorl (m .plain n f) (κ .pad (entryAt m n f))
+  laid-after : (n f : ℕ) → n < κ .n → bit (m .records n .held) f ≡ true → m .stored n f ≡ xorl (m .plain n f) (κ .pad (entryAt m n f))
   laid-after n f h e =
-      let was : bit (l .records n .journal) f ≡ true = rw (same n h) at e in
-      let few : f < κ .p = bit-below (κ .p) (l .records n .journal) f (formed-journal (κ .p) (gaugeIn l) (l .records n) (inv .formed n h)) was in
+      let was : bit (l .records n .held) f ≡ true = rw (same n h) at e in
+      let few : f < κ .p = bit-below (κ .p) (l .records n .held) f (formed-held (κ .p) (gaugeIn l) (l .records n) (inv .formed n h)) was in
       rw (entry-same n f h, calm .kept .sameStored n f h few, calm .kept .samePlain n f h few) (inv .laid n f h was)
 
   pub calms : Inv κ m
@@ -61,18 +60,17 @@ module _ (κ : Kit) (l m : Ledger) (inv : Inv κ l) (calm : Calm κ l m) where
         ∙ ap {B = Option Entry} some (sym (entry-same n f h));
     laid = laid-after;
     blank = λ n f h few e. calm .kept .samePlain n f h few ∙ inv .blank n f h few (rw (same n h) at e);
-    tally = ap (λ (es : List Entry). length es) (calm .kept .sameListing) ∙ rw (present-same, calm .kept .sameRetired) (inv .tally);
+    tally = ap (λ (es : List Entry). length es) (calm .kept .sameListing) ∙ rw (spent-same, calm .kept .sameRetired) (inv .tally);
     below = λ n h. rw (same n h) (omega (arith, inv .below n h, calm .kept .counterUp));
   }
 
--- a record whose journal and epoch pass the two tests
-formed-by : (p : ℕ) (gauge : Gauge) (r : Record) → noneFrom p (r .journal) ≡ true → epochFits gauge (r .epoch) ≡ true → wellFormed p gauge r ≡ true
-unfolding wellFormed
-formed-by p gauge r j e = both-on j e
-
 module _ (κ : Kit) (l : Ledger) (inv : Inv κ l) where
-  none-from : (n : ℕ) → n < κ .n → noneFrom (κ .p) (l .records n .journal) ≡ true
-  none-from n h = lt-ltb (l .records n .journal) _ (formed-journal (κ .p) (gaugeIn l) (l .records n) (inv .formed n h))
+  -- a head that its epoch fits has a record well formed that was so under another
+  formed-again : (n : ℕ) (gauge : Gauge) → n < κ .n → epochFits gauge (l .records n .epoch) ≡ true → wellFormed (κ .p) gauge (l .records n) ≡ true
+  formed-again n gauge h fits =
+      let was = inv .formed n h in
+      formed-by (κ .p) gauge (l .records n) (lt-ltb (l .records n .spent) _ (formed-spent (κ .p) (gaugeIn l) (l .records n) was))
+      (formed-lies (κ .p) (gaugeIn l) (l .records n) was) fits
 
   -- a steady drive's records are at the head's epoch
   pub steady-epoch : l .changing ≡ false → (n : ℕ) → n < κ .n → l .records n .epoch ≡ l .epoch
@@ -88,7 +86,7 @@ module _ (κ : Kit) (l m : Ledger) (inv : Inv κ l) (kept : Kept κ l m) where
   begin-calm b = record { kept = kept; stillFormed = formed; sameSecrets = secrets }
     where
       formed : (n : ℕ) → n < κ .n → wellFormed (κ .p) (gaugeIn m) (l .records n) ≡ true
-      formed n h = formed-by (κ .p) (gaugeIn m) (l .records n) (none-from κ l inv n h)
+      formed n h = formed-again κ l inv n (gaugeIn m) h
           (rw (b .isChanging, b .epochUp, steady-epoch κ l inv (b .wasSteady) n h, ne-eqb (l .epoch) (l .epoch + 1) (λ e. omega arith), eq-eqb (l .epoch + 1) (l .epoch + 1) refl))
 
       secrets : (n : ℕ) → n < κ .n → pick (eqb (l .records n .epoch) (m .epoch)) (m .present) (m .old) ≡ pick (eqb (l .records n .epoch) (l .epoch)) (l .present) (l .old)
@@ -101,7 +99,7 @@ module _ (κ : Kit) (l m : Ledger) (inv : Inv κ l) (kept : Kept κ l m) where
     where
       formed : (n : ℕ) → n < κ .n → wellFormed (κ .p) (gaugeIn m) (l .records n) ≡ true
       formed n h =
-          formed-by (κ .p) (gaugeIn m) (l .records n) (none-from κ l inv n h) (rw (b .epochKept, b .noneLeft n h, eq-eqb (l .epoch) (l .epoch) refl))
+          formed-again κ l inv n (gaugeIn m) h (rw (b .epochKept, b .noneLeft n h, eq-eqb (l .epoch) (l .epoch) refl))
 
       secrets : (n : ℕ) → n < κ .n → pick (eqb (l .records n .epoch) (m .epoch)) (m .present) (m .old) ≡ pick (eqb (l .records n .epoch) (l .epoch)) (l .present) (l .old)
       secrets n h = rw (b .epochKept, b .noneLeft n h, eq-eqb (l .epoch) (l .epoch) refl) (b .presentKept)
@@ -111,11 +109,14 @@ module _ (κ : Kit) (l : Ledger) (new : Fresh κ l) where
   unfolding times
   unlisted n k f = ap (λ (es : List Entry). times n k f es) (new .unlisted)
 
-  absent : (n f : ℕ) → n < κ .n → bit (l .records n .journal) f ≡ false
+  absent : (n f : ℕ) → n < κ .n → bit (l .records n .held) f ≡ false
   absent n f h = rw (new .empty n h) (bit-empty f)
 
-  none-present : presentIn (κ .p) (κ .n) (l .records) ≡ 0
-  none-present = sum-none (κ .n) (λ n. presentOf (κ .p) (l .records n .journal)) (λ n h. rw (new .empty n h) (present-none (κ .p)))
+  unspent : (n f : ℕ) → n < κ .n → bit (l .records n .spent) f ≡ false
+  unspent n f h = rw (new .empty n h) (bit-empty f)
+
+  none-spent : spentIn (κ .p) (κ .n) (l .records) ≡ 0
+  none-spent = sum-none (κ .n) (λ n. presentOf (κ .p) (l .records n .spent)) (λ n h. rw (new .empty n h) (present-none (κ .p)))
 
   pub starts : Inv κ l
   starts = record {
@@ -123,11 +124,11 @@ module _ (κ : Kit) (l : Ledger) (new : Fresh κ l) where
     past = λ n k f h. unlisted n k f;
     wide = λ n k f h. unlisted n k f;
     fresh = λ n k f h up. unlisted n k f;
-    now = λ n f h. unlisted n (l .records n .keycount) f ∙ rw (absent n f h);
-    formed = λ n h. formed-by (κ .p) (gaugeIn l) (l .records n) (rw (new .empty n h) (lt-ltb 0 _ (pow-pos (κ .p)))) (rw (new .empty n h, eq-eqb (l .epoch) (l .epoch) refl));
+    now = λ n f h. unlisted n (l .records n .keycount) f ∙ rw (unspent n f h);
+    formed = λ n h. formed-by (κ .p) (gaugeIn l) (l .records n) (rw (new .empty n h) (lt-ltb 0 _ (pow-pos (κ .p)))) (rw (new .empty n h) (lies-self 0)) (rw (new .empty n h, eq-eqb (l .epoch) (l .epoch) refl));
     named = λ n f h e. absurd (clash e (absent n f h));
     laid = λ n f h e. absurd (clash e (absent n f h));
     blank = λ n f h few e. new .zeros n f h few;
-    tally = ap (λ (es : List Entry). length es) (new .unlisted) ∙ rw (none-present, new .unretired);
+    tally = ap (λ (es : List Entry). length es) (new .unlisted) ∙ rw (none-spent, new .unretired);
     below = λ n h. rw (new .empty n h) (omega arith);
   }

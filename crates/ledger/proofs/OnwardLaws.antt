@@ -36,7 +36,7 @@ onward-kept κ l m k =
       stays = λ n f h few on same. (rw (k .sameRecords n h) on, k .sameStored n f h few);
     }
 
--- a flake that is present isn't enciphered where the keycount stays
+-- a flake that is spent isn't enciphered where the keycount stays
 off : (a b : Bool) → both a b ≡ false → a ≡ true → b ≡ false
 off true b e t = e
 off false b e t = cc
@@ -51,12 +51,12 @@ module _ (κ : Kit) (way : ℕ → Way) (l m : Ledger) (step : Step κ way l m) 
             (turn-told (κ .p) (l .epoch) (l .records n) (way n) (step .ways n h));
       }
     where
-      go : (n f : ℕ) → n < κ .n → f < κ .p → bit (l .records n .journal) f ≡ true
+      go : (n f : ℕ) → n < κ .n → f < κ .p → bit (l .records n .spent) f ≡ true
           → turned (way n) (l .epoch) (l .records n) .keycount ≡ l .records n .keycount
           → Adds (l .epoch) (way n) (l .records n) ⊎ Rekeyed (l .epoch) (way n) (l .records n)
-          → (bit (m .records n .journal) f ≡ true) × (m .stored n f ≡ l .stored n f)
+          → (bit (m .records n .spent) f ≡ true) × (m .stored n f ≡ l .stored n f)
       go n f h few on same (inl a) = (
         rw (step .turns n h, a .joined f) (either-left (bit (enciphered (way n) (l .records n)) f) on),
-        step .leaves n f h few (off (bit (l .records n .journal) f) (bit (enciphered (way n) (l .records n)) f) (a .apart f) on),
+        step .leaves n f h few (off (bit (l .records n .spent) f) (bit (enciphered (way n) (l .records n)) f) (a .apart f) on),
       )
       go n f h few on same (inr a) = absurd (omega (arith, same, a .keycountUp))

@@ -1,6 +1,6 @@
 -- A change of nuggets, each in its way, keeps the invariant.
-use mathlib.Core.Path.{_≡_, refl, sym, _∙_}
-use mathlib.Core.Bool.{Bool, true, false}
+use mathlib.Core.Path.{_≡_, refl, _∙_}
+use mathlib.Core.Bool.{true, false}
 use mathlib.Core.Logic.{_⊎_, inl, inr}
 use mathlib.Core.Option.{some}
 use mathlib.Core.List.{List}
@@ -9,19 +9,19 @@ use native.Mathlib.Omega.{arith}
 use lib.Dec.{eqb, leb}
 use lib.ListN.{length, length-append}
 use borrow.Author.Tests.{eq-eqb, ne-eqb, leb-true, leb-false}
-use Rattle.base.specs.Pick.{pick, both, either}
+use Rattle.base.specs.Pick.{pick, both}
 use Rattle.base.proofs.PickLaws.{told, clash, both-no}
 use Rattle.words.specs.Xor.{xorl}
 use Rattle.records.specs.declared.Record.{Record}
 use Rattle.records.specs.declared.Way.{Way}
 use Rattle.records.specs.Journal.{bit, present as presentOf}
 use Rattle.records.specs.Record.{wellFormed}
-use Rattle.records.specs.Rule.{enciphered, keycountAfter, journalAfter, epochAfter, turned}
+use Rattle.records.specs.Rule.{enciphered, keycountAfter, spentAfter, heldAfter, epochAfter, turned}
 use Rattle.records.specs.Listing.{Entry, entry, padsBy, padsTo}
 use Rattle.records.proofs.BitLaws.{none-above, bit-below}
-use Rattle.records.proofs.RuleLaws.{keycount-rises, well-formed-after, formed-journal, formed-epoch}
+use Rattle.records.proofs.RuleLaws.{keycount-rises, well-formed-after, formed-held, formed-epoch}
 use Rattle.ledger.specs.Listing.{one, times, orElse, lastOf}
-use Rattle.ledger.specs.Totals.{sum, presentIn, retiredOf, risen}
+use Rattle.ledger.specs.Totals.{sum, spentIn, retiredOf, risen}
 use Rattle.ledger.specs.Ledger.{Kit, Ledger, gaugeIn, secretAt, entryAt, blankFlake}
 use Rattle.ledger.specs.Invariant.{Inv}
 use Rattle.ledger.specs.Step.{Step}
@@ -43,7 +43,7 @@ module _ (κ : Kit) (way : ℕ → Way) (l m : Ledger) (inv : Inv κ l) (step : 
   small : (n : ℕ) → n < κ .n → enciphered (way n) (before n) < 2 ^ κ .p
   small n h =
       enciphered-lt (κ .p) (l .epoch) (before n) (way n) (step .ways n h)
-      (formed-journal (κ .p) (gaugeIn l) (before n) (inv .formed n h))
+      (formed-held (κ .p) (gaugeIn l) (before n) (inv .formed n h))
 
   -- how often an entry is listed, and which is the last
   count : (n k f : ℕ) → n < κ .n
@@ -94,7 +94,7 @@ module _ (κ : Kit) (way : ℕ → Way) (l m : Ledger) (inv : Inv κ l) (step : 
         ne-eqb (keycountAfter (way n) (before n)) k (λ q. omega arith),
       )
 
-  now-after : (n f : ℕ) → n < κ .n → times n (m .records n .keycount) f (m .listing) ≡ one (bit (m .records n .journal) f)
+  now-after : (n f : ℕ) → n < κ .n → times n (m .records n .keycount) f (m .listing) ≡ one (bit (m .records n .spent) f)
   now-after n f h =
       rw (step .turns n h, count n (keycountAfter (way n) (before n)) f h)
       (one-now (l .epoch) (way n) (before n) f (turn n h) (times n (keycountAfter (way n) (before n)) f (l .listing))
@@ -108,14 +108,14 @@ module _ (κ : Kit) (way : ℕ → Way) (l m : Ledger) (inv : Inv κ l) (step : 
   below-after : (n : ℕ) → n < κ .n → m .records n .keycount ≤ m .counter
   below-after n h = rw (step .turns n h, step .counts) (omega (arith, keycount-step (way n) (before n), inv .below n h))
 
-  tally-after : length (m .listing) ≡ presentIn (κ .p) (κ .n) (m .records) + m .retired
+  tally-after : length (m .listing) ≡ spentIn (κ .p) (κ .n) (m .records) + m .retired
   tally-after =
-      let new : presentIn (κ .p) (κ .n) (m .records) ≡ sum (κ .n) (λ n. presentOf (κ .p) (journalAfter (way n) (before n)))
-      = sum-same (κ .n) (λ n. presentOf (κ .p) (m .records n .journal)) (λ n. presentOf (κ .p) (journalAfter (way n) (before n))) (λ n h. rw (step .turns n h)) in
+      let new : spentIn (κ .p) (κ .n) (m .records) ≡ sum (κ .n) (λ n. presentOf (κ .p) (spentAfter (way n) (before n)))
+      = sum-same (κ .n) (λ n. presentOf (κ .p) (m .records n .spent)) (λ n. presentOf (κ .p) (spentAfter (way n) (before n))) (λ n h. rw (step .turns n h)) in
       let gone : risen (κ .p) (κ .n) (l .records) (m .records) ≡ sum (κ .n) (λ n. retiredOf (κ .p) (before n) (turned (way n) (l .epoch) (before n)))
       = sum-same (κ .n) (λ n. retiredOf (κ .p) (before n) (m .records n)) (λ n. retiredOf (κ .p) (before n) (turned (way n) (l .epoch) (before n))) (λ n h. rw (step .turns n h)) in
-      let each = sum-pairs (κ .n) (λ n. presentOf (κ .p) (before n .journal)) (λ n. presentOf (κ .p) (enciphered (way n) (before n)))
-      (λ n. presentOf (κ .p) (journalAfter (way n) (before n))) (λ n. retiredOf (κ .p) (before n) (turned (way n) (l .epoch) (before n)))
+      let each = sum-pairs (κ .n) (λ n. presentOf (κ .p) (before n .spent)) (λ n. presentOf (κ .p) (enciphered (way n) (before n)))
+      (λ n. presentOf (κ .p) (spentAfter (way n) (before n))) (λ n. retiredOf (κ .p) (before n) (turned (way n) (l .epoch) (before n)))
       (λ n h. one-tally (κ .p) (l .epoch) (way n) (before n) (turn n h)) in
       rw (step .lists, length-append (l .listing) pads, length-call (κ .p) way (l .records) (l .present) (κ .n), step .retires, new, gone)
       (omega (arith, each, inv .tally))
@@ -143,30 +143,26 @@ module _ (κ : Kit) (way : ℕ → Way) (l m : Ledger) (inv : Inv κ l) (step : 
       head (inl a) = a .epochKept ∙ a .moved f e
       head (inr a) = a .epochSet
 
-  entry-old : (n f : ℕ) → n < κ .n → bit (enciphered (way n) (before n)) f ≡ false → bit (m .records n .journal) f ≡ true
-      → (bit (before n .journal) f ≡ true) × (entryAt m n f ≡ entryAt l n f)
+  entry-old : (n f : ℕ) → n < κ .n → bit (enciphered (way n) (before n)) f ≡ false → bit (m .records n .held) f ≡ true
+      → (bit (before n .held) f ≡ true) × (entryAt m n f ≡ entryAt l n f)
   entry-old n f h e d = go (turn n h)
     where
-      there : bit (journalAfter (way n) (before n)) f ≡ true
+      there : bit (heldAfter (way n) (before n)) f ≡ true
       there = rw (step .turns n h) at d
 
-      was : (b : Bool) → bit (before n .journal) f ≡ b → either b false ≡ true → bit (before n .journal) f ≡ true
-      was true q z = q
-      was false q z = absurd (clash z refl)
-
       go : Adds (l .epoch) (way n) (before n) ⊎ Rekeyed (l .epoch) (way n) (before n)
-          → (bit (before n .journal) f ≡ true) × (entryAt m n f ≡ entryAt l n f)
+          → (bit (before n .held) f ≡ true) × (entryAt m n f ≡ entryAt l n f)
       go (inl a) = (
-        was (bit (before n .journal) f) refl (rw e at (sym (a .joined f) ∙ there)),
+        a .stays f there e,
         rw (step .turns n h, a .keycountKept, a .epochKept, secret-kept n h),
       )
-      go (inr a) = absurd (clash (rw (a .whole) at there) e)
+      go (inr a) = absurd (clash (rw (a .rest) at there) e)
 
-  journal-after : (n f : ℕ) → n < κ .n → bit (m .records n .journal) f ≡ true → f < κ .p
-  journal-after n f h e =
-      bit-below (κ .p) (m .records n .journal) f (formed-journal (κ .p) (gaugeIn m) (m .records n) (formed-after n h)) e
+  few-after : (n f : ℕ) → n < κ .n → bit (m .records n .held) f ≡ true → f < κ .p
+  few-after n f h e =
+      bit-below (κ .p) (m .records n .held) f (formed-held (κ .p) (gaugeIn m) (m .records n) (formed-after n h)) e
 
-  named-after : (n f : ℕ) → n < κ .n → bit (m .records n .journal) f ≡ true → lastOf n f (m .listing) ≡ some (entryAt m n f)
+  named-after : (n f : ℕ) → n < κ .n → bit (m .records n .held) f ≡ true → lastOf n f (m .listing) ≡ some (entryAt m n f)
   named-after n f h d = last n f h ∙ go (told (bit (enciphered (way n) (before n)) f))
     where
       go : (bit (enciphered (way n) (before n)) f ≡ true) ⊎ (bit (enciphered (way n) (before n)) f ≡ false)
@@ -176,18 +172,18 @@ module _ (κ : Kit) (way : ℕ → Way) (l m : Ledger) (inv : Inv κ l) (step : 
           let (was, same) = entry-old n f h e d in
           rw (last-by-none (κ .p) (way n) n (before n) (l .present) f e, same) (inv .named n f h was)
 
-  laid-after : (n f : ℕ) → n < κ .n → bit (m .records n .journal) f ≡ true → m .stored n f ≡ xorl (m .plain n f) (κ .pad (entryAt m n f))
+  laid-after : (n f : ℕ) → n < κ .n → bit (m .records n .held) f ≡ true → m .stored n f ≡ xorl (m .plain n f) (κ .pad (entryAt m n f))
   laid-after n f h d = go (told (bit (enciphered (way n) (before n)) f))
     where
       go : (bit (enciphered (way n) (before n)) f ≡ true) ⊎ (bit (enciphered (way n) (before n)) f ≡ false)
           → m .stored n f ≡ xorl (m .plain n f) (κ .pad (entryAt m n f))
-      go (inl e) = rw (entry-new n f h e) (step .enciphers n f h (journal-after n f h d) e)
+      go (inl e) = rw (entry-new n f h e) (step .enciphers n f h (few-after n f h d) e)
       go (inr e) =
           let (was, same) = entry-old n f h e d in
-          let few : f < κ .p = journal-after n f h d in
+          let few : f < κ .p = few-after n f h d in
           rw (same, step .leaves n f h few e, step .untouched n f h few (untouched-by (way n) (before n) f e)) (inv .laid n f h was)
 
-  blank-after : (n f : ℕ) → n < κ .n → f < κ .p → bit (m .records n .journal) f ≡ false → m .plain n f ≡ blankFlake κ
+  blank-after : (n f : ℕ) → n < κ .n → f < κ .p → bit (m .records n .held) f ≡ false → m .plain n f ≡ blankFlake κ
   blank-after n f h few d =
       let (was, off) = absent-after (way n) (before n) f (rw (step .turns n h) at d) in
       step .untouched n f h few off ∙ inv .blank n f h few was

@@ -15,7 +15,7 @@ use Rattle.words.proofs.XorLaws.{xorl-back}
 use Rattle.records.specs.Journal.{bit}
 use Rattle.records.specs.Listing.{Entry}
 use Rattle.ledger.specs.Listing.{times, lastOf, NoneTwice}
-use Rattle.ledger.specs.Totals.{presentIn}
+use Rattle.ledger.specs.Totals.{spentIn}
 use Rattle.ledger.specs.Ledger.{Kit, Ledger, entryAt, blankFlake, contents}
 use Rattle.ledger.specs.Invariant.{Inv}
 use Rattle.ledger.proofs.PlaceLaws.{counted, none-twice}
@@ -26,21 +26,21 @@ module _ (κ : Kit) (l : Ledger) (inv : Inv κ l) where
   no-entry-twice = none-twice (l .listing) (inv .once)
 
   -- "Entries listed equal flakes now present plus, for each keycount rise, its nugget's flakes present just before."
-  pub entries-listed : length (l .listing) ≡ presentIn (κ .p) (κ .n) (l .records) + l .retired
+  pub entries-listed : length (l .listing) ≡ spentIn (κ .p) (κ .n) (l .records) + l .retired
   entries-listed = inv .tally
 
   -- "Each present flake is its contents under the pad last listed for it.": that pad is the nugget's keycount's, under the
   -- secret of its epoch
-  pub under-last : (n f : ℕ) → n < κ .n → bit (l .records n .journal) f ≡ true
+  pub under-last : (n f : ℕ) → n < κ .n → bit (l .records n .held) f ≡ true
       → (lastOf n f (l .listing) ≡ some (entryAt l n f)) × (l .stored n f ≡ xorl (l .plain n f) (κ .pad (entryAt l n f)))
   under-last n f h e = (inv .named n f h e, inv .laid n f h e)
 
   -- "What is written is what is later read. A place never written reads as zero."
   pub finds : (n f : ℕ) → n < κ .n → f < κ .p → contents κ l n f ≡ l .plain n f
   unfolding contents
-  finds n f h few = go (bit (l .records n .journal) f) refl
+  finds n f h few = go (bit (l .records n .held) f) refl
     where
-      go : (b : Bool) → bit (l .records n .journal) f ≡ b → pick b (xorl (l .stored n f) (κ .pad (entryAt l n f))) (blankFlake κ) ≡ l .plain n f
+      go : (b : Bool) → bit (l .records n .held) f ≡ b → pick b (xorl (l .stored n f) (κ .pad (entryAt l n f))) (blankFlake κ) ≡ l .plain n f
       go true e = rw (inv .laid n f h e) (xorl-back (l .plain n f) (κ .pad (entryAt l n f)))
       go false e = sym (inv .blank n f h few e)
 

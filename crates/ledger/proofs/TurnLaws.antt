@@ -10,12 +10,12 @@ use lib.Pow.{pow-pos}
 use lib.Dec.{eqb}
 use borrow.Author.Tests.{eqb-true, eq-eqb, lt-ltb, le-ltb}
 use Rattle.base.specs.Pick.{pick, both, either}
-use Rattle.base.proofs.PickLaws.{told, clash, either-off, both-no}
+use Rattle.base.proofs.PickLaws.{told, clash, either-off, either-told, both-no}
 use Rattle.records.specs.declared.Record.{Record}
 use Rattle.records.specs.declared.Way.{Way}
 use Rattle.records.specs.declared.Way.the-variants.{Idle, Add, Rekey}
-use Rattle.records.specs.Journal.{bit, shareNone, present}
-use Rattle.records.specs.Rule.{wayOf, sweepWay, touchedBy, enciphered, keycountAfter, journalAfter, epochAfter, turned}
+use Rattle.records.specs.Journal.{bit, union, shareNone, present}
+use Rattle.records.specs.Rule.{wayOf, sweepWay, touchedBy, enciphered, keycountAfter, spentAfter, heldAfter, epochAfter, turned}
 use Rattle.records.proofs.BitLaws.{bit-union, bit-empty, share-none-bits}
 use Rattle.records.proofs.CountLaws.{many-either}
 use Rattle.ledger.specs.Listing.{one}
@@ -31,9 +31,9 @@ sweep-fits p head r false = tt
 -- a write's way fits
 pub write-fits : (p head : ℕ) (r : Record) (t : ℕ) → t < 2 ^ p → Fits p head r (wayOf r t head)
 unfolding wayOf Fits
-write-fits p head r t h = go (eqb t 0) (shareNone (r .journal) t) (eqb (r .epoch) head) refl refl
+write-fits p head r t h = go (eqb t 0) (shareNone (r .spent) t) (eqb (r .epoch) head) refl refl
   where
-    go : (a b c : Bool) → shareNone (r .journal) t ≡ b → eqb (r .epoch) head ≡ c → Fits p head r (pick a Idle (pick (both b c) (Add t) (Rekey t)))
+    go : (a b c : Bool) → shareNone (r .spent) t ≡ b → eqb (r .epoch) head ≡ c → Fits p head r (pick a Idle (pick (both b c) (Add t) (Rekey t)))
     go true b c d e = tt
     go false true true d e = (d, eqb-true (r .epoch) head e, h)
     go false true false d e = h
@@ -42,32 +42,44 @@ write-fits p head r t h = go (eqb t 0) (shareNone (r .journal) t) (eqb (r .epoch
 pub record Adds (head : ℕ) (way : Way) (r : Record) : Type 0 where
   pub keycountKept : keycountAfter way r ≡ r .keycount
   pub epochKept : epochAfter way head r ≡ r .epoch
-  pub apart : (f : ℕ) → both (bit (r .journal) f) (bit (enciphered way r) f) ≡ false
-  pub joined : (f : ℕ) → bit (journalAfter way r) f ≡ either (bit (r .journal) f) (bit (enciphered way r) f)
+  pub apart : (f : ℕ) → both (bit (r .spent) f) (bit (enciphered way r) f) ≡ false
+  pub joined : (f : ℕ) → bit (spentAfter way r) f ≡ either (bit (r .spent) f) (bit (enciphered way r) f)
+  pub stays : (f : ℕ) → bit (heldAfter way r) f ≡ true → bit (enciphered way r) f ≡ false → bit (r .held) f ≡ true
   pub moved : (f : ℕ) → bit (enciphered way r) f ≡ true → r .epoch ≡ head
 
 pub record Rekeyed (head : ℕ) (way : Way) (r : Record) : Type 0 where
   pub keycountUp : keycountAfter way r ≡ r .keycount + 1
   pub epochSet : epochAfter way head r ≡ head
-  pub whole : journalAfter way r ≡ enciphered way r
+  pub whole : spentAfter way r ≡ enciphered way r
+  pub rest : heldAfter way r ≡ enciphered way r
+
+-- what is in J with T and not in T is in J
+in-first : (j t f : ℕ) → bit (union j t) f ≡ true → bit t f ≡ false → bit j f ≡ true
+in-first j t f on off = go (either-told (bit j f) (bit t f) (sym (bit-union j t f) ∙ on))
+  where
+    go : (bit j f ≡ true) ⊎ (bit t f ≡ true) → bit j f ≡ true
+    go (inl e) = e
+    go (inr e) = absurd (clash e off)
 
 pub turn-told : (p head : ℕ) (r : Record) (way : Way) → Fits p head r way → Adds head way r ⊎ Rekeyed head way r
-unfolding Fits keycountAfter epochAfter journalAfter enciphered
+unfolding Fits keycountAfter epochAfter spentAfter heldAfter enciphered
 turn-told p head r Idle h = inl (record {
   keycountKept = refl;
   epochKept = refl;
-  apart = λ f. rw (bit-empty f) (both-no (bit (r .journal) f));
-  joined = λ f. bit-union (r .journal) 0 f;
+  apart = λ f. rw (bit-empty f) (both-no (bit (r .spent) f));
+  joined = λ f. bit-union (r .spent) 0 f;
+  stays = in-first (r .held) 0;
   moved = λ f e. absurd (clash e (bit-empty f));
 })
 turn-told p head r (Add t) h = inl (record {
   keycountKept = refl;
   epochKept = refl;
-  apart = share-none-bits (r .journal) t (h .0);
-  joined = bit-union (r .journal) t;
+  apart = share-none-bits (r .spent) t (h .0);
+  joined = bit-union (r .spent) t;
+  stays = in-first (r .held) t;
   moved = λ f e. h .1;
 })
-turn-told p head r (Rekey t) h = inr (record { keycountUp = refl; epochSet = refl; whole = refl })
+turn-told p head r (Rekey t) h = inr (record { keycountUp = refl; epochSet = refl; whole = refl; rest = refl })
 
 -- what a way touches and enciphers are flakes below p
 pub touched-lt : (p head : ℕ) (r : Record) (way : Way) → Fits p head r way → touchedBy way < 2 ^ p
@@ -76,23 +88,23 @@ touched-lt p head r Idle h = pow-pos p
 touched-lt p head r (Add t) h = h .2
 touched-lt p head r (Rekey t) h = h
 
-pub enciphered-lt : (p head : ℕ) (r : Record) (way : Way) → Fits p head r way → r .journal < 2 ^ p → enciphered way r < 2 ^ p
+pub enciphered-lt : (p head : ℕ) (r : Record) (way : Way) → Fits p head r way → r .held < 2 ^ p → enciphered way r < 2 ^ p
 unfolding Fits enciphered
 enciphered-lt p head r Idle h j = pow-pos p
 enciphered-lt p head r (Add t) h j = h .2
-enciphered-lt p head r (Rekey t) h j = or-lt p (r .journal) t j h
+enciphered-lt p head r (Rekey t) h j = or-lt p (r .held) t j h
 
 -- a flake that isn't enciphered isn't touched
 pub untouched-by : (way : Way) (r : Record) (f : ℕ) → bit (enciphered way r) f ≡ false → bit (touchedBy way) f ≡ false
 unfolding enciphered
 untouched-by Idle r f e = bit-empty f
 untouched-by (Add t) r f e = e
-untouched-by (Rekey t) r f e = either-off (bit (r .journal) f) (bit t f) (sym (bit-union (r .journal) t f) ∙ e) .1
+untouched-by (Rekey t) r f e = either-off (bit (r .held) f) (bit t f) (sym (bit-union (r .held) t f) ∙ e) .1
 
 -- a flake absent afterwards was absent, and isn't touched
-pub absent-after : (way : Way) (r : Record) (f : ℕ) → bit (journalAfter way r) f ≡ false → (bit (r .journal) f ≡ false) × (bit (touchedBy way) f ≡ false)
-unfolding journalAfter
-absent-after way r f e = either-off (bit (r .journal) f) (bit (touchedBy way) f) (sym (bit-union (r .journal) (touchedBy way) f) ∙ e)
+pub absent-after : (way : Way) (r : Record) (f : ℕ) → bit (heldAfter way r) f ≡ false → (bit (r .held) f ≡ false) × (bit (touchedBy way) f ≡ false)
+unfolding heldAfter
+absent-after way r f e = either-off (bit (r .held) f) (bit (touchedBy way) f) (sym (bit-union (r .held) (touchedBy way) f) ∙ e)
 
 pub keycount-step : (way : Way) (r : Record) → keycountAfter way r ≤ r .keycount + 1
 unfolding keycountAfter
@@ -117,17 +129,17 @@ one-le true = omega arith
 one-le false = omega arith
 
 -- How often a nugget's flake is listed, before (c) and after a way: at most once, not at all above the keycount, and at it
--- exactly if it is present.
+-- exactly if it is spent.
 module _ (head : ℕ) (way : Way) (r : Record) (f : ℕ) where
   pub one-once : Adds head way r ⊎ Rekeyed head way r → (k c : ℕ) → c ≤ 1 → (r .keycount < k → c ≡ 0)
-      → (r .keycount ≡ k → c ≡ one (bit (r .journal) f)) → c + one (both (eqb (keycountAfter way r) k) (bit (enciphered way r) f)) ≤ 1
+      → (r .keycount ≡ k → c ≡ one (bit (r .spent) f)) → c + one (both (eqb (keycountAfter way r) k) (bit (enciphered way r) f)) ≤ 1
   one-once turn k c once fresh now = go turn (told (eqb (keycountAfter way r) k))
     where
       go : Adds head way r ⊎ Rekeyed head way r → (eqb (keycountAfter way r) k ≡ true) ⊎ (eqb (keycountAfter way r) k ≡ false)
           → c + one (both (eqb (keycountAfter way r) k) (bit (enciphered way r) f)) ≤ 1
       go (inl a) (inl e) =
           let q : r .keycount ≡ k = sym (a .keycountKept) ∙ eqb-true (keycountAfter way r) k e in
-          rw (e, now q) (apart-le (bit (r .journal) f) (bit (enciphered way r) f) (a .apart f))
+          rw (e, now q) (apart-le (bit (r .spent) f) (bit (enciphered way r) f) (a .apart f))
       go (inr a) (inl e) =
           let q : keycountAfter way r ≡ k = eqb-true (keycountAfter way r) k e in
           rw (e, fresh (omega (arith, a .keycountUp))) (omega (arith, one-le (bit (enciphered way r) f)))
@@ -135,18 +147,18 @@ module _ (head : ℕ) (way : Way) (r : Record) (f : ℕ) where
       go (inr a) (inr e) = rw e (omega arith)
 
   pub one-now : Adds head way r ⊎ Rekeyed head way r → (c : ℕ) → (r .keycount < keycountAfter way r → c ≡ 0)
-      → (r .keycount ≡ keycountAfter way r → c ≡ one (bit (r .journal) f))
-      → c + one (both (eqb (keycountAfter way r) (keycountAfter way r)) (bit (enciphered way r) f)) ≡ one (bit (journalAfter way r) f)
+      → (r .keycount ≡ keycountAfter way r → c ≡ one (bit (r .spent) f))
+      → c + one (both (eqb (keycountAfter way r) (keycountAfter way r)) (bit (enciphered way r) f)) ≡ one (bit (spentAfter way r) f)
   one-now (inl a) c fresh now =
       rw (eq-eqb (keycountAfter way r) (keycountAfter way r) refl, now (sym (a .keycountKept)), a .joined f)
-      (apart-one (bit (r .journal) f) (bit (enciphered way r) f) (a .apart f))
+      (apart-one (bit (r .spent) f) (bit (enciphered way r) f) (a .apart f))
   one-now (inr a) c fresh now =
       rw (eq-eqb (keycountAfter way r) (keycountAfter way r) refl, fresh (omega (arith, a .keycountUp)), a .whole) (omega arith)
 
--- flakes present before and entries listed: flakes present afterwards and flakes retired
+-- flakes spent before and entries listed: flakes spent afterwards and flakes retired
 pub one-tally : (p head : ℕ) (way : Way) (r : Record) → Adds head way r ⊎ Rekeyed head way r
-    → present p (r .journal) + present p (enciphered way r) ≡ present p (journalAfter way r) + retiredOf p r (turned way head r)
+    → present p (r .spent) + present p (enciphered way r) ≡ present p (spentAfter way r) + retiredOf p r (turned way head r)
 one-tally p head way r (inl a) =
     rw (le-ltb (r .keycount) (keycountAfter way r) (omega (arith, a .keycountKept)))
-    (omega (arith, many-either p (bit (r .journal)) (bit (enciphered way r)) (bit (journalAfter way r)) (a .joined) (a .apart)))
+    (omega (arith, many-either p (bit (r .spent)) (bit (enciphered way r)) (bit (spentAfter way r)) (a .joined) (a .apart)))
 one-tally p head way r (inr a) = rw (lt-ltb (r .keycount) (keycountAfter way r) (omega (arith, a .keycountUp)), a .whole) (omega arith)

@@ -51,4 +51,4 @@ blankFlake κ = replicate (κ .size) 0
 
 -- what a flake reads as: "Stored flake = contents xor pad."
 unfoldable pub contents : Kit → Ledger → ℕ → ℕ → List ℕ
-contents κ l n f = pick (bit (l .records n .journal) f) (xorl (l .stored n f) (κ .pad (entryAt l n f))) (blankFlake κ)
+contents κ l n f = pick (bit (l .records n .held) f) (xorl (l .stored n f) (κ .pad (entryAt l n f))) (blankFlake κ)

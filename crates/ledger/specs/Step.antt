@@ -17,7 +17,7 @@ use Rattle.ledger.specs.Ledger.{Kit, Ledger, gaugeIn, secretAt}
 -- the ways that keep every pad single: flakes are added where "J and T share none and its epoch is the head's"
 unfoldable pub Fits : ℕ → ℕ → Record → Way → Type 0
 Fits p head r Idle = Unit {0}
-Fits p head r (Add t) = (shareNone (r .journal) t ≡ true) × (r .epoch ≡ head) × (t < 2 ^ p)
+Fits p head r (Add t) = (shareNone (r .spent) t ≡ true) × (r .epoch ≡ head) × (t < 2 ^ p)
 Fits p head r (Rekey t) = t < 2 ^ p
 
 -- Nuggets change, each in its way. A touched flake may get any contents.

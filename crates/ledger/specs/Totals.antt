@@ -1,4 +1,5 @@
 -- Demand 3: "Entries listed equal flakes now present plus, for each keycount rise, its nugget's flakes present just before."
+-- Document 02, Item 4: what is present "reads as spent in demand 3's totals".
 use Prim.Native.Nat.{ℕ, zero, suc, _+_}
 use lib.Dec.{ltb}
 use Rattle.base.specs.Pick.{pick}
@@ -10,13 +11,13 @@ unfoldable pub sum : ℕ → (ℕ → ℕ) → ℕ
 sum zero g = 0
 sum (suc n) g = sum n g + g n
 
--- "flakes now present": of each of the first n nuggets, those below P in its journal
-abbrev pub presentIn : ℕ → ℕ → (ℕ → Record) → ℕ
-presentIn p n records = sum n (λ i. present p (records i .journal))
+-- "flakes now present": of each of the first n nuggets, those below P that are spent
+abbrev pub spentIn : ℕ → ℕ → (ℕ → Record) → ℕ
+spentIn p n records = sum n (λ i. present p (records i .spent))
 
 -- "for each keycount rise, its nugget's flakes present just before"
 abbrev pub retiredOf : ℕ → Record → Record → ℕ
-retiredOf p before after = pick (ltb (before .keycount) (after .keycount)) (present p (before .journal)) 0
+retiredOf p before after = pick (ltb (before .keycount) (after .keycount)) (present p (before .spent)) 0
 
 -- those of the first n nuggets, by their records before and after a call alone
 abbrev pub risen : ℕ → ℕ → (ℕ → Record) → (ℕ → Record) → ℕ

@@ -62,7 +62,7 @@ module _ (s : Shape) (v : List ℕ) (g : Nugget) where
 
 module _ (d : Drive) (v : List ℕ) (n : ℕ) where
   pub nugget-is : {r : Record} {secret key : List ℕ} → r ≡ recordOf (shapeOf d) v n → secret ≡ secretFor d (r .epoch) → key ≡ nuggetKey secret (d .salt) n
-      → record { number = n; key = key; keycount = r .keycount; journal = r .journal } ≡ nuggetOf d v n
+      → record { number = n; key = key; keycount = r .keycount; journal = r .held } ≡ nuggetOf d v n
   unfolding keyFor
   nugget-is er es ek = rw (ek, es, er) refl
 

@@ -25,7 +25,7 @@ unfoldable pub keyFor : Drive → List ℕ → ℕ → List ℕ
 keyFor d v n = nuggetKey (secretFor d (recordOf (shapeOf d) v n .epoch)) (d .salt) n
 
 abbrev pub nuggetOf : Drive → List ℕ → ℕ → Nugget
-nuggetOf d v n = record { number = n; key = keyFor d v n; keycount = recordOf (shapeOf d) v n .keycount; journal = recordOf (shapeOf d) v n .journal }
+nuggetOf d v n = record { number = n; key = keyFor d v n; keycount = recordOf (shapeOf d) v n .keycount; journal = recordOf (shapeOf d) v n .held }
 
 -- the F bytes that stand for a flake in the volume
 abbrev pub storedIn : Shape → List ℕ → ℕ → ℕ → List ℕ

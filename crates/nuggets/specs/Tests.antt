@@ -50,4 +50,4 @@ pathFor d v n = pathOf (shapeOf d) (gaugeOf d) v n
 -- "each: path; [..] flakes"; "Read tests touched present flakes"
 unfoldable pub nuggetRead : Drive → List ℕ → ℕ → ℕ → Answer
 nuggetRead d v n touched =
-    pick (accepts (pathFor d v n)) (flakesOf d v n (bitAnd (recordOf (shapeOf d) v n .journal) touched)) (pathFor d v n)
+    pick (accepts (pathFor d v n)) (flakesOf d v n (bitAnd (recordOf (shapeOf d) v n .held) touched)) (pathFor d v n)

@@ -59,7 +59,7 @@ pub fn nugget_of(d: Drive, vol: &[u8], n: u32) -> Nugget
         number: n,
         key: key,
         keycount: r.keycount,
-        journal: r.journal,
+        journal: r.held,
     }
 }
 

@@ -22,7 +22,9 @@ use Rattle.layout.specs.Parts.{recordAt, tagAt, nodeAt, lengthOf}
 use Rattle.drive.proofs.OpeningLaws.{opening-by}
 use Rattle.layout.proofs.Limits.{by-numbers}
 use Rattle.layout.proofs.Places.{record-inside, records-above, parts-inside}
-use Rattle.records.specs.Record.{against, recordBytes, recordIn, wellFormed, Widths}
+use Rattle.records.specs.Record.{against, recordBytes, recordIn, Codes}
+use Rattle.records.proofs.BitLaws.{lies-self}
+use Rattle.records.proofs.RuleLaws.{formed-by}
 use Rattle.records.proofs.RecordLaws.{read-stored, record-told}
 use Rattle.nodes.specs.Nodes.{nodeIn}
 use Rattle.nodes.specs.Alike.{Alike}
@@ -51,8 +53,8 @@ fresh-before s (suc k) m n v h =
     fresh-before s k (suc m) n (sets v (recordAt s m) (recordBytes s freshRecord)) (omega arith)
     ∙ part-sets-below (recordAt s n) (widthOf s) v (recordAt s m) (recordBytes s freshRecord) (records-above s n m h)
 
-fresh-widths : Widths freshRecord
-fresh-widths = record { keycountWidth = omega arith; journalWidth = omega arith; epochWidth = omega arith }
+fresh-codes : (s : Shape) → Codes s freshRecord
+fresh-codes s = record { keycountWidth = omega arith; spentWidth = omega arith; heldWidth = omega arith; epochWidth = omega arith; oneMask = λ one. refl }
 
 -- and each of theirs is the fresh one
 fresh-at : (s : Shape) (k m n : ℕ) (v : List ℕ) → m ≤ n → n < m + k → recordAt s n + widthOf s ≤ length v → recordIn s (recordAt s n) (freshFrom s k m v) ≡ freshRecord
@@ -68,7 +70,7 @@ fresh-at s (suc k) m n v a b h = go (told (eqb n m)) (λ ne. fresh-at s k (suc m
     go (inl e) again =
         let q : n ≡ m = eqb-true n m e in
         let w = sets v (recordAt s n) (recordBytes s freshRecord) in
-        rw (← q) (record-told s (recordAt s n) (freshFrom s k (suc n) w) w (fresh-before s k (suc n) n w (omega arith)) ∙ read-stored s v (recordAt s n) freshRecord fresh-widths h)
+        rw (← q) (record-told s (recordAt s n) (freshFrom s k (suc n) w) w (fresh-before s k (suc n) n w (omega arith)) ∙ read-stored s v (recordAt s n) freshRecord (fresh-codes s) h)
     go (inr e) again = again (eqb-false n m e)
 
 module _ (s : Shape) (limited : inLimits s ≡ true) where
@@ -103,10 +105,9 @@ module _ (s : Shape) (limited : inLimits s ≡ true) where
         (λ h k. headed-alike (i - leaves (s .n)))
 
     headed-formed : (n : ℕ) → n < s .n → formed s (against 1 false) (sets (planted s) 0 head) n ≡ true
-    unfolding wellFormed
     headed-formed n h =
         let e = sym (record-told s (recordAt s n) (planted s) (sets (planted s) 0 head) (headed-alike n .records)) ∙ planted-fresh n h in
-        rw e (both-on (lt-ltb 0 (2 ^ s .p) (pow-pos (s .p))) refl)
+        rw e (formed-by (s .p) (against 1 false) freshRecord (lt-ltb 0 (2 ^ s .p) (pow-pos (s .p))) (lies-self 0) refl)
 
     headed-lent : Lent s (sets (planted s) 0 head)
     headed-lent = record { limited = limited; size = length-sets (planted s) 0 head ∙ length-planted s }

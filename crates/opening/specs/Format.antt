@@ -34,7 +34,7 @@ formatAnswer s outside v =
 
 -- "Everything is zero [..]; epochs are 1": a nugget with nothing in it
 abbrev pub freshRecord : Record
-freshRecord = record { keycount = 0; journal = 0; epoch = 1 }
+freshRecord = record { keycount = 0; spent = 0; held = 0; epoch = 1 }
 
 -- the records of k nuggets from nugget n on
 unfoldable pub freshFrom : Shape → ℕ → ℕ → List ℕ → List ℕ

@@ -43,7 +43,8 @@ fn lay_bare(vol: &mut [u8], s: Shape)
     while n < count {
         let fresh = Record {
             keycount: 0,
-            journal: 0,
+            spent: 0,
+            held: 0,
             epoch: 1,
         };
         records::store(&mut *vol, s, n, fresh);

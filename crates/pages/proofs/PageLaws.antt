@@ -138,11 +138,11 @@ eleven : (a b c d e f g h i j k : List ℕ)
 eleven a b c d e f g h i j k = simp append-assoc
 
 pub nugget-text : (d : Drive) (r : Record) (n : ℕ)
-    → ((((((t-nugget ++ decimal n) ++ (t-key ++ keyText d (r .epoch))) ++ (t-epoch ++ decimal (r .epoch))) ++ t-keycount) ++ longDecimal (r .keycount)) ++ (t-flakes ++ flakesText (presentFlakes (d .p) (r .journal)))) ++ newline
+    → ((((((t-nugget ++ decimal n) ++ (t-key ++ keyText d (r .epoch))) ++ (t-epoch ++ decimal (r .epoch))) ++ t-keycount) ++ longDecimal (r .keycount)) ++ (t-flakes ++ flakesText (presentFlakes (d .p) (r .held)))) ++ newline
     ≡ nuggetLine d r n
 unfolding nuggetText
 nugget-text d r n =
-    eleven t-nugget (decimal n) t-key (keyText d (r .epoch)) t-epoch (decimal (r .epoch)) t-keycount (longDecimal (r .keycount)) t-flakes (flakesText (presentFlakes (d .p) (r .journal))) newline
+    eleven t-nugget (decimal n) t-key (keyText d (r .epoch)) t-epoch (decimal (r .epoch)) t-keycount (longDecimal (r .keycount)) t-flakes (flakesText (presentFlakes (d .p) (r .held))) newline
 
 line-le : (d : Drive) (r : Record) (n : ℕ) → d .p ≤ 64 → length (nuggetLine d r n) ≤ 300
 line-le d r n h =
@@ -153,8 +153,8 @@ line-le d r n h =
       long-le (r .keycount),
       length-append t-key (keyText d (r .epoch)),
       key-le d (r .epoch),
-      length-append t-flakes (flakesText (presentFlakes (d .p) (r .journal))),
-      flakes-le (d .p) (r .journal) h,
+      length-append t-flakes (flakesText (presentFlakes (d .p) (r .held))),
+      flakes-le (d .p) (r .held) h,
     )))
 
 pub lines-le : (d : Drive) (v : List ℕ) (k : ℕ) → d .p ≤ 64 → length (nuggetLines d v k) ≤ 300 * k

@@ -56,7 +56,7 @@ nuggetText d r n =
     ++ (keyText d (r .epoch)
     ++ (t-epoch
     ++ (decimal (r .epoch)
-    ++ (t-keycount ++ (longDecimal (r .keycount) ++ (t-flakes ++ flakesText (presentFlakes (d .p) (r .journal))))))))))
+    ++ (t-keycount ++ (longDecimal (r .keycount) ++ (t-flakes ++ flakesText (presentFlakes (d .p) (r .held))))))))))
 
 abbrev pub nuggetLine : Drive → Record → ℕ → List ℕ
 nuggetLine d r n = nuggetText d r n ++ newline

@@ -80,7 +80,7 @@ fn put_nugget(out: &mut [u8], at: usize, d: Drive, r: Record, n: u32) -> usize
     let c = line::put_field(&mut *out, b, b" epoch=", r.epoch as u32);
     let e = line::put(&mut *out, c, b" keycount=");
     let f = line::put_long(&mut *out, e, r.keycount);
-    let g = put_flakes(&mut *out, f, r.journal, d.p);
+    let g = put_flakes(&mut *out, f, r.held, d.p);
     line::put(&mut *out, g, b"\n")
 }
 

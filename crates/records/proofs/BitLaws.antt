@@ -1,18 +1,18 @@
--- Laws of membership: of a union, of sets that share none, of a set bounded by P, and of equal sets.
-use mathlib.Core.Path.{_≡_, refl, sym, _∙_}
-use mathlib.Core.Bool.{true, false}
+-- Laws of membership: of a union, of sets that share none, of a set that lies in another, of a set bounded by P, and of equal sets.
+use mathlib.Core.Path.{_≡_, refl, sym, ap, _∙_}
+use mathlib.Core.Bool.{Bool, true, false}
 use Prim.Native.Nat.{ℕ, zero, suc, _/_, _%_, _^_, _<_, _≤_}
 use native.Mathlib.Nat.{pow-succ', div-div-eq-div-mul, div-eq-of-lt, div-one, zero-div, lt-of-lt-of-le}
 use native.Mathlib.Omega.{arith}
 use lib.Arith.{bin-ind}
 use lib.Pow.{pow-mono}
-use lib.Bits.{bitAnd, bitOr, or-shr, or-mod, and-shr, and-mod}
+use lib.Bits.{bitAnd, bitOr, or-shr, or-mod, and-shr, and-mod, and-self, and-le-r}
 use lib.Dec.{eqb, leb}
 use mathlib.Core.Logic.{_⊎_, inl, inr}
-use borrow.Author.Tests.{eqb-true, leb-true, leb-false}
+use borrow.Author.Tests.{eqb-true, eq-eqb, leb-true, leb-false}
 use Rattle.base.specs.Pick.{both, either}
-use Rattle.base.proofs.PickLaws.{told, clash}
-use Rattle.records.specs.Journal.{bit, union, shareNone}
+use Rattle.base.proofs.PickLaws.{told, clash, both-right}
+use Rattle.records.specs.Journal.{bit, union, shareNone, liesIn}
 
 or-digit : (x y : ℕ) → x < 2 → y < 2 → eqb (bitOr x y) 1 ≡ either (eqb x 1) (eqb y 1)
 or-digit zero y a b = refl
@@ -97,3 +97,31 @@ bit-below p j f h e = go (told (leb p f))
     go : (leb p f ≡ true) ⊎ (leb p f ≡ false) → f < p
     go (inl d) = absurd (clash e (none-above p j f h (leb-true p f d)))
     go (inr d) = leb-false p f d
+
+-- a set that lies in another: its flakes are the other's, and it is no greater
+pub lies-bits : (j t : ℕ) → liesIn j t ≡ true → (f : ℕ) → bit j f ≡ true → bit t f ≡ true
+unfolding liesIn
+lies-bits j t e f on = both-right (bit j f) (bit t f) (sym (bit-and j t f) ∙ ap (λ (k : ℕ). bit k f) (eqb-true (bitAnd j t) j e) ∙ on)
+
+pub lies-lt : (p j t : ℕ) → liesIn j t ≡ true → t < 2 ^ p → j < 2 ^ p
+unfolding liesIn
+lies-lt p j t e h = omega (arith, eqb-true (bitAnd j t) j e, and-le-r j t, h)
+
+pub lies-self : (j : ℕ) → liesIn j j ≡ true
+unfolding liesIn
+lies-self j = eq-eqb (bitAnd j j) j (and-self j)
+
+-- and with T in both it still does
+pub lies-union : (j k t : ℕ) → liesIn j k ≡ true → liesIn (union j t) (union k t) ≡ true
+unfolding liesIn
+lies-union j k t e = eq-eqb (bitAnd (union j t) (union k t)) (union j t) (same-bits (bitAnd (union j t) (union k t)) (union j t) same)
+  where
+    go : (a b d : Bool) → (a ≡ true → b ≡ true) → both (either a d) (either b d) ≡ either a d
+    go true true d h = refl
+    go true false d h = absurd (clash (h refl) refl)
+    go false true true h = refl
+    go false false true h = refl
+    go false b false h = refl
+
+    same : (f : ℕ) → bit (bitAnd (union j t) (union k t)) f ≡ bit (union j t) f
+    same f = bit-and (union j t) (union k t) f ∙ rw (bit-union j t f, bit-union k t f) (go (bit j f) (bit k f) (bit t f) (lies-bits j k e f))

@@ -1,64 +1,131 @@
 -- Laws of the record: its bytes, its reading, and the code's test of its journal.
 use Prim.{tt}
-use mathlib.Core.Path.{_≡_, sym, ap}
-use mathlib.Core.Bool.{true, false}
+use mathlib.Core.Path.{_≡_, refl, sym, ap, _∙_}
+use mathlib.Core.Bool.{Bool, true, false}
 use mathlib.Core.Logic.{_⊎_, inl, inr}
 use mathlib.Core.List.{List}
-use Prim.Native.Nat.{ℕ, _+_, _*_, _/_, _^_, _<_, _≤_}
+use Prim.Native.Nat.{ℕ, _+_, _-_, _*_, _/_, _^_, _<_, _≤_}
 use native.Mathlib.Nat.{div-eq-of-lt, div-lt-iff-lt-mul, lt-of-lt-of-le}
 use native.Mathlib.Omega.{arith}
 use lib.Dec.{eqb, ltb}
 use lib.ListN.{length}
-use lib.Seq.{sets}
+use lib.Seq.{sets, sets-eq, length-sets}
 use lib.Pow.{pow-pos, pow-mono}
 use borrow.Author.Tests.{eq-eqb, ne-eqb, lt-ltb, ltb-true, ltb-false}
 use Rattle.base.specs.Lists.{part}
-use Rattle.base.proofs.PickLaws.{told}
+use Rattle.base.specs.Pick.{pick}
+use Rattle.base.proofs.PickLaws.{told, clash}
+use Rattle.base.proofs.PartLaws.{take-sets, drop-sets}
 use Rattle.words.specs.Le.{num, le, Bytes}
+use Rattle.words.proofs.LeLaws.{length-le}
 use Rattle.layout.specs.declared.Shape.{Shape}
-use Rattle.layout.specs.Shape.{widthOf}
-use Rattle.codec.specs.Row.{_&_}
+use Rattle.layout.specs.Shape.{isOne, widthOf}
+use Rattle.codec.specs.Row.{Values, AllLong, AllFit, _&_, width, row, rowIn}
 use Rattle.codec.proofs.RowLaws.{length-row, row-read, row-back, row-fits, row-told, row-stored}
 use Rattle.records.specs.declared.Record.{Record}
-use Rattle.records.specs.Record.{recordRow, recordValues, recordFrom, recordBytes, recordIn, noneFrom, Widths}
+use Rattle.records.specs.Record.{recordRow, recordValues, recordFrom, recordBytes, recordIn, noneFrom, Codes}
+
+-- by the two layouts
+width-is : (one : Bool) → width (recordRow one) ≡ pick one 18 26
+width-is true = refl
+width-is false = refl
+
+all-wide : (one : Bool) (r : Record) → AllLong (recordRow one) (recordValues one r)
+all-wide true r = tt & tt & tt & tt
+all-wide false r = tt & tt & tt & tt & tt
+
+all-fit : (one : Bool) (r : Record) → r .keycount < 2 ^ 64 → r .spent < 2 ^ 64 → r .held < 2 ^ 64 → r .epoch < 2 ^ 16 → AllFit (recordRow one) (recordValues one r)
+all-fit true r k s h e = k & h & e & tt
+all-fit false r k s h e = k & s & h & e & tt
+
+from-values : (one : Bool) (r : Record) → (one ≡ true → r .spent ≡ r .held) → recordFrom one (recordValues one r) ≡ r
+from-values true r e = λ i. record { keycount = r .keycount; spent = sym (e refl) i; held = r .held; epoch = r .epoch }
+from-values false r e = refl
 
 pub length-record : (s : Shape) (r : Record) → length (recordBytes s r) ≡ widthOf s
 unfolding recordBytes widthOf
-length-record s r = length-row recordRow (recordValues r) (tt & tt & tt & tt)
+length-record s r = length-row (recordRow (isOne s)) (recordValues (isOne s) r) (all-wide (isOne s) r) ∙ width-is (isOne s)
 
--- the three stores of the code
-pub record-stores : (s : Shape) (v : List ℕ) (at : ℕ) (r : Record) {a b d : List ℕ} → a ≡ sets v at (le 8 (r .keycount)) → b ≡ sets a (at + 8) (le 8 (r .journal))
-    → d ≡ sets b (at + 16) (le 2 (r .epoch)) → d ≡ sets v at (recordBytes s r)
-unfolding recordBytes
-record-stores s v at r e f g = rw (g, f, e) (row-stored recordRow at v (recordValues r) (tt & tt & tt & tt))
+-- a list laid over one as long
+sets-over : (l : List ℕ) (at : ℕ) (a b : List ℕ) → length a ≡ length b → at + length b ≤ length l → sets (sets l at a) at b ≡ sets l at b
+sets-over l at a b same room =
+    sets-eq b (sets l at a) at (rw (length-sets l at a) room)
+    ∙ rw (take-sets at l at a (omega arith), drop-sets (at + length b) l at a (omega (arith, same))) (sym (sets-eq b l at room))
 
--- the three loads of the code
-pub record-loads : (s : Shape) (v : List ℕ) (at : ℕ) {k j e : ℕ} → k ≡ num (part at 8 v) → j ≡ num (part (at + 8) 8 v) → e ≡ num (part (at + 16) 2 v)
-    → _≡_ {A = Record} (record { keycount = k; journal = j; epoch = e }) (recordIn s at v)
-unfolding recordIn
-record-loads s v at a b d = rw (a, b, d)
+-- the stores of the code: the held mask 10 bytes before the end, which in version 1 is the other's place
+pub record-stores : (s : Shape) (v : List ℕ) (at : ℕ) (r : Record) {w : ℕ} {a b d e : List ℕ} → at + widthOf s ≤ length v → w ≡ widthOf s
+    → a ≡ sets v at (le 8 (r .keycount)) → b ≡ sets a (at + 8) (le 8 (r .spent)) → d ≡ sets b (at + w - 10) (le 8 (r .held)) → e ≡ sets d (at + w - 2) (le 2 (r .epoch))
+    → e ≡ sets v at (recordBytes s r)
+unfolding recordBytes widthOf
+record-stores s v at r room ew ea eb ed ee = rw (ee, ed, eb, ea, ew) (go (isOne s) room)
+  where
+    go : (one : Bool) → at + pick one 18 26 ≤ length v
+        → sets (sets (sets (sets v at (le 8 (r .keycount))) (at + 8) (le 8 (r .spent))) (at + pick one 18 26 - 10) (le 8 (r .held))) (at + pick one 18 26 - 2) (le 2 (r .epoch))
+        ≡ sets v at (row (recordRow one) (recordValues one r))
+    go true h =
+        let p : at + 18 - 10 ≡ at + 8 = omega arith in
+        let q : at + 18 - 2 ≡ at + 16 = omega arith in
+        let over = sets-over (sets v at (le 8 (r .keycount))) (at + 8) (le 8 (r .spent)) (le 8 (r .held)) (length-le 8 (r .spent) ∙ sym (length-le 8 (r .held)))
+        (omega (arith, h, length-le 8 (r .held), length-sets v at (le 8 (r .keycount)))) in
+        rw (p, q, over) (row-stored (recordRow true) at v (recordValues true r) (all-wide true r))
+    go false h =
+        let p : at + 26 - 10 ≡ at + 16 = omega arith in
+        let q : at + 26 - 2 ≡ at + 24 = omega arith in
+        rw (p, q) (row-stored (recordRow false) at v (recordValues false r) (all-wide false r))
+
+-- and its loads
+pub record-loads : (s : Shape) (v : List ℕ) (at : ℕ) {w k m h e : ℕ} → w ≡ widthOf s → k ≡ num (part at 8 v) → m ≡ num (part (at + 8) 8 v) → h ≡ num (part (at + w - 10) 8 v)
+    → e ≡ num (part (at + w - 2) 2 v) → _≡_ {A = Record} (record { keycount = k; spent = m; held = h; epoch = e }) (recordIn s at v)
+unfolding recordIn widthOf
+record-loads s v at ew ek em eh ee = rw (ek, em, eh, ee, ew) (go (isOne s))
+  where
+    go : (one : Bool) → _≡_ {A = Record} (record { keycount = num (part at 8 v); spent = num (part (at + 8) 8 v); held = num (part (at + pick one 18 26 - 10) 8 v); epoch = num (part (at + pick one 18 26 - 2) 2 v) }) (recordFrom one (rowIn (recordRow one) at 0 v))
+    go true = let p : at + 18 - 10 ≡ at + 8 = omega arith in let q : at + 18 - 2 ≡ at + 16 = omega arith in rw (p, q) refl
+    go false = let p : at + 26 - 10 ≡ at + 16 = omega arith in let q : at + 26 - 2 ≡ at + 24 = omega arith in rw (p, q) refl
 
 -- a record that was stored is read back
-pub read-stored : (s : Shape) (v : List ℕ) (at : ℕ) (r : Record) → Widths r → at + widthOf s ≤ length v → recordIn s at (sets v at (recordBytes s r)) ≡ r
+pub read-stored : (s : Shape) (v : List ℕ) (at : ℕ) (r : Record) → Codes s r → at + widthOf s ≤ length v → recordIn s at (sets v at (recordBytes s r)) ≡ r
 unfolding recordIn recordBytes widthOf
-read-stored s v at r w h = ap recordFrom (row-read recordRow at v (recordValues r) (w .keycountWidth & w .journalWidth & w .epochWidth & tt) h)
+read-stored s v at r w h =
+    let fit = all-fit (isOne s) r (w .keycountWidth) (w .spentWidth) (w .heldWidth) (w .epochWidth) in
+    ap (recordFrom (isOne s)) (row-read (recordRow (isOne s)) at v (recordValues (isOne s) r) fit (rw (width-is (isOne s)) h)) ∙ from-values (isOne s) r (w .oneMask)
 
 -- what was read is stored as it stood
+values-from : (one : Bool) (z : Values (recordRow one)) → recordValues one (recordFrom one z) ≡ z
+values-from true (k, (m, (e, u))) = refl
+values-from false (k, (s, (h, (e, u)))) = refl
+
 pub stored-read : (s : Shape) (v : List ℕ) (at : ℕ) → Bytes v → at + widthOf s ≤ length v → recordBytes s (recordIn s at v) ≡ part at (widthOf s) v
 unfolding recordIn recordBytes widthOf
-stored-read s v at h room = row-back recordRow at v h room
+stored-read s v at h room =
+    ap (row (recordRow (isOne s))) (values-from (isOne s) (rowIn (recordRow (isOne s)) at 0 v))
+    ∙ row-back (recordRow (isOne s)) at v h (rw (width-is (isOne s)) room) ∙ ap (λ (k : ℕ). part at k v) (width-is (isOne s))
 
 -- what is read is within its widths
-pub read-widths : (s : Shape) (v : List ℕ) (at : ℕ) → Bytes v → at + widthOf s ≤ length v → Widths (recordIn s at v)
+codes-from : (one : Bool) (s : Shape) (z : Values (recordRow one)) → isOne s ≡ one → AllFit (recordRow one) z → Codes s (recordFrom one z)
+codes-from true s (k, (m, (e, u))) q f =
+    record { keycountWidth = f .0; spentWidth = f .1 .0; heldWidth = f .1 .0; epochWidth = f .1 .1 .0; oneMask = λ x. refl }
+codes-from false s (k, (m, (h, (e, u)))) q f =
+    record { keycountWidth = f .0; spentWidth = f .1 .0; heldWidth = f .1 .1 .0; epochWidth = f .1 .1 .1 .0; oneMask = λ x. absurd (clash x q) }
+
+pub read-codes : (s : Shape) (v : List ℕ) (at : ℕ) → Bytes v → at + widthOf s ≤ length v → Codes s (recordIn s at v)
 unfolding recordIn widthOf
-read-widths s v at h room =
-    let f = row-fits recordRow at v h room in
-    record { keycountWidth = f .0; journalWidth = f .1 .0; epochWidth = f .1 .1 .0 }
+read-codes s v at h room =
+    codes-from (isOne s) s (rowIn (recordRow (isOne s)) at 0 v) refl (row-fits (recordRow (isOne s)) at v h (rw (width-is (isOne s)) room))
+
+-- in version 1 the masks are equal by reading
+pub read-one : (s : Shape) (v : List ℕ) (at : ℕ) → isOne s ≡ true → recordIn s at v .spent ≡ recordIn s at v .held
+unfolding recordIn
+read-one s v at e = go (isOne s) e
+  where
+    go : (one : Bool) → one ≡ true → recordFrom one (rowIn (recordRow one) at 0 v) .spent ≡ recordFrom one (rowIn (recordRow one) at 0 v) .held
+    go true q = refl
+    go false q = absurd (clash q refl)
 
 -- the bytes decide the record
 pub record-told : (s : Shape) (at : ℕ) (v w : List ℕ) → part at (widthOf s) v ≡ part at (widthOf s) w → recordIn s at v ≡ recordIn s at w
 unfolding recordIn widthOf
-record-told s at v w e = ap recordFrom (row-told recordRow at v w e)
+record-told s at v w e = ap (recordFrom (isOne s)) (row-told (recordRow (isOne s)) at v w (rw (width-is (isOne s)) e))
 
 -- the code's shift
 pub none-shift : (p j : ℕ) → eqb (j / 2 ^ p) 0 ≡ noneFrom p j

@@ -4,42 +4,43 @@ use mathlib.Core.Bool.{Bool, true, false}
 use Prim.Native.Nat.{ℕ, _+_, _-_, _^_, _<_, _≤_}
 use native.Mathlib.Nat.{le-refl}
 use native.Mathlib.Omega.{arith}
-use lib.Bits.{bitOr, or-zero-r, or-lt}
+use lib.Bits.{or-zero-r, or-lt}
 use lib.Dec.{eqb}
 use borrow.Author.Tests.{eq-eqb, ne-eqb, eqb-true, eqb-false, lt-ltb, ltb-true}
 use Rattle.base.specs.Pick.{pick, both}
-use Rattle.base.proofs.PickLaws.{both-left, both-right, either-right, either-told}
+use Rattle.base.proofs.PickLaws.{clash, both-left, both-right, both-on, either-right, either-told}
 use Rattle.records.specs.declared.Record.{Record}
 use Rattle.records.specs.declared.Gauge.{Gauge}
 use Rattle.records.specs.declared.Way.{Way}
 use Rattle.records.specs.declared.Way.the-variants.{Idle, Add, Rekey}
-use Rattle.records.specs.Journal.{bit, union, shareNone}
-use Rattle.records.specs.Record.{noneFrom, epochFits, wellFormed, Widths}
-use Rattle.records.specs.Rule.{wayOf, touchedBy, rekeys, enciphered, keycountAfter, journalAfter, epochAfter, turned, atTop}
-use Rattle.records.proofs.BitLaws.{bit-union, bit-empty}
+use Rattle.layout.specs.declared.Shape.{Shape}
+use Rattle.records.specs.Journal.{bit, union, shareNone, liesIn}
+use Rattle.records.specs.Record.{noneFrom, epochFits, wellFormed, Codes}
+use Rattle.records.specs.Rule.{wayOf, touchedBy, rekeys, enciphered, keycountAfter, spentAfter, heldAfter, epochAfter, turned, atTop}
+use Rattle.records.proofs.BitLaws.{bit-union, bit-empty, lies-lt, lies-self, lies-union}
 use mathlib.Core.Logic.{_⊎_, inl, inr}
 
--- the enciphered flakes lie in the journal afterwards
-pub enciphered-stays : (way : Way) (r : Record) (f : ℕ) → bit (enciphered way r) f ≡ true → bit (journalAfter way r) f ≡ true
-unfolding enciphered journalAfter
+-- the enciphered flakes are held afterwards
+pub enciphered-stays : (way : Way) (r : Record) (f : ℕ) → bit (enciphered way r) f ≡ true → bit (heldAfter way r) f ≡ true
+unfolding enciphered heldAfter
 enciphered-stays Idle r f e = let z : false ≡ true = sym (bit-empty f) ∙ e in cc
-enciphered-stays (Add t) r f e = bit-union (r .journal) t f ∙ either-right (bit (r .journal) f) e
+enciphered-stays (Add t) r f e = bit-union (r .held) t f ∙ either-right (bit (r .held) f) e
 enciphered-stays (Rekey t) r f e = e
 
--- after a rekey the enciphered flakes are exactly the journal
-pub rekeyed-all : (way : Way) (r : Record) → rekeys way ≡ true → journalAfter way r ≡ enciphered way r
-unfolding enciphered journalAfter
-rekeyed-all Idle r e = cc
-rekeyed-all (Add t) r e = cc
-rekeyed-all (Rekey t) r e = refl
+-- after a rekey the enciphered flakes are exactly those held, and those spent
+pub rekeyed-all : (way : Way) (r : Record) → rekeys way ≡ true → (heldAfter way r ≡ enciphered way r) × (spentAfter way r ≡ enciphered way r)
+unfolding enciphered heldAfter spentAfter
+rekeyed-all Idle r e = absurd (clash e refl)
+rekeyed-all (Add t) r e = absurd (clash e refl)
+rekeyed-all (Rekey t) r e = (refl, refl)
 
 -- a nugget whose way is to add had none of the touched flakes, and its epoch is the head's
-pub add-fresh : (r : Record) (t head u : ℕ) → wayOf r t head ≡ Add u → (u ≡ t) × (shareNone (r .journal) u ≡ true) × (r .epoch ≡ head)
+pub add-fresh : (r : Record) (t head u : ℕ) → wayOf r t head ≡ Add u → (u ≡ t) × (shareNone (r .spent) u ≡ true) × (r .epoch ≡ head)
 unfolding wayOf
-add-fresh r t head u = go (eqb t 0) (shareNone (r .journal) t) (eqb (r .epoch) head) refl refl
+add-fresh r t head u = go (eqb t 0) (shareNone (r .spent) t) (eqb (r .epoch) head) refl refl
   where
-    go : (a b d : Bool) → shareNone (r .journal) t ≡ b → eqb (r .epoch) head ≡ d → pick a Idle (pick (both b d) (Add t) (Rekey t)) ≡ Add u
-        → (u ≡ t) × (shareNone (r .journal) u ≡ true) × (r .epoch ≡ head)
+    go : (a b d : Bool) → shareNone (r .spent) t ≡ b → eqb (r .epoch) head ≡ d → pick a Idle (pick (both b d) (Add t) (Rekey t)) ≡ Add u
+        → (u ≡ t) × (shareNone (r .spent) u ≡ true) × (r .epoch ≡ head)
     go true b d p q e = let z : _≡_ {A = ℕ} 0 1 = cc in absurd (omega arith)
     go false true true p q e = let w : u ≡ t = cc in (w, rw w p, eqb-true (r .epoch) head q)
     go false true false p q e = let z : _≡_ {A = ℕ} 0 1 = cc in absurd (omega arith)
@@ -48,7 +49,7 @@ add-fresh r t head u = go (eqb t 0) (shareNone (r .journal) t) (eqb (r .epoch) h
 -- a write's way touches T
 pub way-touched : (r : Record) (t head : ℕ) → touchedBy (wayOf r t head) ≡ t
 unfolding wayOf
-way-touched r t head = go (eqb t 0) (both (shareNone (r .journal) t) (eqb (r .epoch) head)) refl
+way-touched r t head = go (eqb t 0) (both (shareNone (r .spent) t) (eqb (r .epoch) head)) refl
   where
     go : (a b : Bool) → eqb t 0 ≡ a → touchedBy (pick a Idle (pick b (Add t) (Rekey t))) ≡ t
     go true b e = sym (eqb-true t 0 e)
@@ -68,14 +69,21 @@ epoch-after Idle gauge r e = e
 epoch-after (Add t) gauge r e = e
 epoch-after (Rekey t) gauge r e = rw (eq-eqb (gauge .epoch) (gauge .epoch) refl)
 
--- what the two tests of a well-formed record say
-pub formed-journal : (p : ℕ) (gauge : Gauge) (r : Record) → wellFormed p gauge r ≡ true → r .journal < 2 ^ p
+-- what the three tests of a well-formed record say
+pub formed-spent : (p : ℕ) (gauge : Gauge) (r : Record) → wellFormed p gauge r ≡ true → r .spent < 2 ^ p
 unfolding wellFormed
-formed-journal p gauge r e = ltb-true (r .journal) (2 ^ p) (both-left (noneFrom p (r .journal)) (epochFits gauge (r .epoch)) e)
+formed-spent p gauge r e = ltb-true (r .spent) (2 ^ p) (both-left (noneFrom p (r .spent)) _ e)
+
+pub formed-lies : (p : ℕ) (gauge : Gauge) (r : Record) → wellFormed p gauge r ≡ true → liesIn (r .held) (r .spent) ≡ true
+unfolding wellFormed
+formed-lies p gauge r e = both-left (liesIn (r .held) (r .spent)) _ (both-right (noneFrom p (r .spent)) _ e)
+
+pub formed-held : (p : ℕ) (gauge : Gauge) (r : Record) → wellFormed p gauge r ≡ true → r .held < 2 ^ p
+formed-held p gauge r e = lies-lt p (r .held) (r .spent) (formed-lies p gauge r e) (formed-spent p gauge r e)
 
 pub formed-fits : (p : ℕ) (gauge : Gauge) (r : Record) → wellFormed p gauge r ≡ true → epochFits gauge (r .epoch) ≡ true
 unfolding wellFormed
-formed-fits p gauge r e = both-right (noneFrom p (r .journal)) (epochFits gauge (r .epoch)) e
+formed-fits p gauge r e = both-right (liesIn (r .held) (r .spent)) _ (both-right (noneFrom p (r .spent)) _ e)
 
 pub formed-epoch : (p : ℕ) (gauge : Gauge) (r : Record) → wellFormed p gauge r ≡ true
     → (r .epoch ≡ gauge .epoch) ⊎ ((gauge .changing ≡ true) × (r .epoch + 1 ≡ gauge .epoch))
@@ -89,12 +97,41 @@ formed-epoch p gauge r e =
         let less = eqb (r .epoch + 1) (gauge .epoch) in
         inr (both-left (gauge .changing) less d, eqb-true (r .epoch + 1) (gauge .epoch) (both-right (gauge .changing) less d))
 
+-- and a record that passes them is well formed
+pub formed-by : (p : ℕ) (gauge : Gauge) (r : Record) → noneFrom p (r .spent) ≡ true → liesIn (r .held) (r .spent) ≡ true
+    → epochFits gauge (r .epoch) ≡ true → wellFormed p gauge r ≡ true
+unfolding wellFormed
+formed-by p gauge r none lies fits = both-on none (both-on lies fits)
+
+-- the masks afterwards
+spent-after : (p : ℕ) (way : Way) (r : Record) → touchedBy way < 2 ^ p → r .spent < 2 ^ p → r .held < 2 ^ p → spentAfter way r < 2 ^ p
+unfolding spentAfter heldAfter
+spent-after p Idle r t s h = or-lt p (r .spent) 0 s t
+spent-after p (Add u) r t s h = or-lt p (r .spent) u s t
+spent-after p (Rekey u) r t s h = or-lt p (r .held) u h t
+
+held-after : (p : ℕ) (way : Way) (r : Record) → touchedBy way < 2 ^ p → r .held < 2 ^ p → heldAfter way r < 2 ^ p
+unfolding heldAfter
+held-after p way r t h = or-lt p (r .held) (touchedBy way) h t
+
+pub lies-after : (way : Way) (r : Record) → liesIn (r .held) (r .spent) ≡ true → liesIn (heldAfter way r) (spentAfter way r) ≡ true
+unfolding spentAfter heldAfter
+lies-after Idle r e = lies-union (r .held) (r .spent) 0 e
+lies-after (Add t) r e = lies-union (r .held) (r .spent) t e
+lies-after (Rekey t) r e = lies-self (union (r .held) t)
+
+one-after : (way : Way) (r : Record) → r .spent ≡ r .held → spentAfter way r ≡ heldAfter way r
+unfolding spentAfter heldAfter
+one-after Idle r e = rw e refl
+one-after (Add t) r e = rw e refl
+one-after (Rekey t) r e = refl
+
 -- the record afterwards is well formed where the one before was
 pub well-formed-after : (p : ℕ) (way : Way) (gauge : Gauge) (r : Record) → touchedBy way < 2 ^ p
     → wellFormed p gauge r ≡ true → wellFormed p gauge (turned way (gauge .epoch) r) ≡ true
-unfolding wellFormed journalAfter
 well-formed-after p way gauge r h e =
-    rw (lt-ltb (bitOr (r .journal) (touchedBy way)) (2 ^ p) (or-lt p (r .journal) (touchedBy way) (formed-journal p gauge r e) h))
+    let few = spent-after p way r h (formed-spent p gauge r e) (formed-held p gauge r e) in
+    formed-by p gauge (turned way (gauge .epoch) r) (lt-ltb (spentAfter way r) (2 ^ p) few) (lies-after way r (formed-lies p gauge r e))
     (epoch-after way gauge r (formed-fits p gauge r e))
 
 -- below its top the keycount has room for one more
@@ -104,15 +141,28 @@ room way r e top h =
     let d : eqb (r .keycount) (2 ^ 64 - 1) ≡ false = rw e at top in
     omega (arith, eqb-false (r .keycount) (2 ^ 64 - 1) d)
 
--- and it is within its widths, below the keycount's top
-pub widths-after : (way : Way) (head : ℕ) (r : Record) → Widths r → touchedBy way < 2 ^ 64 → head < 2 ^ 16 → atTop way r ≡ false → Widths (turned way head r)
-unfolding keycountAfter journalAfter epochAfter
-widths-after Idle head r w t h e =
-    record { keycountWidth = w .keycountWidth; journalWidth = or-lt 64 (r .journal) 0 (w .journalWidth) t; epochWidth = w .epochWidth }
-widths-after (Add u) head r w t h e =
-    record { keycountWidth = w .keycountWidth; journalWidth = or-lt 64 (r .journal) u (w .journalWidth) t; epochWidth = w .epochWidth }
-widths-after (Rekey u) head r w t h e =
-    record { keycountWidth = room (Rekey u) r refl e (w .keycountWidth); journalWidth = or-lt 64 (r .journal) u (w .journalWidth) t; epochWidth = h }
+keycount-width : (way : Way) (r : Record) → r .keycount < 2 ^ 64 → atTop way r ≡ false → keycountAfter way r < 2 ^ 64
+unfolding keycountAfter
+keycount-width Idle r w e = w
+keycount-width (Add u) r w e = w
+keycount-width (Rekey u) r w e = room (Rekey u) r refl e w
+
+epoch-width : (way : Way) (head : ℕ) (r : Record) → r .epoch < 2 ^ 16 → head < 2 ^ 16 → epochAfter way head r < 2 ^ 16
+unfolding epochAfter
+epoch-width Idle head r w h = w
+epoch-width (Add u) head r w h = w
+epoch-width (Rekey u) head r w h = h
+
+-- and its bytes tell it, below the keycount's top
+pub codes-after : (s : Shape) (way : Way) (head : ℕ) (r : Record) → Codes s r → touchedBy way < 2 ^ 64 → head < 2 ^ 16 → atTop way r ≡ false → Codes s (turned way head r)
+codes-after s way head r w t h e =
+    record {
+      keycountWidth = keycount-width way r (w .keycountWidth) e;
+      spentWidth = spent-after 64 way r t (w .spentWidth) (w .heldWidth);
+      heldWidth = held-after 64 way r t (w .heldWidth);
+      epochWidth = epoch-width way head r (w .epochWidth) h;
+      oneMask = λ one. one-after way r (w .oneMask one);
+    }
 
 -- the way, by its tests
 module _ (r : Record) (t head : ℕ) where
@@ -120,29 +170,30 @@ module _ (r : Record) (t head : ℕ) where
   unfolding wayOf
   way-idle e = rw (eq-eqb t 0 e)
 
-  pub way-add : {none : Bool} → (t ≡ 0 → ⊥) → none ≡ shareNone (r .journal) t → none ≡ true → r .epoch ≡ head → wayOf r t head ≡ Add t
+  pub way-add : {none : Bool} → (t ≡ 0 → ⊥) → none ≡ shareNone (r .spent) t → none ≡ true → r .epoch ≡ head → wayOf r t head ≡ Add t
   unfolding wayOf
   way-add z e n h = rw (ne-eqb t 0 z, ← e, n, eq-eqb (r .epoch) head h)
 
-  pub way-left : {none : Bool} → (t ≡ 0 → ⊥) → none ≡ shareNone (r .journal) t → none ≡ true → (r .epoch ≡ head → ⊥) → wayOf r t head ≡ Rekey t
+  pub way-left : {none : Bool} → (t ≡ 0 → ⊥) → none ≡ shareNone (r .spent) t → none ≡ true → (r .epoch ≡ head → ⊥) → wayOf r t head ≡ Rekey t
   unfolding wayOf
   way-left z e n h = rw (ne-eqb t 0 z, ← e, n, ne-eqb (r .epoch) head h)
 
-  pub way-shared : {none : Bool} → (t ≡ 0 → ⊥) → none ≡ shareNone (r .journal) t → none ≡ false → wayOf r t head ≡ Rekey t
+  pub way-shared : {none : Bool} → (t ≡ 0 → ⊥) → none ≡ shareNone (r .spent) t → none ≡ false → wayOf r t head ≡ Rekey t
   unfolding wayOf
   way-shared z e n = rw (ne-eqb t 0 z, ← e, n)
 
 -- the record afterwards, by the way
 pub turned-idle : (way : Way) (head : ℕ) (r : Record) → way ≡ Idle → r ≡ turned way head r
-unfolding keycountAfter journalAfter epochAfter
-turned-idle way head r e = rw e (λ i. record { keycount = r .keycount; journal = sym (or-zero-r (r .journal)) i; epoch = r .epoch })
+unfolding keycountAfter spentAfter heldAfter epochAfter
+turned-idle way head r e =
+    rw e (λ i. record { keycount = r .keycount; spent = sym (or-zero-r (r .spent)) i; held = sym (or-zero-r (r .held)) i; epoch = r .epoch })
 
-pub turned-add : (way : Way) (head : ℕ) (r : Record) (t : ℕ) {j : ℕ} → way ≡ Add t → j ≡ union (r .journal) t
-    → _≡_ {A = Record} (record { keycount = r .keycount; journal = j; epoch = r .epoch }) (turned way head r)
-unfolding keycountAfter journalAfter epochAfter
-turned-add way head r t e d = rw (e, d)
+pub turned-add : (way : Way) (head : ℕ) (r : Record) (t : ℕ) {j k : ℕ} → way ≡ Add t → j ≡ union (r .spent) t → k ≡ union (r .held) t
+    → _≡_ {A = Record} (record { keycount = r .keycount; spent = j; held = k; epoch = r .epoch }) (turned way head r)
+unfolding keycountAfter spentAfter heldAfter epochAfter
+turned-add way head r t e d q = rw (e, d, q)
 
-pub turned-rekey : (way : Way) (head : ℕ) (r : Record) (t : ℕ) {j : ℕ} → way ≡ Rekey t → j ≡ union (r .journal) t
-    → _≡_ {A = Record} (record { keycount = r .keycount + 1; journal = j; epoch = head }) (turned way head r)
-unfolding keycountAfter journalAfter epochAfter
+pub turned-rekey : (way : Way) (head : ℕ) (r : Record) (t : ℕ) {j : ℕ} → way ≡ Rekey t → j ≡ union (r .held) t
+    → _≡_ {A = Record} (record { keycount = r .keycount + 1; spent = j; held = j; epoch = head }) (turned way head r)
+unfolding keycountAfter spentAfter heldAfter epochAfter
 turned-rekey way head r t e d = rw (e, d)

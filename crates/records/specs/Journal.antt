@@ -17,6 +17,10 @@ union j t = bitOr j t
 unfoldable pub shareNone : ℕ → ℕ → Bool
 shareNone j t = eqb (bitAnd j t) 0
 
+-- each flake of the first set is in the second
+unfoldable pub liesIn : ℕ → ℕ → Bool
+liesIn j t = eqb (bitAnd j t) j
+
 -- the set of the flakes below n for which the test holds
 unfoldable pub flakesWith : ℕ → (ℕ → Bool) → ℕ
 flakesWith zero g = 0

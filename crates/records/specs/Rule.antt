@@ -10,11 +10,12 @@ use Rattle.records.specs.Journal.{union, shareNone}
 
 -- Write: "For each nugget let T be the flakes touched and J its journal. If J and T share none and its epoch is the
 -- head's, the flakes of T are enciphered under the present keycount. Otherwise the nugget is rekeyed".
--- A nugget with no flake touched stays as it is.
+-- A nugget with no flake touched stays as it is. Document 02, Item 4: what is present "reads as spent [..] in the test of T
+-- against J, as held elsewhere".
 unfoldable pub wayOf : Record → ℕ → ℕ → Way
 wayOf r t head =
     pick (eqb t 0) Idle
-    (pick (both (shareNone (r .journal) t) (eqb (r .epoch) head)) (Add t) (Rekey t))
+    (pick (both (shareNone (r .spent) t) (eqb (r .epoch) head)) (Add t) (Rekey t))
 
 -- Sweep "takes a nugget and rekeys it with T empty."
 abbrev pub sweepWay : Way
@@ -36,15 +37,19 @@ rekeys (Rekey t) = true
 unfoldable pub enciphered : Way → Record → ℕ
 enciphered Idle r = 0
 enciphered (Add t) r = t
-enciphered (Rekey t) r = union (r .journal) t
+enciphered (Rekey t) r = union (r .held) t
 
 -- "under the present keycount"; rekeyed: "keycount plus 1"
 unfoldable pub keycountAfter : Way → Record → ℕ
 keycountAfter way r = pick (rekeys way) (r .keycount + 1) (r .keycount)
 
 -- "The journal becomes J with T."
-unfoldable pub journalAfter : Way → Record → ℕ
-journalAfter way r = union (r .journal) (touchedBy way)
+unfoldable pub heldAfter : Way → Record → ℕ
+heldAfter way r = union (r .held) (touchedBy way)
+
+-- Document 02, Item 4: "A rekey [..] sets both masks to those; a write without one adds T to both."
+unfoldable pub spentAfter : Way → Record → ℕ
+spentAfter way r = pick (rekeys way) (heldAfter way r) (union (r .spent) (touchedBy way))
 
 -- rekeyed: "epoch set to the head's"
 unfoldable pub epochAfter : Way → ℕ → Record → ℕ
@@ -52,7 +57,7 @@ epochAfter way head r = pick (rekeys way) head (r .epoch)
 
 -- the record afterwards
 abbrev pub turned : Way → ℕ → Record → Record
-turned way head r = record { keycount = keycountAfter way r; journal = journalAfter way r; epoch = epochAfter way head r }
+turned way head r = record { keycount = keycountAfter way r; spent = spentAfter way r; held = heldAfter way r; epoch = epochAfter way head r }
 
 -- "14: a rekey needed and the keycount at its top"
 unfoldable pub atTop : Way → Record → Bool

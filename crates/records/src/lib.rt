@@ -1,4 +1,4 @@
-// A nugget's record, its journal as a set of flakes, and the rule of a write on one nugget.
+// A nugget's record, its masks as sets of flakes, and the rule of a write on one nugget.
 // It touches `base`, `words`, `codec` and `layout`.
 use layout::Shape;
 ghost use mathlib.Core.Path.{_≡_};
@@ -9,13 +9,14 @@ ghost use lib.Seq.{sets};
 ghost use Rattle.layout.specs.Shape.{widthOf};
 ghost use Rattle.layout.specs.Parts.{recordAt};
 ghost use Rattle.layout.specs.Lent.{Lent};
-ghost use Rattle.records.specs.Journal.{bit, union, shareNone, flakesFrom, allFlakes, present};
+ghost use Rattle.records.specs.Journal.{bit, union, shareNone, liesIn, flakesFrom, allFlakes, present};
 ghost use Rattle.records.specs.Record.{recordBytes, recordIn, recordOf, noneFrom, epochFits, wellFormed};
 ghost use Rattle.records.specs.Rule.{wayOf, rekeys, enciphered, turned, atTop};
 
 pub struct Record {
     pub keycount: u64,
-    pub journal: u64,
+    pub spent: u64,
+    pub held: u64,
     pub epoch: u16,
 }
 
@@ -48,15 +49,17 @@ pub fn store(vol: &mut [u8], s: Shape, n: u32, r: Record)
     store_at(&mut *vol, s, layout::record_at(s, n), r)
 }
 
-// The record at `at`.
+// The record at `at`. The held mask is counted from the end: in version 1 its place is the spent one's.
 fn read_at(vol: &[u8], s: Shape, at: usize) -> Record
     requires { ⌜ at + widthOf s ≤ length (now vol) ⌝ }
     ensures { λ r. ⌜ r ≡ recordIn s at (now (vol .entry)) ⌝ }
 {
+    let end = at + layout::width_of(s);
     Record {
         keycount: words::load(vol, at, 8),
-        journal: words::load(vol, at + 8, 8),
-        epoch: words::load(vol, at + 16, 2) as u16,
+        spent: words::load(vol, at + 8, 8),
+        held: words::load(vol, end - 10, 8),
+        epoch: words::load(vol, end - 2, 2) as u16,
     }
 }
 
@@ -66,11 +69,14 @@ fn store_at(vol: &mut [u8], s: Shape, at: usize, r: Record)
     ensures { λ _. ⌜ now (vol .exit) ≡ sets (now (vol .entry)) at (recordBytes s r) ⌝ }
 {
     let keycount = r.keycount;
-    let journal = r.journal;
+    let spent = r.spent;
+    let held = r.held;
     let epoch = r.epoch;
+    let end = at + layout::width_of(s);
     words::store(&mut *vol, at, 8, keycount);
-    words::store(&mut *vol, at + 8, 8, journal);
-    words::store(&mut *vol, at + 16, 2, epoch as u64);
+    words::store(&mut *vol, at + 8, 8, spent);
+    words::store(&mut *vol, end - 10, 8, held);
+    words::store(&mut *vol, end - 2, 2, epoch as u64);
 }
 
 // Whether flake f is in the journal. No shift reaches 64, so a flake past 63 has its own answer.
@@ -150,15 +156,23 @@ fn epoch_fits(gauge: Gauge, own: u16) -> bool
     }
 }
 
+// "a held bit that isn't spent": there is none
+fn lies_in(held: u64, spent: u64) -> bool
+    ensures { λ r. ⌜ r ≡ liesIn held spent ⌝ }
+{
+    held & spent == held
+}
+
 // "A record is well formed if no bit at or above P is set and its epoch is .."
 pub fn well_formed(r: Record, p: u32, gauge: Gauge) -> bool
     ensures { λ ok. ⌜ ok ≡ wellFormed p gauge r ⌝ }
 {
-    if none_from(r.journal, p) {
-        epoch_fits(gauge, r.epoch)
-    } else {
-        false
+    if none_from(r.spent, p) {
+        if lies_in(r.held, r.spent) {
+            return epoch_fits(gauge, r.epoch);
+        }
     }
+    false
 }
 
 // The way of a write that touches these flakes.
@@ -168,7 +182,7 @@ pub fn way_of(r: Record, touched: u64, epoch: u16) -> Way
     if touched == 0 {
         return Way::Idle;
     }
-    if share_none(r.journal, touched) {
+    if share_none(r.spent, touched) {
         if r.epoch == epoch {
             return Way::Add(touched);
         }
@@ -194,7 +208,7 @@ pub fn enciphers(way: Way, r: Record) -> u64
     match way {
         Way::Idle => 0,
         Way::Add(touched) => touched,
-        Way::Rekey(touched) => join(r.journal, touched),
+        Way::Rekey(touched) => join(r.held, touched),
     }
 }
 
@@ -218,13 +232,18 @@ pub fn turn(way: Way, epoch: u16, r: Record) -> Record
         Way::Idle => r,
         Way::Add(touched) => Record {
             keycount: r.keycount,
-            journal: join(r.journal, touched),
+            spent: join(r.spent, touched),
+            held: join(r.held, touched),
             epoch: r.epoch,
         },
-        Way::Rekey(touched) => Record {
-            keycount: r.keycount + 1,
-            journal: join(r.journal, touched),
-            epoch: epoch,
-        },
+        Way::Rekey(touched) => {
+            let flakes = join(r.held, touched);
+            Record {
+                keycount: r.keycount + 1,
+                spent: flakes,
+                held: flakes,
+                epoch: epoch,
+            }
+        }
     }
 }

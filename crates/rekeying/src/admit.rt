@@ -56,7 +56,7 @@ fn move_tests(d: Drive, vol: &[u8], n: u32) -> Answer
         return Answer::KeycountTop;
     }
     let g = nuggets::nugget_of(d, vol, n);
-    nuggets::flakes(vol, drive::shape_of(d), g, r.journal)
+    nuggets::flakes(vol, drive::shape_of(d), g, r.held)
 }
 
 // "7 path, 12, 13, 14, 7 flakes"

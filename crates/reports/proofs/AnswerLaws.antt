@@ -13,7 +13,7 @@ use Rattle.base.proofs.PickLaws.{both-left, both-right}
 use Rattle.answers.specs.declared.Answer.the-variants as A
 use Rattle.answers.specs.Numbers.{accepts}
 use Rattle.answers.specs.Stages.{andThen}
-use Rattle.records.proofs.RuleLaws.{formed-journal}
+use Rattle.records.proofs.RuleLaws.{formed-held}
 use Rattle.tree.specs.Whole.{wholeOf}
 use Rattle.tree.proofs.WholeLaws.{whole-formed}
 use Rattle.drive.specs.declared.Drive.{Drive}
@@ -29,7 +29,7 @@ use Rattle.layout.specs.Lent.{Lent}
 -- an accepted report
 pub record Told (d : Drive) (v : List ℕ) : Type 0 where
   pub lent : Lent (shapeOf d) v
-  pub journals : (m : ℕ) → m < d .n → recordOf (shapeOf d) v m .journal < 2 ^ d .p
+  pub masks : (m : ℕ) → m < d .n → recordOf (shapeOf d) v m .held < 2 ^ d .p
 
 pub report-is : (d : Drive) (v : List ℕ) → accepts (reportAnswer d v) ≡ true → Told d v
 unfolding reportAnswer andThen
@@ -39,7 +39,7 @@ report-is d v h =
     let whole : w ≡ A.Accepted = accepted-is w (q .1) in
     record {
       lent = opening-lent d v (q .0);
-      journals = λ m l. formed-journal (d .p) (gaugeOf d) (recordOf (shapeOf d) v m) (whole-formed (shapeOf d) (gaugeOf d) v whole m l);
+      masks = λ m l. formed-held (d .p) (gaugeOf d) (recordOf (shapeOf d) v m) (whole-formed (shapeOf d) (gaugeOf d) v whole m l);
     }
 
 -- a stored flake that is shown

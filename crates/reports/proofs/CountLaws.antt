@@ -48,12 +48,12 @@ unfolding countsIn
 counts-more s p e v i ec er ek em = rw (em, ec, ek, er, add-one i)
 
 -- of a record that has moved, and of one that has not
-pub count-one : (p e : ℕ) (r : Record) {k : ℕ} → k ≡ present p (r .journal) → r .epoch ≡ e
+pub count-one : (p e : ℕ) (r : Record) {k : ℕ} → k ≡ present p (r .held) → r .epoch ≡ e
     → _≡_ {A = Counts} (record { moved = 1; flakes = k; done = k }) (countOf p e r)
 unfolding countOf
 count-one p e r ek ee = rw (eq-eqb (r .epoch) e ee, ek)
 
-pub count-none : (p e : ℕ) (r : Record) {k : ℕ} → k ≡ present p (r .journal) → (r .epoch ≡ e → ⊥)
+pub count-none : (p e : ℕ) (r : Record) {k : ℕ} → k ≡ present p (r .held) → (r .epoch ≡ e → ⊥)
     → _≡_ {A = Counts} (record { moved = 0; flakes = k; done = 0 }) (countOf p e r)
 unfolding countOf
 count-none p e r ek ne = rw (ne-eqb (r .epoch) e ne, ek)
@@ -101,20 +101,20 @@ pub counts-stand : (s : Shape) (p e : ℕ) (v : List ℕ) (n : ℕ) → Counted 
 unfolding countsIn countOf
 counts-stand s p e v zero = record { moved-few = omega arith; flakes-few = omega arith; done-le = omega arith; done-all = λ e. refl }
 counts-stand s p e v (suc n) =
-    one-more p n (countsIn s p e v n) (isMoved s e v n) (present p (recordOf s v n .journal)) (present-le p (recordOf s v n .journal)) (counts-stand s p e v n)
+    one-more p n (countsIn s p e v n) (isMoved s e v n) (present p (recordOf s v n .held)) (present-le p (recordOf s v n .held)) (counts-stand s p e v n)
 
 -- no sum of a turn rolls over
 pub counts-fit : (s : Shape) (e : ℕ) (v : List ℕ) (i : ℕ) (r : Record) {c k : Counts} → i < 16384 → c ≡ countsIn s 64 e v i → k ≡ countOf 64 e r
     → (c .moved + k .moved < 2 ^ 32) × (c .flakes + k .flakes < 2 ^ 32) × (c .done + k .done < 2 ^ 32)
 unfolding countOf
 counts-fit s e v i r l ec ek =
-    let h = one-more 64 i (countsIn s 64 e v i) (eqb (r .epoch) e) (present 64 (r .journal)) (present-le 64 (r .journal)) (counts-stand s 64 e v i) in
+    let h = one-more 64 i (countsIn s 64 e v i) (eqb (r .epoch) e) (present 64 (r .held)) (present-le 64 (r .held)) (counts-stand s 64 e v i) in
     rw (ec, ek) (omega (arith, h .moved-few), omega (arith, h .flakes-few), omega (arith, h .flakes-few, h .done-le))
 
--- where no journal has a bit at or above P, the ones of its word are its flakes below P
-pub counts-below : (s : Shape) (p e : ℕ) (v : List ℕ) (n : ℕ) → p ≤ 64 → ((m : ℕ) → m < n → recordOf s v m .journal < 2 ^ p) → countsIn s 64 e v n ≡ countsIn s p e v n
+-- where no record holds a flake at or above P, the ones of its word are its flakes below P
+pub counts-below : (s : Shape) (p e : ℕ) (v : List ℕ) (n : ℕ) → p ≤ 64 → ((m : ℕ) → m < n → recordOf s v m .held < 2 ^ p) → countsIn s 64 e v n ≡ countsIn s p e v n
 unfolding countsIn countOf
 counts-below s p e v zero h f = refl
 counts-below s p e v (suc n) h f =
-    let low : recordOf s v n .journal < 2 ^ p = f n (omega arith) in
-    rw (counts-below s p e v n h (λ m l. f m (omega arith)), present-more p 64 (recordOf s v n .journal) low (lt-of-lt-of-le low (pow-mono h)))
+    let low : recordOf s v n .held < 2 ^ p = f n (omega arith) in
+    rw (counts-below s p e v n h (λ m l. f m (omega arith)), present-more p 64 (recordOf s v n .held) low (lt-of-lt-of-le low (pow-mono h)))

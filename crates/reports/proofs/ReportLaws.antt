@@ -45,7 +45,7 @@ module _ (d : Drive) (v : List ℕ) where
   told-is q ea ec eh =
       let is = report-is d v q in
       let l : Limits (shapeOf d) = limits (shapeOf d) (is .lent .limited) in
-      rw (eh, ec, ea, counts-below (shapeOf d) (d .p) (d .epoch) v (d .n) (l .narrow) (is .journals)) (sym (report-accepted q))
+      rw (eh, ec, ea, counts-below (shapeOf d) (d .p) (d .epoch) v (d .n) (l .narrow) (is .masks)) (sym (report-accepted q))
 
   pub refused-is : {a : Answer} → accepts (reportAnswer d v) ≡ false → a ≡ reportAnswer d v → refused a ≡ reportOf d v
   refused-is q e = rw e (sym (report-refused q))

@@ -18,15 +18,15 @@ isMoved s epoch v n = eqb (recordOf s v n .epoch) epoch
 abbrev pub movedIn : Shape → ℕ → List ℕ → ℕ → ℕ
 movedIn s epoch v k = many k (isMoved s epoch v)
 
--- "flakes present": of each of the first k nuggets, how many flakes below p are in its journal
+-- "flakes present": of each of the first k nuggets, how many flakes below p it holds
 unfoldable pub flakesIn : Shape → ℕ → List ℕ → ℕ → ℕ
 flakesIn s p v zero = 0
-flakesIn s p v (suc k) = flakesIn s p v k + present p (recordOf s v k .journal)
+flakesIn s p v (suc k) = flakesIn s p v k + present p (recordOf s v k .held)
 
 -- what one record counts for: its nugget if that has moved, its present flakes, and these once more if the nugget has moved
 unfoldable pub countOf : ℕ → ℕ → Record → Counts
 countOf p epoch r =
-    let flakes = present p (r .journal) in
+    let flakes = present p (r .held) in
     record { moved = pick (eqb (r .epoch) epoch) 1 0; flakes = flakes; done = pick (eqb (r .epoch) epoch) flakes 0 }
 
 abbrev pub none : Counts

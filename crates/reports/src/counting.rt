@@ -10,7 +10,7 @@ ghost use Rattle.reports.specs.Counts.{countOf, plus, countsIn, capOf, e
 pub fn count_of(r: Record, epoch: u16) -> Counts
     ensures { λ c. ⌜ c ≡ countOf 64 epoch r ⌝ }
 {
-    let flakes = records::count(r.journal);
+    let flakes = records::count(r.held);
     if r.epoch == epoch {
         return Counts {
             moved: 1,

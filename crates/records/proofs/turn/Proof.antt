@@ -15,29 +15,32 @@ enum-known-way c = search needs
 join-requires : tie.Need-join-requires
 join-requires c κs = search needs
 
+join-requires-2 : tie.Need-join-requires-2
+join-requires-2 c κs = search needs
+
 enum-known-way-2 : tie.Need-enum-known-way-2
 enum-known-way-2 c = search needs
 
-add-t8 : tie.Need-add-t8
-add-t8 c =
-    let s = c .before .before .before .before in
-    record { fits = room (s .args .way) (s .args .r) (ap rekeys (c .before .before .way2 .given .1)) (s .pre) (omega arith) }
+join-requires-3 : tie.Need-join-requires-3
+join-requires-3 c κs = search needs
 
-join-requires-2 : tie.Need-join-requires-2
-join-requires-2 c κs = search needs
+add-t10 : tie.Need-add-t10
+add-t10 c =
+    let s = c .before .before .before .before .before in
+    record { fits = room (s .args .way) (s .args .r) (ap rekeys (c .before .before .before .way2 .given .1)) (s .pre) (omega arith) }
 
 returns : tie.Need-returns
 returns c = let a = c .before .before .args in turned-idle (a .way) (a .epoch) (a .r) (c .enum-told .given .1)
 
 returns-2 : tie.Need-returns-2
 returns-2 c =
-    let a = c .before .before .before .before .args in
-    turned-add (a .way) (a .epoch) (a .r) _ (c .before .before .way .given .1) (c .join .ensures)
+    let a = c .before .before .before .before .before .args in
+    turned-add (a .way) (a .epoch) (a .r) _ (c .before .before .before .way .given .1) (c .before .join .ensures) (c .join2 .ensures)
 
 returns-3 : tie.Need-returns-3
 returns-3 c =
     let a = c .before .before .before .before .before .args in
-    turned-rekey (a .way) (a .epoch) (a .r) _ (c .before .before .before .way2 .given .1) (c .join2 .ensures)
+    turned-rekey (a .way) (a .epoch) (a .r) _ (c .before .before .before .way2 .given .1) (c .before .join3 .ensures)
 
 pub turn-spec : {M : Type 1} → statement M
 turn-spec =
@@ -46,9 +49,10 @@ turn-spec =
     enum-told
     enum-known-way
     join-requires
-    enum-known-way-2
-    add-t8
     join-requires-2
+    enum-known-way-2
+    join-requires-3
+    add-t10
     returns
     returns-2
     returns-3)
