@@ -36,7 +36,7 @@ use Rattle.drive.specs.declared.Drive.{Drive}
 use Rattle.drive.specs.Drive.{shapeOf, zeros}
 use Rattle.drive.specs.Opening.{measureOf, headStands, openingOf}
 use Rattle.nuggets.specs.declared.Nugget.{Nugget}
-use Rattle.nuggets.specs.Nugget.{keyFor, nuggetOf, contentsIn, contentsOf}
+use Rattle.nuggets.specs.Nugget.{nuggetOf, contentsIn, contentsOf}
 use Rattle.nuggets.specs.Tests.{goodFlake, passes, flakesUp, flakesIn, pathFor, nuggetRead}
 use Rattle.changes.proofs.CellLaws.{part-apart, Other, flakes-apart}
 use Rattle.changes.proofs.Exact.{yes-same}
@@ -50,7 +50,7 @@ unfolding flakesUp passes
 up-same s v w g mask zero f h = refl
 up-same s v w g mask (suc k) f h =
     rw (up-same s v w g mask k (suc f) (λ i a b. h i (omega arith) b))
-    (ap (λ (t : Bool). pick t (flakesUp s v g mask k (suc f)) (A.Altered (P.Flake (g .number) f))) (yes-same (bit mask f) true (λ on. h f (omega arith) on)))
+    (ap (λ (t : Bool). pick t (flakesUp s v g mask k (suc f)) (A.Altered (P.Flake (g .lock .number) f))) (yes-same (bit mask f) true (λ on. h f (omega arith) on)))
 
 module _ (d : Drive) (v w : List ℕ) (x : ButAbsent d v w) where
   abbrev s : Shape
@@ -88,7 +88,6 @@ module _ (d : Drive) (v w : List ℕ) (x : ButAbsent d v w) where
       ) refl
 
   nugget-same : (n : ℕ) → n < d .n → nuggetOf d w n ≡ nuggetOf d v n
-  unfolding keyFor
   nugget-same n h = rw (x .records n h) refl
 
   flake-same : (n f : ℕ) → n < d .n → f < d .p → bit (recordOf (shapeOf d) v n .held) f ≡ true → goodFlake s w (nuggetOf d v n) f ≡ goodFlake s v (nuggetOf d v n) f
@@ -108,7 +107,7 @@ module _ (d : Drive) (v w : List ℕ) (x : ButAbsent d v w) where
   unfolding contentsIn
   bytes n f h l =
       ap (λ (g : Nugget). contentsIn s w g f) (nugget-same n h)
-      ∙ yes-same (bit (recordOf (shapeOf d) v n .held) f) (zeros (d .f)) (λ on. ap (under (nuggetOf d v n .key) (recordOf (shapeOf d) v n .keycount) f (d .f)) (x .flakes n f h l on))
+      ∙ yes-same (bit (recordOf (shapeOf d) v n .held) f) (zeros (d .f)) (λ on. ap (under (nuggetOf d v n .lock) f (d .f)) (x .flakes n f h l on))
 
 pub absent-unseen : AbsentUnseen
 absent-unseen d v w o buffer x = (

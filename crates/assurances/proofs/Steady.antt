@@ -34,7 +34,7 @@ use Rattle.drive.specs.Head.{checkFor, frontIn, headOf}
 use Rattle.drive.specs.Opening.{inForm, measureOf, headStands, openingOf}
 use Rattle.drive.proofs.OpeningLaws.{opening-lent}
 use Rattle.nuggets.specs.declared.Nugget.{Nugget}
-use Rattle.nuggets.specs.Nugget.{secretFor, keyFor, nuggetOf, contentsIn, contentsOf}
+use Rattle.nuggets.specs.Nugget.{secretFor, nuggetOf, contentsIn, contentsOf}
 use Rattle.nuggets.specs.Tests.{flakesIn, pathFor, nuggetRead}
 use Rattle.nuggets.specs.Touched.{fitsIn}
 use Rattle.changes.specs.Laid.{written}
@@ -72,7 +72,7 @@ module _ (d : Drive) (any v : List ℕ) (steady : isChanging (d .state) ≡ fals
 
   -- a nugget whose path passes is under the present secret
   nugget-same : Lent (shapeOf d) v → (n : ℕ) → n < d .n → accepts (pathFor d v n) ≡ true → nuggetOf e v n ≡ nuggetOf d v n
-  unfolding keyFor secretFor
+  unfolding secretFor
   nugget-same l n h p =
       let b = path-belongs (shapeOf d) (gaugeOf d) v n l h (accepted-is (pathFor d v n) p) in
       let q = eq-eqb (recordOf (shapeOf d) v n .epoch) (d .epoch) (go (formed-epoch (d .p) (gaugeOf d) (recordOf (shapeOf d) v n) (b .well-formed))) in

@@ -26,7 +26,6 @@ use Rattle.tree.proofs.WholeLaws.{whole-formed}
 use Rattle.keys.specs.Keys.{nuggetKey}
 use Rattle.drive.specs.declared.Drive.{Drive}
 use Rattle.drive.specs.Drive.{shapeOf, gaugeOf}
-use Rattle.nuggets.specs.Nugget.{keyFor}
 use Rattle.opening.specs.Mount.{wholeIn, openedDrive}
 use Rattle.opening.proofs.HeadBack.{Opened, opened}
 use Rattle.reports.specs.Report.{reportAnswer, reportOf}
@@ -106,7 +105,6 @@ module _ (d : Drive) (v : List ℕ) (lent : Lent (shapeOf d) v) (narrow : Narrow
     answered : outside < 10 ^ 20 → d .counter ≡ outside
         → (let r = reportOf d v in first ≡ reportLine (r .n) (r .moved) (r .left) (r .flakes) (r .share))
         → Answers page d v outside
-    unfolding keyFor
     answered small counter is =
         let named : (n : ℕ) → n < d .n → toldOf page n .key ≡ keyWord d (recordOf (shapeOf d) v n .epoch) = λ n h. ap (λ (l : List ℕ). lineRead l .key) (nugget-text n h) ∙ line n h .key ∙ key-word d (recordOf (shapeOf d) v n .epoch) (fits n h) in
         let flakes : (n : ℕ) → n < d .n → toldOf page n .flakes ≡ presentFlakes (d .p) (recordOf (shapeOf d) v n .held) = λ n h. ap (λ (l : List ℕ). lineRead l .flakes) (nugget-text n h) ∙ line n h .flakes in

@@ -9,7 +9,7 @@ use Rattle.records.specs.Journal.{bit}
 use Rattle.keys.specs.Keys.{nuggetKey}
 use Rattle.drive.specs.declared.Drive.{Drive}
 use Rattle.drive.specs.Drive.{shapeOf, isChanging}
-use Rattle.nuggets.specs.Nugget.{keyFor}
+use Rattle.nuggets.specs.Nugget.{lockFor}
 use Rattle.reports.specs.Report.{reportOf}
 use Rattle.line.specs.Lines.{newline, reportLine}
 use Rattle.pages.specs.Words.{t-new, t-old, t-present, t-needed, t-free}
@@ -37,7 +37,7 @@ pub record Answers (page : List ℕ) (d : Drive) (v : List ℕ) (outside : ℕ) 
   pub noOthers : (n f : ℕ) → n < d .n → d .p ≤ f → times f (toldOf page n .flakes) ≡ 0
   -- "under which key": the word is that of the record's epoch, and the nugget's key is made from the secret that the word names
   pub word : (n : ℕ) → n < d .n → toldOf page n .key ≡ keyWord d (recordOf (shapeOf d) v n .epoch)
-  pub key : (n : ℕ) → n < d .n → keyFor d v n ≡ nuggetKey (secretNamed d (toldOf page n .key)) (d .salt) n
+  pub key : (n : ℕ) → n < d .n → lockFor d v n .key ≡ nuggetKey (secretNamed d (toldOf page n .key)) (d .salt) n
   -- then the outside counter, which is the head's
   pub counter : counterTold page (d .n) ≡ outside
   pub held : d .counter ≡ outside

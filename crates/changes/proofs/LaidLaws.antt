@@ -15,11 +15,11 @@ use Rattle.layout.specs.Lent.{Lent}
 use Rattle.layout.specs.Parts.{tagsAt, tagAt, flakeAt, nodeAt}
 use Rattle.layout.proofs.Places.{tag-inside, node-inside, flake-inside, parts-inside}
 use Rattle.records.specs.Listing.{Entry}
-use Rattle.keys.specs.Keys.{nuggetKey}
+use Rattle.keys.specs.declared.Lock.{Lock}
 use Rattle.keys.specs.Pads.{padOf, under}
 use Rattle.keys.specs.Tags.{tagOf}
 use Rattle.keys.proofs.TagLaws.{length-tag}
-use Rattle.nuggets.specs.Nugget.{storedIn}
+use Rattle.nuggets.specs.Nugget.{lockOf, storedIn}
 use Rattle.changes.specs.Laid.{laidFlake, laidEntry, laid}
 use Rattle.changes.proofs.Each.{Each}
 use Rattle.changes.proofs.CellLaws.{Apart, part-apart, Other, flakes-apart, tags-apart}
@@ -31,38 +31,41 @@ laid-append s salt new [] b v = refl
 laid-append s salt new (e ∷ a) b v = laid-append s salt new a b (laidEntry s salt new e v)
 
 -- what is laid over F bytes of contents is F bytes
-pub length-under : (key : List ℕ) (k f size : ℕ) (c : List ℕ) → length c ≡ size → length (under key k f size c) ≡ size
-length-under key k f size c e = length-xorl c (padOf key k f size) ∙ e
+pub length-under : (lock : Lock) (f size : ℕ) (c : List ℕ) → length c ≡ size → length (under lock f size c) ≡ size
+length-under lock f size c e = length-xorl c (padOf lock f size) ∙ e
 
 -- one flake laid
-module _ (s : Shape) (n f : ℕ) (key : List ℕ) (k : ℕ) (c v : List ℕ) where
-  pub length-flake : length (laidFlake s n f key k c v) ≡ length v
+module _ (s : Shape) (lock : Lock) (f : ℕ) (c v : List ℕ) where
+  abbrev n : ℕ
+  n = lock .number
+
+  pub length-flake : length (laidFlake s lock f c v) ≡ length v
   unfolding laidFlake
   length-flake =
-      let x = under key k f (s .f) c in
-      length-sets (sets v (flakeAt s n f) x) (tagAt s n f) (tagOf key k f x) ∙ length-sets v (flakeAt s n f) x
+      let x = under lock f (s .f) c in
+      length-sets (sets v (flakeAt s n f) x) (tagAt s n f) (tagOf lock f x) ∙ length-sets v (flakeAt s n f) x
 
   pub flake-leaves : length c ≡ s .f → (at m : ℕ) → Apart at m (tagAt s n f) 16 → Apart at m (flakeAt s n f) (s .f)
-      → part at m (laidFlake s n f key k c v) ≡ part at m v
+      → part at m (laidFlake s lock f c v) ≡ part at m v
   unfolding laidFlake
   flake-leaves e at m a b =
-      let x = under key k f (s .f) c in
-      part-apart at m (sets v (flakeAt s n f) x) (tagAt s n f) 16 (tagOf key k f x) (length-tag key k f x) a
-      ∙ part-apart at m v (flakeAt s n f) (s .f) x (length-under key k f (s .f) c e) b
+      let x = under lock f (s .f) c in
+      part-apart at m (sets v (flakeAt s n f) x) (tagAt s n f) 16 (tagOf lock f x) (length-tag lock f x) a
+      ∙ part-apart at m v (flakeAt s n f) (s .f) x (length-under lock f (s .f) c e) b
 
-  pub flake-put : Lent s v → n < s .n → f < s .p → length c ≡ s .f → storedIn s (laidFlake s n f key k c v) n f ≡ under key k f (s .f) c
+  pub flake-put : Lent s v → n < s .n → f < s .p → length c ≡ s .f → storedIn s (laidFlake s lock f c v) n f ≡ under lock f (s .f) c
   unfolding laidFlake
   flake-put l a b e =
-      let x = under key k f (s .f) c in
+      let x = under lock f (s .f) c in
       let far : Apart (flakeAt s n f) (s .f) (tagAt s n f) 16 = inr (omega (arith, tag-inside s n f a b, parts-inside s)) in
-      part-apart (flakeAt s n f) (s .f) (sets v (flakeAt s n f) x) (tagAt s n f) 16 (tagOf key k f x) (length-tag key k f x) far
-      ∙ part-sets v (flakeAt s n f) (s .f) x (length-under key k f (s .f) c e) (rw (l .size) (flake-inside s n f a b))
+      part-apart (flakeAt s n f) (s .f) (sets v (flakeAt s n f) x) (tagAt s n f) 16 (tagOf lock f x) (length-tag lock f x) far
+      ∙ part-sets v (flakeAt s n f) (s .f) x (length-under lock f (s .f) c e) (rw (l .size) (flake-inside s n f a b))
 
-  pub tag-put : Lent s v → n < s .n → f < s .p → part (tagAt s n f) 16 (laidFlake s n f key k c v) ≡ tagOf key k f (under key k f (s .f) c)
+  pub tag-put : Lent s v → n < s .n → f < s .p → part (tagAt s n f) 16 (laidFlake s lock f c v) ≡ tagOf lock f (under lock f (s .f) c)
   unfolding laidFlake
   tag-put l a b =
-      let x = under key k f (s .f) c in
-      part-sets (sets v (flakeAt s n f) x) (tagAt s n f) 16 (tagOf key k f x) (length-tag key k f x)
+      let x = under lock f (s .f) c in
+      part-sets (sets v (flakeAt s n f) x) (tagAt s n f) 16 (tagOf lock f x) (length-tag lock f x)
       (rw (length-sets v (flakeAt s n f) x, l .size) (omega (arith, tag-inside s n f a b, parts-inside s)))
 
 -- new contents are F bytes each
@@ -81,9 +84,9 @@ module _ (s : Shape) (salt : List ℕ) (new : ℕ → ℕ → List ℕ) where
   unfolding laid laidEntry
   length-laid [] v = refl
   length-laid (e ∷ es) v =
-      let key = nuggetKey (e .secret) salt (e .nugget) in
+      let lock = lockOf s salt e in
       let c = new (e .nugget) (e .flake) in
-      length-laid es (laidFlake s (e .nugget) (e .flake) key (e .keycount) c v) ∙ length-flake s (e .nugget) (e .flake) key (e .keycount) c v
+      length-laid es (laidFlake s lock (e .flake) c v) ∙ length-flake s lock (e .flake) c v
 
   pub laid-lent : (es : List Entry) (v : List ℕ) → Lent s v → Lent s (laid s salt new es v)
   laid-lent es v l = record { limited = l .limited; size = length-laid es v ∙ l .size }
@@ -93,11 +96,11 @@ module _ (s : Shape) (salt : List ℕ) (new : ℕ → ℕ → List ℕ) where
   unfolding laid laidEntry
   laid-leaves long at m [] v x = refl
   laid-leaves long at m (e ∷ es) v x =
-      let key = nuggetKey (e .secret) salt (e .nugget) in
+      let lock = lockOf s salt e in
       let c = new (e .nugget) (e .flake) in
       let h = x .0 in
-      laid-leaves long at m es (laidFlake s (e .nugget) (e .flake) key (e .keycount) c v) (x .1)
-      ∙ flake-leaves s (e .nugget) (e .flake) key (e .keycount) c v (long (e .nugget) (e .flake) (h .nugget) (h .flake)) at m (h .tag-apart) (h .flake-apart)
+      laid-leaves long at m es (laidFlake s lock (e .flake) c v) (x .1)
+      ∙ flake-leaves s lock (e .flake) c v (long (e .nugget) (e .flake) (h .nugget) (h .flake)) at m (h .tag-apart) (h .flake-apart)
 
 -- an entry of the volume's
 pub record Stands (s : Shape) (e : Entry) : Type 0 where

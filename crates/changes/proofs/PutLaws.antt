@@ -16,10 +16,10 @@ use Rattle.records.specs.declared.Way.{Way}
 use Rattle.records.specs.Journal.{bit}
 use Rattle.records.specs.Rule.{enciphered, keycountAfter}
 use Rattle.records.specs.Listing.{Entry, entry, padsOf, padsBy, padsTo}
-use Rattle.keys.specs.Keys.{nuggetKey}
+use Rattle.keys.specs.declared.Lock.{Lock}
 use Rattle.keys.specs.Pads.{under}
 use Rattle.keys.specs.Tags.{tagOf}
-use Rattle.nuggets.specs.Nugget.{storedIn}
+use Rattle.nuggets.specs.Nugget.{lockBy, storedIn}
 use Rattle.changes.specs.Laid.{laidEntry, laid}
 use Rattle.changes.proofs.Each.{Each, each-map, Of, each-pads}
 use Rattle.changes.proofs.CellLaws.{ordered}
@@ -32,14 +32,14 @@ pub record Same (s : Shape) (n f : ℕ) (v w : List ℕ) : Type 0 where
   pub tag : part (tagAt s n f) 16 w ≡ part (tagAt s n f) 16 v
 
 -- a flake under a pad, with its tag
-pub record Under (s : Shape) (n f : ℕ) (key : List ℕ) (k : ℕ) (c w : List ℕ) : Type 0 where
-  pub stored : storedIn s w n f ≡ under key k f (s .f) c
-  pub tag : part (tagAt s n f) 16 w ≡ tagOf key k f (under key k f (s .f) c)
+pub record Under (s : Shape) (f : ℕ) (lock : Lock) (c w : List ℕ) : Type 0 where
+  pub stored : storedIn s w (lock .number) f ≡ under lock f (s .f) c
+  pub tag : part (tagAt s (lock .number) f) 16 w ≡ tagOf lock f (under lock f (s .f) c)
 
 pub same-trans : {s : Shape} {n f : ℕ} {u v w : List ℕ} → Same s n f u v → Same s n f v w → Same s n f u w
 same-trans x y = record { stored = y .stored ∙ x .stored; tag = y .tag ∙ x .tag }
 
-pub under-same : {s : Shape} {n f : ℕ} {key : List ℕ} {k : ℕ} {c v w : List ℕ} → Under s n f key k c v → Same s n f v w → Under s n f key k c w
+pub under-same : {s : Shape} {f : ℕ} {lock : Lock} {c v w : List ℕ} → Under s f lock c v → Same s (lock .number) f v w → Under s f lock c w
 under-same x y = record { stored = y .stored ∙ x .stored; tag = y .tag ∙ x .tag }
 
 module _ (s : Shape) (salt : List ℕ) (new : ℕ → ℕ → List ℕ) (long : Long s new) (n f : ℕ) (a : n < s .n) (b : f < s .p) where
@@ -59,13 +59,13 @@ module _ (s : Shape) (salt : List ℕ) (new : ℕ → ℕ → List ℕ) (long : 
 
   -- its own entry lays it, another's doesn't touch it
   laid-one : (k : ℕ) (x w : List ℕ) → Lent s w → (on : Bool) (q : ℕ) → f ≡ q → on ≡ true
-      → Under s n f (nuggetKey x salt n) k (new n f) (laid s salt new (pick on (entry n k q x ∷ []) []) w)
+      → Under s f (lockBy s salt x n k) (new n f) (laid s salt new (pick on (entry n k q x ∷ []) []) w)
   unfolding laid laidEntry
   laid-one k x w l on q e t =
       rw (t, ← e)
       (record {
-        stored = flake-put s n f (nuggetKey x salt n) k (new n f) w l a b (long n f a b);
-        tag = tag-put s n f (nuggetKey x salt n) k (new n f) w l a b;
+        stored = flake-put s (lockBy s salt x n k) f (new n f) w l a b (long n f a b);
+        tag = tag-put s (lockBy s salt x n k) f (new n f) w l a b;
       })
 
   one-far : (k : ℕ) (x : List ℕ) (on : Bool) (q : ℕ) → q < s .p → f < q → Each (Far s n f) (pick on (entry n k q x ∷ []) [])
@@ -74,7 +74,7 @@ module _ (s : Shape) (salt : List ℕ) (new : ℕ → ℕ → List ℕ) (long : 
 
   -- a flake in the set is laid
   pub pads-put : (k : ℕ) (x : List ℕ) (g : ℕ → Bool) (p : ℕ) (v : List ℕ) → Lent s v → p ≤ s .p → f < p → g f ≡ true
-      → Under s n f (nuggetKey x salt n) k (new n f) (laid s salt new (padsOf n k x g p) v)
+      → Under s f (lockBy s salt x n k) (new n f) (laid s salt new (padsOf n k x g p) v)
   unfolding padsOf
   pads-put k x g zero v l h c on = absurd (omega (arith, c))
   pads-put k x g (suc p) v l h c on =
@@ -113,7 +113,7 @@ module _ (s : Shape) (salt : List ℕ) (new : ℕ → ℕ → List ℕ) (long : 
       mine q w e o = rw (← e) (pads-kept (keycountAfter (way n) (records n)) x (bit (enciphered (way n) (records n))) (s .p) w (omega arith) o)
 
   pub to-put : (way : ℕ → Way) (records : ℕ → Record) (x : List ℕ) (m : ℕ) (v : List ℕ) → Lent s v → m ≤ s .n → n < m → bit (enciphered (way n) (records n)) f ≡ true
-      → Under s n f (nuggetKey x salt n) (keycountAfter (way n) (records n)) (new n f) (laid s salt new (padsTo (s .p) way records x m) v)
+      → Under s f (lockBy s salt x n (keycountAfter (way n) (records n))) (new n f) (laid s salt new (padsTo (s .p) way records x m) v)
   unfolding padsTo padsBy
   to-put way records x zero v l h c on = absurd (omega (arith, c))
   to-put way records x (suc m) v l h c on =
@@ -130,5 +130,5 @@ module _ (s : Shape) (salt : List ℕ) (new : ℕ → ℕ → List ℕ) (long : 
       (ordered n m))
     where
       mine : (q : ℕ) (w : List ℕ) → Lent s w → n ≡ q
-          → Under s n f (nuggetKey x salt n) (keycountAfter (way n) (records n)) (new n f) (laid s salt new (padsOf q (keycountAfter (way q) (records q)) x (bit (enciphered (way q) (records q))) (s .p)) w)
+          → Under s f (lockBy s salt x n (keycountAfter (way n) (records n))) (new n f) (laid s salt new (padsOf q (keycountAfter (way q) (records q)) x (bit (enciphered (way q) (records q))) (s .p)) w)
       mine q w lw e = rw (← e) (pads-put (keycountAfter (way n) (records n)) x (bit (enciphered (way n) (records n))) (s .p) w lw (omega arith) b on)

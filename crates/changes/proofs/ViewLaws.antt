@@ -30,9 +30,9 @@ use Rattle.nodes.proofs.Bounds.{tags-inside}
 use Rattle.tree.specs.Good.{AllGood, Beside}
 use Rattle.tree.proofs.RenewLaws.{all-but, but-more}
 use Rattle.tree.proofs.ChangeLaws.{changed-but}
-use Rattle.keys.specs.Keys.{nuggetKey}
 use Rattle.drive.specs.declared.Drive.{Drive}
 use Rattle.drive.specs.Drive.{shapeOf}
+use Rattle.nuggets.specs.Nugget.{lockBy}
 use Rattle.changes.specs.Laid.{laid}
 use Rattle.changes.specs.Change.{idles, padsFor, markedTo, worked}
 use Rattle.changes.proofs.Each.{each-map, chosen, Below, each-to}
@@ -108,7 +108,7 @@ module _ (d : Drive) (v : List ℕ) (way : ℕ → Way) (new : ℕ → ℕ → L
 
   -- a flake that is enciphered is its new contents under its pad, with its tag; every other is as it was
   pub worked-put : (n f : ℕ) → n < d .n → f < d .p → chosen way (recordOf (shapeOf d) v) n f ≡ true
-      → Under s n f (nuggetKey (d .present) (d .salt) n) (keycountAfter (way n) (recordOf (shapeOf d) v n)) (new n f) (worked d v way new)
+      → Under s f (lockBy s (d .salt) (d .present) n (keycountAfter (way n) (recordOf (shapeOf d) v n))) (new n f) (worked d v way new)
   worked-put n f a b on = under-same (to-put s (d .salt) new long n f a b way (recordOf (shapeOf d) v) (d .present) (d .n) v l (omega arith) a on) (last-same n f a b)
 
   pub worked-kept : (n f : ℕ) → n < d .n → f < d .p → chosen way (recordOf (shapeOf d) v) n f ≡ false → Same s n f v (worked d v way new)

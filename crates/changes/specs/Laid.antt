@@ -10,9 +10,10 @@ use Rattle.layout.specs.declared.Shape.{Shape}
 use Rattle.layout.specs.Parts.{flakeAt, tagAt}
 use Rattle.layout.specs.Spots.{offsetAt}
 use Rattle.records.specs.Listing.{Entry}
-use Rattle.keys.specs.Keys.{nuggetKey}
+use Rattle.keys.specs.declared.Lock.{Lock}
 use Rattle.keys.specs.Pads.{under}
 use Rattle.keys.specs.Tags.{tagOf}
+use Rattle.nuggets.specs.Nugget.{lockOf}
 
 -- the byte at offset a once these bytes are written from offset o on
 abbrev pub over : ℕ → List ℕ → ℕ → ℕ → ℕ
@@ -23,15 +24,14 @@ unfoldable pub written : Shape → ℕ → List ℕ → ℕ → ℕ → List ℕ
 written s o bytes n f was = tab (s .f) (λ b. over o bytes (offsetAt s n f b) (getD was b 0))
 
 -- "Stored flake = contents xor pad. Tag = Poly1305 under the tag key over the stored flake."
-unfoldable pub laidFlake : Shape → ℕ → ℕ → List ℕ → ℕ → List ℕ → List ℕ → List ℕ
-laidFlake s n f key k contents v =
-    let stored = under key k f (s .f) contents in
-    sets (sets v (flakeAt s n f) stored) (tagAt s n f) (tagOf key k f stored)
+unfoldable pub laidFlake : Shape → Lock → ℕ → List ℕ → List ℕ → List ℕ
+laidFlake s lock f contents v =
+    let stored = under lock f (s .f) contents in
+    sets (sets v (flakeAt s (lock .number) f) stored) (tagAt s (lock .number) f) (tagOf lock f stored)
 
 -- an enciphering: its flake becomes its new contents under its pad
 unfoldable pub laidEntry : Shape → List ℕ → (ℕ → ℕ → List ℕ) → Entry → List ℕ → List ℕ
-laidEntry s salt new e v =
-    laidFlake s (e .nugget) (e .flake) (nuggetKey (e .secret) salt (e .nugget)) (e .keycount) (new (e .nugget) (e .flake)) v
+laidEntry s salt new e v = laidFlake s (lockOf s salt e) (e .flake) (new (e .nugget) (e .flake)) v
 
 -- the encipherings one after another
 unfoldable pub laid : Shape → List ℕ → (ℕ → ℕ → List ℕ) → List Entry → List ℕ → List ℕ

@@ -23,7 +23,7 @@ use Rattle.records.specs.Record.{recordOf}
 use Rattle.drive.specs.declared.Drive.{Drive}
 use Rattle.drive.specs.Drive.{shapeOf}
 use Rattle.drive.proofs.OpeningLaws.{opening-lent}
-use Rattle.nuggets.specs.Nugget.{keyFor, storedIn, contentsIn, byteOf}
+use Rattle.nuggets.specs.Nugget.{storedIn, contentsIn, byteOf}
 use Rattle.reading.specs.Read.{readAnswer, readBuffer}
 use Rattle.reading.proofs.TestedLaws.{read-tests}
 use Rattle.detection.specs.Right.{Present}
@@ -47,14 +47,10 @@ one-drive-one-tree d v w o len a ev ew h k =
     (spot-read d v o len a ev h k .nugget-is) (read-detected d v o len a ev h k .0) (read-detected d w o len a ew h k .0)
     (head-right d v (tv .opens)) (head-right d w (tw .opens))
 
--- with the same record bytes the record is the same, and so is the key
+-- with the same record bytes the record is the same
 module _ (d : Drive) (v w : List ℕ) (n : ℕ) (x : Alike (shapeOf d) v w n) where
   one-record : recordOf (shapeOf d) v n ≡ recordOf (shapeOf d) w n
   one-record = record-told (shapeOf d) (recordAt (shapeOf d) n) v w (x .records)
-
-  one-key : keyFor d v n ≡ keyFor d w n
-  unfolding keyFor
-  one-key = rw one-record refl
 
   -- and with the same tags each tag is
   one-tag : (f : ℕ) → f < d .p → part (tagAt (shapeOf d) n f) 16 v ≡ part (tagAt (shapeOf d) n f) 16 w
@@ -74,7 +70,7 @@ one-drive-one-tag d v w o len a ev ew h k x p =
     sym (read-detected d v o len a ev h k .1 p)
     ∙ one-tag d v w n x f (spot-read d v o len a ev h k .flake-is)
     ∙ read-detected d w o len a ew h k .1 there
-    ∙ rw (r, one-key d v w n x) refl
+    ∙ rw r refl
 
 -- what an accepted read lays at place i of its buffer
 read-byte : (d : Drive) (v : List ℕ) (o : ℕ) (buffer : List ℕ) (i : ℕ) → i < length buffer → readAnswer d v o (length buffer) ≡ A.Accepted
@@ -94,7 +90,7 @@ module _ (d : Drive) (v w : List ℕ) (a : ℕ) (x : Alike (shapeOf d) v w (spot
 
   stored-byte : (let at = spotAt (shapeOf d) a in storedIn (shapeOf d) v (at .nugget) (at .flake) ≡ storedIn (shapeOf d) w (at .nugget) (at .flake)) → byteOf d v a ≡ byteOf d w a
   unfolding byteOf contentsIn
-  stored-byte e = rw (one-key d v w (spotAt (shapeOf d) a .nugget) x, one-record d v w (spotAt (shapeOf d) a .nugget) x, e) refl
+  stored-byte e = rw (one-record d v w (spotAt (shapeOf d) a .nugget) x, e) refl
 
 -- the byte itself
 module _ (d : Drive) (v w : List ℕ) (o len a : ℕ) (ev : readAnswer d v o len ≡ A.Accepted) (ew : readAnswer d w o len ≡ A.Accepted) (h : o ≤ a) (k : a < o + len) where

@@ -101,7 +101,7 @@ flakes-each : (s : Shape) (v : List ℕ) (g : Nugget) (mask k f : ℕ) → flake
 unfolding flakesUp passes
 flakes-each s v g mask zero f e i a b on = absurd (omega arith)
 flakes-each s v g mask (suc k) f e i a b on =
-    let q = granted (passes s v g mask f) (flakesUp s v g mask k (suc f)) (A.Altered (P.Flake (g .number) f)) refl e in
+    let q = granted (passes s v g mask f) (flakesUp s v g mask k (suc f)) (A.Altered (P.Flake (g .lock .number) f)) refl e in
     go (told (eqb f i)) (q .0) (λ h. flakes-each s v g mask k (suc f) (q .1) i h (omega arith) on)
   where
     go : (eqb f i ≡ true) ⊎ (eqb f i ≡ false) → passes s v g mask f ≡ true → (suc f ≤ i → goodFlake s v g i ≡ true) → goodFlake s v g i ≡ true

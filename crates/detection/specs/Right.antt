@@ -17,7 +17,7 @@ use Rattle.records.specs.Record.{recordOf}
 use Rattle.drive.specs.declared.Drive.{Drive}
 use Rattle.drive.specs.Drive.{shapeOf, isChanging}
 use Rattle.drive.specs.Head.{headOf}
-use Rattle.nuggets.specs.Nugget.{keyFor, storedIn}
+use Rattle.nuggets.specs.Nugget.{lockFor, storedIn}
 
 -- "the 104 bytes are those the drive makes, and the volume's node 1 is the drive's"
 pub record HeadRight (d : Drive) (v : List ℕ) : Type 0 where
@@ -56,7 +56,7 @@ Present d v n f = bit (recordOf (shapeOf d) v n .held) f ≡ true
 
 -- "Tag = Poly1305 under the tag key over the stored flake.": the tag of these bytes as flake f of nugget n
 abbrev pub tagFor : Drive → List ℕ → ℕ → ℕ → List ℕ → List ℕ
-tagFor d v n f stored = tagOf (keyFor d v n) (recordOf (shapeOf d) v n .keycount) f stored
+tagFor d v n f stored = tagOf (lockFor d v n) f stored
 
 abbrev pub TagRight : Drive → List ℕ → ℕ → ℕ → Type 0
 TagRight d v n f = part (tagAt (shapeOf d) n f) 16 v ≡ tagFor d v n f (storedIn (shapeOf d) v n f)

@@ -19,12 +19,12 @@ use Rattle.records.specs.Journal.{bit}
 use Rattle.records.specs.Record.{Codes, recordOf}
 use Rattle.records.specs.Rule.{touchedBy, keycountAfter, heldAfter, epochAfter, turned, atTop}
 use Rattle.records.proofs.RuleLaws.{well-formed-after, codes-after}
-use Rattle.keys.specs.Keys.{nuggetKey}
+use Rattle.keys.specs.declared.Lock.{Lock}
 use Rattle.drive.specs.declared.Drive.{Drive}
 use Rattle.drive.specs.Drive.{shapeOf, gaugeOf, keptOld}
 use Rattle.drive.specs.Head.{headOf}
 use Rattle.drive.specs.Opening.{inForm}
-use Rattle.nuggets.specs.Nugget.{secretFor, keyFor}
+use Rattle.nuggets.specs.Nugget.{secretFor, lockBy, lockFor}
 use Rattle.nuggets.specs.Tests.{goodFlake, flakeGood}
 use Rattle.opening.proofs.Reopens.{length-head}
 use Rattle.changes.specs.Change.{worked, advanced, settled}
@@ -39,11 +39,11 @@ use Rattle.history.proofs.Quiet.{Untouched, untouched-lent}
 use Rattle.history.proofs.Heads.{settled-opens, tag-kept}
 use Rattle.drive.proofs.OpeningLaws.{opening-told}
 
--- a flake laid under its nugget's key and keycount has the right tag
-tag-laid : (e : Drive) (z : List ℕ) (n f : ℕ) (key : List ℕ) (k : ℕ) (c : List ℕ) → Under (shapeOf e) n f key k c z → keyFor e z n ≡ key
-    → recordOf (shapeOf e) z n .keycount ≡ k → flakeGood e z n f ≡ true
+-- a flake laid under its nugget's lock has the right tag
+tag-laid : (e : Drive) (z : List ℕ) (n f : ℕ) (lock : Lock) (c : List ℕ) → Under (shapeOf e) f lock c z → lockFor e z n ≡ lock → flakeGood e z n f ≡ true
 unfolding goodFlake
-tag-laid e z n f key k c x keys keycounts = rw (x .tag, x .stored, keys, keycounts) (same-refl _)
+tag-laid e z n f lock c x locks =
+    ap (λ (l : Lock). goodFlake (shapeOf e) z (record { lock = l; held = recordOf (shapeOf e) z n .held }) f) locks ∙ rw (x .tag, x .stored) (same-refl _)
 
 -- what a change of nuggets asks
 pub record Due (d : Drive) (v : List ℕ) (way : ℕ → Way) (new : ℕ → ℕ → List ℕ) : Type 0 where
@@ -88,9 +88,13 @@ module _ (d : Drive) (v : List ℕ) (way : ℕ → Way) (new : ℕ → ℕ → L
   pub record-after : (n : ℕ) → n < d .n → recordOf (shapeOf d) z n ≡ turned (way n) (d .epoch) (recordOf (shapeOf d) v n)
   record-after n h = settled-record s e u head-long n ∙ worked-record d v way new lent (x .long) n h (codes-turned n h)
 
+  -- under what the enciphered flakes of nugget n lie
+  abbrev lockAfter : ℕ → Lock
+  lockAfter n = lockBy s (d .salt) (d .present) n (keycountAfter (way n) (recordOf (shapeOf d) v n))
+
   -- each enciphered flake is its new contents under its pad, and every other is as it was
   pub put-after : (n f : ℕ) → n < d .n → f < d .p → chosen way (recordOf (shapeOf d) v) n f ≡ true
-      → Under s n f (nuggetKey (d .present) (d .salt) n) (keycountAfter (way n) (recordOf (shapeOf d) v n)) (new n f) z
+      → Under s f (lockAfter n) (new n f) z
   put-after n f a b on = under-same (worked-put d v way new lent (x .long) n f a b on) (settled-same s e u head-long n f)
 
   pub kept-after : (n f : ℕ) → n < d .n → f < d .p → chosen way (recordOf (shapeOf d) v) n f ≡ false → Same s n f v z
@@ -116,12 +120,12 @@ module _ (d : Drive) (v : List ℕ) (way : ℕ → Way) (new : ℕ → ℕ → L
       go (inl a) = a .epochKept ∙ a .moved f on
       go (inr a) = a .epochSet
 
-  key-after : (n f : ℕ) → n < d .n → chosen way (recordOf (shapeOf d) v) n f ≡ true → keyFor e z n ≡ nuggetKey (d .present) (d .salt) n
-  unfolding keyFor advanced
-  key-after n f h on = ap (λ (k : List ℕ). nuggetKey k (d .salt) n) (ap (secretFor e) (epoch-after n f h on) ∙ secret-head)
-
   keycount-after : (n : ℕ) → n < d .n → recordOf (shapeOf d) z n .keycount ≡ keycountAfter (way n) (recordOf (shapeOf d) v n)
   keycount-after n h = ap (λ (r : Record). r .keycount) (record-after n h)
+
+  lock-after : (n f : ℕ) → n < d .n → chosen way (recordOf (shapeOf d) v) n f ≡ true → lockFor e z n ≡ lockAfter n
+  unfolding advanced
+  lock-after n f h on = rw (epoch-after n f h on, secret-head, keycount-after n h) refl
 
   -- a flake that is held and wasn't enciphered was held before, and its nugget was not rekeyed
   stays : (n f : ℕ) → n < d .n → chosen way (recordOf (shapeOf d) v) n f ≡ false → bit (recordOf (shapeOf d) z n .held) f ≡ true
@@ -139,7 +143,7 @@ module _ (d : Drive) (v : List ℕ) (way : ℕ → Way) (new : ℕ → ℕ → L
     where
       go : (chosen way (recordOf (shapeOf d) v) n f ≡ true) ⊎ (chosen way (recordOf (shapeOf d) v) n f ≡ false) → flakeGood e z n f ≡ true
       go (inl put) =
-          tag-laid e z n f (nuggetKey (d .present) (d .salt) n) (keycountAfter (way n) (recordOf (shapeOf d) v n)) (new n f) (put-after n f h l put) (key-after n f h put) (keycount-after n h)
+          tag-laid e z n f (lockAfter n) (new n f) (put-after n f h l put) (lock-after n f h put)
       go (inr off) =
           let (was, a) = stays n f h off on in
           tag-kept d e v z n f refl refl (kept-after n f h l off) (keycount-after n h ∙ a .keycountKept)

@@ -17,10 +17,10 @@ use Rattle.layout.proofs.Limits.{limits}
 use Rattle.layout.proofs.Places.{offset-spot, spot-inside}
 use Rattle.records.specs.Journal.{bit, present}
 use Rattle.poly1305.specs.Poly1305.{poly1305}
-use Rattle.keys.specs.Keys.{nuggetKey, tagKey}
+use Rattle.keys.specs.Keys.{tagKey}
 use Rattle.keys.specs.Tags.{covered, tagOf}
 use Rattle.drive.specs.Drive.{shapeOf}
-use Rattle.nuggets.specs.Nugget.{secretFor, keyFor, storedIn, byteOf}
+use Rattle.nuggets.specs.Nugget.{secretFor, lockOf, storedIn, byteOf}
 use Rattle.nuggets.specs.Tests.{goodFlake}
 use Rattle.reading.specs.Read.{readBuffer}
 use Rattle.reading.proofs.AnswerLaws.{read-lent}
@@ -103,8 +103,8 @@ entries-listed x calls = sound x calls .inv .tally
 -- a present flake's tag, under the key of its nugget
 flake-tag : (w : World) → Sound w → (n f : ℕ) → n < w .drive .n → f < w .drive .p → bit (recordOf (shapeOf (w .drive)) (w .vol) n .held) f ≡ true
     → part (tagAt (shapeOf (w .drive)) n f) 16 (w .vol)
-    ≡ poly1305 (tagKey (nuggetKey (entryAt (ledgerOf w) n f .secret) (w .drive .salt) n) f (recordOf (shapeOf (w .drive)) (w .vol) n .keycount)) (storedIn (shapeOf (w .drive)) (w .vol) n f)
-unfolding goodFlake keyFor tagOf covered secretAt secretFor
+    ≡ poly1305 (tagKey (lockOf (shapeOf (w .drive)) (w .drive .salt) (entryAt (ledgerOf w) n f)) f) (storedIn (shapeOf (w .drive)) (w .vol) n f)
+unfolding goodFlake tagOf covered secretAt secretFor
 flake-tag w x n f a b on = same-true _ _ (x .untouched .tags n f a b on)
 
 pub under-last-pad : UnderLastPad

@@ -24,7 +24,7 @@ use Rattle.drive.specs.Drive.{shapeOf, isChanging, headed}
 use Rattle.drive.specs.Head.{headOf}
 use Rattle.drive.specs.Opening.{epochFits as driveFits, inForm, headStands, openingOf}
 use Rattle.drive.proofs.HeadLaws.{form-limits}
-use Rattle.nuggets.specs.Nugget.{secretFor, keyFor, storedIn}
+use Rattle.nuggets.specs.Nugget.{secretFor, storedIn}
 use Rattle.nuggets.specs.Tests.{goodFlake, flakeGood}
 use Rattle.opening.proofs.Reopens.{length-head}
 use Rattle.changes.specs.Change.{settled}
@@ -59,7 +59,7 @@ untouched-node {d} {v} x =
 pub tag-kept : (d e : Drive) (v w : List ℕ) (n f : ℕ) → shapeOf e ≡ shapeOf d → e .salt ≡ d .salt → Same (shapeOf d) n f v w
     → recordOf (shapeOf d) w n .keycount ≡ recordOf (shapeOf d) v n .keycount → secretFor e (recordOf (shapeOf d) w n .epoch) ≡ secretFor d (recordOf (shapeOf d) v n .epoch)
     → flakeGood d v n f ≡ true → flakeGood e w n f ≡ true
-unfolding goodFlake keyFor
+unfolding goodFlake
 tag-kept d e v w n f shaped salted kept keycounts secrets h = rw (shaped, kept .tag, kept .stored, keycounts, secrets, salted) h
 
 -- a head stored over an untouched volume, node 1 as it is: the records have to fit it, and it has to name their secrets as before

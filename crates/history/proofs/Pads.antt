@@ -38,7 +38,7 @@ use Rattle.opening.proofs.FormatLaws.{format-lent}
 use Rattle.opening.proofs.HeadBack.{Opened, opened}
 use Rattle.opening.proofs.Reopens.{drive-back, reopens}
 use Rattle.records.specs.Record.{recordOf}
-use Rattle.nuggets.specs.Nugget.{storedIn}
+use Rattle.nuggets.specs.Nugget.{lockOf, storedIn}
 use Rattle.ledger.specs.Listing.{Alike, NoneTwice}
 use Rattle.ledger.specs.Ledger.{Kit}
 use Rattle.ledger.specs.Onward.{Onward}
@@ -47,7 +47,7 @@ use Rattle.ledger.proofs.OnwardLaws.{onward-same, onward-trans}
 use Rattle.history.specs.World.{World, Call}
 use Rattle.history.specs.Step.{step}
 use Rattle.history.specs.History.{Start, begun, run, history}
-use Rattle.history.specs.Pads.{keyOf, stretchOf, stretchSource, StretchSource, StretchMade, NoStretchTwice, tagSource, TagSource, TagKeyMade, NoTagKeyTwice, Spent, OnePadOneContents, liesUnder, OneStretchOneContents, OneTagKeyOneMessage, Hashed, HashesStand}
+use Rattle.history.specs.Pads.{lockIn, stretchOf, stretchSource, StretchSource, StretchMade, NoStretchTwice, tagSource, TagSource, TagKeyMade, NoTagKeyTwice, Spent, OnePadOneContents, liesUnder, OneStretchOneContents, OneTagKeyOneMessage, Hashed, HashesStand}
 use Rattle.history.proofs.Quiet.{untouched-lent, whole-quiet}
 use Rattle.history.proofs.Heads.{untouched-node}
 use Rattle.history.proofs.View.{kitOf, ledgerOf}
@@ -124,7 +124,7 @@ module _ (x : Start) where
 pub stretch-made : StretchMade
 unfolding nuggetKey
 stretch-made x calls i j e at h =
-    stretch-is (x .shape .f) (size x) (keyOf x e) (stretchOf e j) (lies x e j (listed (history x calls) (sound x calls) i e at) h)
+    stretch-is (x .shape .f) (size x) (lockIn x e) (e .flake) j (lies x e j (listed (history x calls) (sound x calls) i e at) h)
 
 pub no-stretch-twice : NoStretchTwice
 unfolding NoneTwice
@@ -145,7 +145,7 @@ no-tag-key-twice x calls i j e g ei ej same =
 
 -- calls one after another go onward; shape and salt stay, and so what never changes
 fixed : Shape × List ℕ → Kit
-fixed b = record { n = b .0 .n; p = b .0 .p; size = b .0 .f; pad = λ e. padOf (nuggetKey (e .secret) (b .1) (e .nugget)) (e .keycount) (e .flake) (b .0 .f) }
+fixed b = record { n = b .0 .n; p = b .0 .p; size = b .0 .f; pad = λ e. padOf (lockOf (b .0) (b .1) e) (e .flake) (b .0 .f) }
 
 run-onward : (w : World) (calls : List Call) → Sound w → Onward (kitOf (w .drive)) (ledgerOf w) (ledgerOf (run w calls))
 unfolding run fixed

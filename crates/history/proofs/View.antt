@@ -3,11 +3,10 @@ use mathlib.Core.Path.{_≡_, refl, _∙_}
 use mathlib.Core.List.{List}
 use Prim.Native.Nat.{ℕ, _<_}
 use Rattle.records.specs.Listing.{Entry}
-use Rattle.keys.specs.Keys.{nuggetKey}
 use Rattle.keys.specs.Pads.{padOf}
 use Rattle.drive.specs.declared.Drive.{Drive}
 use Rattle.drive.specs.Drive.{shapeOf, isChanging}
-use Rattle.nuggets.specs.Nugget.{secretFor, keyFor, storedIn, contentsIn, contentsOf}
+use Rattle.nuggets.specs.Nugget.{secretFor, lockOf, storedIn, contentsIn, contentsOf}
 use Rattle.ledger.specs.Ledger.{Kit, Ledger, secretAt, contents}
 use Rattle.ledger.specs.Invariant.{Inv}
 use Rattle.ledger.proofs.Theorems.{finds}
@@ -15,10 +14,9 @@ use Rattle.history.specs.World.{World}
 use Rattle.history.specs.Demands.{plainIn}
 use Rattle.records.specs.Record.{recordOf}
 
--- the pad of an entry is ChaCha20's under the key of its nugget
+-- the pad of an entry is that of its lock
 abbrev pub kitOf : Drive → Kit
-kitOf d =
-    record { n = d .n; p = d .p; size = d .f; pad = λ e. padOf (nuggetKey (e .secret) (d .salt) (e .nugget)) (e .keycount) (e .flake) (d .f) }
+kitOf d = record { n = d .n; p = d .p; size = d .f; pad = λ e. padOf (lockOf (shapeOf d) (d .salt) e) (e .flake) (d .f) }
 
 abbrev pub viewOf : Drive → List ℕ → List Entry → ℕ → (ℕ → ℕ) → Ledger
 viewOf d v listing retired contents =
@@ -45,7 +43,7 @@ module _ (d : Drive) (v : List ℕ) (listing : List Entry) (retired : ℕ) (plai
   secret-seen e = refl
 
   contents-seen : (n f : ℕ) → contentsOf d v n f ≡ contents (kitOf d) (viewOf d v listing retired plain) n f
-  unfolding contentsIn contents keyFor secretAt secretFor
+  unfolding contentsIn contents secretAt secretFor
   contents-seen n f = refl
 
   -- so a flake reads as what was written

@@ -26,11 +26,11 @@ use Rattle.layout.specs.Spots.{offsetAt}
 use Rattle.records.specs.Journal.{bit}
 use Rattle.records.specs.Listing.{Entry}
 use Rattle.poly1305.specs.Poly1305.{poly1305}
-use Rattle.keys.specs.Keys.{nuggetKey, tagKey}
+use Rattle.keys.specs.Keys.{tagKey}
 use Rattle.keys.specs.Pads.{under}
 use Rattle.drive.specs.Drive.{shapeOf}
 use Rattle.opening.specs.Mount.{mountAnswer, mountDone}
-use Rattle.nuggets.specs.Nugget.{secretFor, storedIn}
+use Rattle.nuggets.specs.Nugget.{secretFor, lockOf, storedIn}
 use Rattle.reading.specs.Read.{readBuffer}
 use Rattle.reports.specs.Report.{reportOf}
 use Rattle.ledger.specs.Listing.{lastOf, NoneTwice}
@@ -92,11 +92,11 @@ pub record LastPad (w : World) (n f : ℕ) : Type 0 where
   pub pad : Entry
   pub last : lastOf n f (w .listing) ≡ some pad
   pub laid : storedIn (shapeOf (w .drive)) (w .vol) n f
-      ≡ under (nuggetKey (pad .secret) (w .drive .salt) n) (pad .keycount) f (w .drive .f) (plainIn (shapeOf (w .drive)) (w .contents) n f)
+      ≡ under (lockOf (shapeOf (w .drive)) (w .drive .salt) pad) f (w .drive .f) (plainIn (shapeOf (w .drive)) (w .contents) n f)
   pub secret : pad .secret ≡ secretFor (w .drive) (recordOf (shapeOf (w .drive)) (w .vol) n .epoch)
   pub keycount : pad .keycount ≡ recordOf (shapeOf (w .drive)) (w .vol) n .keycount
   pub tagged : part (tagAt (shapeOf (w .drive)) n f) 16 (w .vol)
-      ≡ poly1305 (tagKey (nuggetKey (pad .secret) (w .drive .salt) n) f (pad .keycount)) (storedIn (shapeOf (w .drive)) (w .vol) n f)
+      ≡ poly1305 (tagKey (lockOf (shapeOf (w .drive)) (w .drive .salt) pad) f) (storedIn (shapeOf (w .drive)) (w .vol) n f)
 
 -- 4. "Each present flake is its contents under the pad last listed for it."
 abbrev pub UnderLastPad : Type 0

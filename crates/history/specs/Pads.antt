@@ -18,21 +18,22 @@ use Rattle.records.specs.Journal.{bit}
 use Rattle.records.specs.Listing.{Entry, entry}
 use Rattle.chacha20.specs.ChaCha20.{blockOf}
 use Rattle.blake2s.specs.Hash.{blake2s}
-use Rattle.keys.specs.Keys.{nuggetKey, tagKey}
+use Rattle.keys.specs.declared.Lock.{Lock}
+use Rattle.keys.specs.Keys.{tagKey}
 use Rattle.keys.specs.Pads.{Stretch, inputOf, padOf}
 use Rattle.nodes.specs.Nodes.{nodeIn, recordPart, tagsPart}
 use Rattle.drive.specs.Drive.{shapeOf, isChanging}
 use Rattle.records.specs.Record.{recordOf}
-use Rattle.nuggets.specs.Nugget.{secretFor, storedIn}
+use Rattle.nuggets.specs.Nugget.{secretFor, lockOf, storedIn}
 use Rattle.history.specs.World.{World, Call}
 use Rattle.history.specs.History.{Start, history}
 
--- an entry's nugget key, under the format's salt (which stays, `ShapeKept`), and its pad: its flake's at its keycount
-abbrev pub keyOf : Start → Entry → List ℕ
-keyOf start e = nuggetKey (e .secret) (start .salt) (e .nugget)
+-- an entry's lock, under the format's shape and salt (which stay, `ShapeKept`), and its pad: its flake's under that lock
+abbrev pub lockIn : Start → Entry → Lock
+lockIn start e = lockOf (start .shape) (start .salt) e
 
 abbrev pub padIn : Start → Entry → List ℕ
-padIn start e = padOf (keyOf start e) (e .keycount) (e .flake) (start .shape .f)
+padIn start e = padOf (lockIn start e) (e .flake) (start .shape .f)
 
 -- what 64 bytes of keystream are made of: the secret and the message that the nugget key is hashed from, and the nonce and
 -- the block that ChaCha20 is given beside that key
@@ -82,7 +83,7 @@ abbrev pub TagKeyMade : Type 0
 TagKeyMade =
     (start : Start) (e : Entry)
     → let s = tagSource start e in
-    tagKey (keyOf start e) (e .flake) (e .keycount) ≡ blake2s (blake2s (s .secret) (s .nugget)) (s .message)
+    tagKey (lockIn start e) (e .flake) ≡ blake2s (blake2s (s .secret) (s .nugget)) (s .message)
 
 -- A tag key serves one enciphering alone: two entries whose tag keys are made of the same are one entry.
 abbrev pub NoTagKeyTwice : Type 0

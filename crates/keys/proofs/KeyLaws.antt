@@ -5,15 +5,16 @@ use Prim.Native.Nat.{ℕ}
 use lib.ListN.{length}
 use Rattle.words.specs.Le.{Bytes}
 use Rattle.blake2s.proofs.FaceLaws.{length-hash, hash-bytes}
+use Rattle.keys.specs.declared.Lock.{Lock}
 use Rattle.keys.specs.Keys.{tagKey, checkOf, sealOf}
 
-pub length-tag-key : (key : List ℕ) (f k : ℕ) → length (tagKey key f k) ≡ 32
+pub length-tag-key : (lock : Lock) (f : ℕ) → length (tagKey lock f) ≡ 32
 unfolding tagKey
-length-tag-key key f k = length-hash key _
+length-tag-key lock f = length-hash (lock .key) _
 
-pub tag-key-bytes : (key : List ℕ) (f k : ℕ) → Bytes (tagKey key f k)
+pub tag-key-bytes : (lock : Lock) (f : ℕ) → Bytes (tagKey lock f)
 unfolding tagKey
-tag-key-bytes key f k = hash-bytes key _
+tag-key-bytes lock f = hash-bytes (lock .key) _
 
 pub length-check : (old salt : List ℕ) (epoch : ℕ) → length (checkOf old salt epoch) ≡ 32
 unfolding checkOf

@@ -19,7 +19,8 @@ use Rattle.words.proofs.LeLaws.{num-le}
 use Rattle.chacha20.specs.ChaCha20.{blockOf, keystream, blocks}
 use Rattle.chacha20.proofs.BlockLaws.{length-block}
 use Rattle.chacha20.proofs.KeystreamLaws.{length-keystream, keystream-add}
-use Rattle.keys.specs.Pads.{nonceOf, firstBlock, padOf, Size, Stretch, Lies, Input, inputOf, streamOf}
+use Rattle.keys.specs.declared.Lock.{Lock}
+use Rattle.keys.specs.Pads.{nonceOf, firstBlock, padOf, Size, Stretch, Lies, stretchIn, Input, inputOf, streamOf}
 
 -- no two keycounts have one nonce
 pub nonce-once : (k l : ℕ) → k < 2 ^ 64 → l < 2 ^ 64 → nonceOf k ≡ nonceOf l → k ≡ l
@@ -69,31 +70,33 @@ module _ (size : ℕ) (ok : Size size) where
       (sym (digits-div f h) ∙ ap (λ (x : ℕ). x / s) q ∙ digits-div g l, sym (digits-mod f h) ∙ ap (λ (x : ℕ). x % s) q ∙ digits-mod g l)
 
   -- no byte of a block is left over
-  pad-whole : (key : List ℕ) (k f : ℕ) → padOf key k f size ≡ keystream key (nonceOf k) (firstBlock size f) (size / 64)
+  pad-whole : (lock : Lock) (f : ℕ) → padOf lock f size ≡ keystream (lock .key) (nonceOf (lock .keycount)) (firstBlock size f) (size / 64)
   unfolding padOf
-  pad-whole key k f =
-      let stream = keystream key (nonceOf k) (firstBlock size f) (size / 64) in
+  pad-whole lock f =
+      let stream = keystream (lock .key) (nonceOf (lock .keycount)) (firstBlock size f) (size / 64) in
       let count : blocks size ≡ size / 64 = omega (arith, ok .whole) in
-      rw count (take-all size stream (rw (length-keystream key (nonceOf k) (firstBlock size f) (size / 64)) (omega arith)))
+      rw count (take-all size stream (rw (length-keystream (lock .key) (nonceOf (lock .keycount)) (firstBlock size f) (size / 64)) (omega arith)))
 
   -- a pad is what the inputs of its F / 64 stretches give, one after the other
-  pub pad-stretches : (key : List ℕ) (k f : ℕ) → f < 64
-      → padOf key k f size ≡ fold _++_ [] (tab (size / 64) (λ j. streamOf key (inputOf size (record { keycount = k; flake = f; place = j }))))
-  pad-stretches key k f few =
-      pad-whole key k f
-      ∙ keystream-blocks key (nonceOf k) (firstBlock size f) (size / 64)
+  pub pad-stretches : (lock : Lock) (f : ℕ) → f < 64
+      → padOf lock f size ≡ fold _++_ [] (tab (size / 64) (λ j. streamOf (lock .key) (inputOf size (stretchIn lock f j))))
+  pad-stretches lock f few =
+      let key = lock .key in
+      let nonce = nonceOf (lock .keycount) in
+      pad-whole lock f
+      ∙ keystream-blocks key nonce (firstBlock size f) (size / 64)
       ∙ ap (λ (l : List (List ℕ)). fold _++_ [] l)
-      (tab-ext (size / 64) (λ j. blockOf key (nonceOf k) (add32 (firstBlock size f) j)) (λ j. blockOf key (nonceOf k) (firstBlock size f + j))
-      (λ j l. ap (λ (c : ℕ). blockOf key (nonceOf k) c) (no-roll f j few l)))
+      (tab-ext (size / 64) (λ j. blockOf key nonce (add32 (firstBlock size f) j)) (λ j. blockOf key nonce (firstBlock size f + j))
+      (λ j l. ap (λ (c : ℕ). blockOf key nonce c) (no-roll f j few l)))
 
   -- a stretch is what its input gives
-  pub stretch-is : (key : List ℕ) (s : Stretch) → Lies size s
-      → part (64 * s .place) 64 (padOf key (s .keycount) (s .flake) size) ≡ streamOf key (inputOf size s)
-  stretch-is key s h =
+  pub stretch-is : (lock : Lock) (f j : ℕ) → Lies size (stretchIn lock f j)
+      → part (64 * j) 64 (padOf lock f size) ≡ streamOf (lock .key) (inputOf size (stretchIn lock f j))
+  stretch-is lock f j h =
       rw (
-        pad-whole key (s .keycount) (s .flake),
-        block-of key (nonceOf (s .keycount)) (firstBlock size (s .flake)) (size / 64) (s .place) (h .inside),
-        no-roll (s .flake) (s .place) (h .few) (h .inside),
+        pad-whole lock f,
+        block-of (lock .key) (nonceOf (lock .keycount)) (firstBlock size f) (size / 64) j (h .inside),
+        no-roll f j (h .few) (h .inside),
       )
 
   -- No stretch of keystream comes twice in a nugget's pads: an input belongs to one keycount, one flake and one place there.

@@ -3,14 +3,15 @@ use mathlib.Core.List.{List}
 use Prim.Native.Nat.{ℕ}
 use Rattle.messages.specs.Messages.{nuggetMessage, tagMessage, checkMessage, sealMessage}
 use Rattle.blake2s.specs.Hash.{blake2s}
+use Rattle.keys.specs.declared.Lock.{Lock}
 
 -- "Nugget key: keyed with the nugget's secret, `N`, salt, nugget (4 bytes)."
 unfoldable pub nuggetKey : List ℕ → List ℕ → ℕ → List ℕ
 nuggetKey secret salt n = blake2s secret (nuggetMessage salt n)
 
 -- "Tag key: keyed with the nugget key, `F`, flake (2), keycount (8)."
-unfoldable pub tagKey : List ℕ → ℕ → ℕ → List ℕ
-tagKey key f k = blake2s key (tagMessage f k)
+unfoldable pub tagKey : Lock → ℕ → List ℕ
+tagKey lock f = blake2s (lock .key) (tagMessage f (lock .keycount))
 
 -- "Old-secret check: keyed with the old secret, `O`, salt, head epoch (2)."
 unfoldable pub checkOf : List ℕ → List ℕ → ℕ → List ℕ

@@ -7,6 +7,7 @@ use lib.ListN.{take, replicate}
 use Rattle.words.specs.Le.{le}
 use Rattle.words.specs.Xor.{xorl}
 use Rattle.chacha20.specs.ChaCha20.{blockOf, keystream, blocks}
+use Rattle.keys.specs.declared.Lock.{Lock}
 
 -- "nonce of four zero bytes then the keycount"
 unfoldable pub nonceOf : ℕ → List ℕ
@@ -17,12 +18,12 @@ unfoldable pub firstBlock : ℕ → ℕ → ℕ
 firstBlock size f = f * size / 64
 
 -- "F bytes of ChaCha20 keystream"
-unfoldable pub padOf : List ℕ → ℕ → ℕ → ℕ → List ℕ
-padOf key k f size = take size (keystream key (nonceOf k) (firstBlock size f) (blocks size))
+unfoldable pub padOf : Lock → ℕ → ℕ → List ℕ
+padOf lock f size = take size (keystream (lock .key) (nonceOf (lock .keycount)) (firstBlock size f) (blocks size))
 
 -- "Stored flake = contents xor pad."
-abbrev pub under : List ℕ → ℕ → ℕ → ℕ → List ℕ → List ℕ
-under key k f size contents = xorl contents (padOf key k f size)
+abbrev pub under : Lock → ℕ → ℕ → List ℕ → List ℕ
+under lock f size contents = xorl contents (padOf lock f size)
 
 -- "Flake size F: 64 to 4,096, a multiple of 64."
 pub record Size (size : ℕ) : Type 0 where
@@ -35,6 +36,10 @@ pub record Stretch : Type 0 where
   pub keycount : ℕ
   pub flake : ℕ
   pub place : ℕ
+
+-- the one at a place of a lock's pad of flake f
+abbrev pub stretchIn : Lock → ℕ → ℕ → Stretch
+stretchIn lock f j = record { keycount = lock .keycount; flake = f; place = j }
 
 -- the stretches there are
 pub record Lies (size : ℕ) (s : Stretch) : Type 0 where

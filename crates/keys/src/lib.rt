@@ -10,6 +10,13 @@ ghost use Rattle.keys.specs.Keys.{nuggetKey, tagKey, checkOf, sealOf};
 ghost use Rattle.keys.specs.Pads.{nonceOf, firstBlock, padOf, under};
 ghost use Rattle.keys.specs.Tags.{tagOf, tagUnder};
 
+// Under what a nugget's flakes lie: the nugget, its key, its keycount. Pads and tags are functions of it.
+pub struct Lock {
+    pub number: u32,
+    pub key: [u8; 32],
+    pub keycount: u64,
+}
+
 // The hash of a letter and two parts, keyed.
 fn lettered(key: [u8; 32], letter: u8, a: &[u8], b: &[u8]) -> [u8; 32]
     ensures { λ r. ⌜ r ≡ blake2s key (letter ∷ (now (a .entry) ++ now (b .entry))) ⌝ }
@@ -30,13 +37,14 @@ pub fn nugget_key(secret: [u8; 32], salt: [u8; 16], n: u32) -> [u8; 32]
     lettered(secret, b'N', &salt, &number)
 }
 
-pub fn tag_key(key: [u8; 32], f: u32, k: u64) -> [u8; 32]
-    ensures { λ r. ⌜ r ≡ tagKey key f k ⌝ }
+pub fn tag_key(lock: Lock, f: u32) -> [u8; 32]
+    ensures { λ r. ⌜ r ≡ tagKey lock f ⌝ }
 {
+    let key = lock.key;
     let mut flake = [0u8; 2];
     let mut count = [0u8; 8];
     words::store(&mut flake, 0, 2, f as u64);
-    words::store(&mut count, 0, 8, k);
+    words::store(&mut count, 0, 8, lock.keycount);
     lettered(key, b'F', &flake, &count)
 }
 
@@ -71,29 +79,30 @@ fn first_block(size: usize, f: u32) -> u32
 }
 
 // The pad of flake f laid over a lent flake: over contents it makes the stored flake, over that the contents.
-pub fn lay_pad(flake: &mut [u8], key: [u8; 32], k: u64, f: u32)
+pub fn lay_pad(flake: &mut [u8], lock: Lock, f: u32)
     requires { ⌜ (length (now flake) ≤ 4096) × (f < 64) ⌝ }
-    ensures { λ _. ⌜ now (flake .exit) ≡ xorl (now (flake .entry)) (padOf key k f (length (now (flake .entry)))) ⌝ }
+    ensures { λ _. ⌜ now (flake .exit) ≡ xorl (now (flake .entry)) (padOf lock f (length (now (flake .entry)))) ⌝ }
 {
-    let nonce = nonce_of(k);
+    let key = lock.key;
+    let nonce = nonce_of(lock.keycount);
     let first = first_block(flake.len(), f);
     chacha20::lay(flake, key, nonce, first);
 }
 
-pub fn tag_of(stored: &[u8], key: [u8; 32], k: u64, f: u32) -> [u8; 16]
-    ensures { λ r. ⌜ r ≡ tagOf key k f (now (stored .entry)) ⌝ }
+pub fn tag_of(stored: &[u8], lock: Lock, f: u32) -> [u8; 16]
+    ensures { λ r. ⌜ r ≡ tagOf lock f (now (stored .entry)) ⌝ }
 {
-    let t = tag_key(key, f, k);
+    let t = tag_key(lock, f);
     let s = poly1305::start(t);
     let a = poly1305::absorb(s, stored);
     poly1305::finish(a)
 }
 
 // Contents become the stored flake where they lie; the tag is over what is stored.
-pub fn encipher(flake: &mut [u8], key: [u8; 32], k: u64, f: u32) -> [u8; 16]
+pub fn encipher(flake: &mut [u8], lock: Lock, f: u32) -> [u8; 16]
     requires { ⌜ (length (now flake) ≤ 4096) × (f < 64) ⌝ }
-    ensures { λ r. ⌜ (r ≡ tagUnder key k f (now (flake .entry))) × (now (flake .exit) ≡ under key k f (length (now (flake .entry))) (now (flake .entry))) ⌝ }
+    ensures { λ r. ⌜ (r ≡ tagUnder lock f (now (flake .entry))) × (now (flake .exit) ≡ under lock f (length (now (flake .entry))) (now (flake .entry))) ⌝ }
 {
-    lay_pad(&mut *flake, key, k, f);
-    tag_of(flake, key, k, f)
+    lay_pad(&mut *flake, lock, f);
+    tag_of(flake, lock, f)
 }

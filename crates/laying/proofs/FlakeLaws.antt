@@ -23,13 +23,13 @@ use Rattle.records.specs.declared.Record.{Record}
 use Rattle.records.specs.declared.Way.{Way}
 use Rattle.records.specs.Rule.{enciphered, turned}
 use Rattle.records.specs.Listing.{padsOf, padsBy}
-use Rattle.keys.specs.Keys.{nuggetKey}
+use Rattle.keys.specs.declared.Lock.{Lock}
 use Rattle.keys.specs.Pads.{under}
 use Rattle.keys.specs.Tags.{tagOf, tagUnder}
 use Rattle.drive.specs.declared.Drive.{Drive}
 use Rattle.drive.specs.Drive.{shapeOf, zeros}
 use Rattle.nuggets.specs.declared.Nugget.{Nugget}
-use Rattle.nuggets.specs.Nugget.{nuggetOf, contentsIn, contentsOf, storedIn}
+use Rattle.nuggets.specs.Nugget.{lockBy, nuggetOf, contentsIn, contentsOf, storedIn}
 use Rattle.nuggets.proofs.PieceLaws.{length-contents}
 use Rattle.changes.specs.Laid.{over, written, laidFlake, laidEntry, laid}
 use Rattle.changes.specs.Write.{newContents}
@@ -41,28 +41,28 @@ use Rattle.records.specs.Record.{recordOf}
 
 -- a present flake, and an absent one
 module _ (g : Nugget) (f : ℕ) (l : List ℕ) where
-  pub opened-in : {w : List ℕ} → bit (g .journal) f ≡ true → w ≡ under (g .key) (g .keycount) f (length l) l → w ≡ openedFlake g f l
+  pub opened-in : {w : List ℕ} → bit (g .held) f ≡ true → w ≡ under (g .lock) f (length l) l → w ≡ openedFlake g f l
   unfolding openedFlake
   opened-in h e = e ∙ sym (yes _ h refl)
 
-  pub opened-out : {w : List ℕ} → bit (g .journal) f ≡ false → w ≡ zeros (length l) → w ≡ openedFlake g f l
+  pub opened-out : {w : List ℕ} → bit (g .held) f ≡ false → w ≡ zeros (length l) → w ≡ openedFlake g f l
   unfolding openedFlake
   opened-out h e = e ∙ sym (no _ h refl)
 
 length-opened : (g : Nugget) (f : ℕ) (l : List ℕ) → length (openedFlake g f l) ≡ length l
 unfolding openedFlake
 length-opened g f l =
-    ⊎-elim (λ here. rw here (length-under (g .key) (g .keycount) f (length l) l refl)) (λ gone. rw gone (length-replicate (length l) 0)) (told (bit (g .journal) f))
+    ⊎-elim (λ here. rw here (length-under (g .lock) f (length l) l refl)) (λ gone. rw gone (length-replicate (length l) 0)) (told (bit (g .held) f))
 
 -- readied, laid over and enciphered
-pub anew-is : (g : Nugget) (key : List ℕ) (k f start o : ℕ) (bytes l : List ℕ) {a b c t : List ℕ}
+pub anew-is : (g : Nugget) (lock : Lock) (f start o : ℕ) (bytes l : List ℕ) {a b c t : List ℕ}
     → a ≡ readied g f start o (length bytes) l → b ≡ overlaid start o bytes a
-    → t ≡ tagUnder key k f b → c ≡ under key k f (length b) b
-    → (t ≡ tagUnder key k f (anew g f start o bytes l)) × (c ≡ under key k f (length l) (anew g f start o bytes l))
-anew-is g key k f start o bytes l {a} {b} ea eb et ec =
+    → t ≡ tagUnder lock f b → c ≡ under lock f (length b) b
+    → (t ≡ tagUnder lock f (anew g f start o bytes l)) × (c ≡ under lock f (length l) (anew g f start o bytes l))
+anew-is g lock f start o bytes l {a} {b} ea eb et ec =
     let e : b ≡ anew g f start o bytes l = eb ∙ ap (λ (x : List ℕ). overlaid start o bytes x) ea ∙ readied-same g f start o bytes l (length-opened g f l) in
     let long : length b ≡ length l = rw e (length-overlaid start o bytes (openedFlake g f l) ∙ length-opened g f l) in
-    (et ∙ ap (λ (x : List ℕ). tagUnder key k f x) e, ec ∙ rw long (ap (λ (x : List ℕ). under key k f (length l) x) e))
+    (et ∙ ap (λ (x : List ℕ). tagUnder lock f x) e, ec ∙ rw long (ap (λ (x : List ℕ). under lock f (length l) x) e))
 
 -- a flake and its tag lie in the volume, and its offsets below N P F
 module _ (s : Shape) (v : List ℕ) (n f : ℕ) (lent : Lent s v) (a : n < s .n) (b : f < s .p) where
@@ -76,8 +76,8 @@ module _ (s : Shape) (v : List ℕ) (n f : ℕ) (lent : Lent s v) (a : n < s .n)
   offset-room = omega (arith, mul-le-mul-right (s .f) (index-lt s n f a b))
 
 -- the stored bytes opened are the contents
-opened-contents : (s : Shape) (v : List ℕ) (g : Nugget) (f : ℕ) → length (storedIn s v (g .number) f) ≡ s .f
-    → openedFlake g f (storedIn s v (g .number) f) ≡ contentsIn s v g f
+opened-contents : (s : Shape) (v : List ℕ) (g : Nugget) (f : ℕ) → length (storedIn s v (g .lock .number) f) ≡ s .f
+    → openedFlake g f (storedIn s v (g .lock .number) f) ≡ contentsIn s v g f
 unfolding openedFlake contentsIn
 opened-contents s v g f e = rw e
 
@@ -94,37 +94,40 @@ pub length-written : (s : Shape) (o : ℕ) (bytes : List ℕ) (n f : ℕ) (c : L
 unfolding written
 length-written s o bytes n f c = length-tab (s .f) (λ b. over o bytes (offsetAt s n f b) (getD c b 0))
 
-module _ (s : Shape) (v : List ℕ) (g : Nugget) (key : List ℕ) (k f o : ℕ) (bytes : List ℕ) where
+-- a nugget's flake under its new lock
+module _ (s : Shape) (v : List ℕ) (g : Nugget) (lock : Lock) (f o : ℕ) (bytes : List ℕ) (one : g .lock .number ≡ lock .number) where
   abbrev new : List ℕ
-  new = written s o bytes (g .number) f (contentsIn s v g f)
+  new = written s o bytes (lock .number) f (contentsIn s v g f)
 
   -- the flake as it stood, laid anew, is the new contents
-  anew-written : Lent s v → g .number < s .n → f < s .p → (at start : ℕ) → at ≡ flakeAt s (g .number) f → start ≡ offsetAt s (g .number) f 0
+  anew-written : Lent s v → lock .number < s .n → f < s .p → (at start : ℕ) → at ≡ flakeAt s (lock .number) f → start ≡ offsetAt s (lock .number) f 0
       → anew g f start o bytes (midOf at (at + s .f - at) v) ≡ new
   anew-written lent a b at start p q =
-      let room = flake-room s v (g .number) f lent a b in
+      let room = flake-room s v (lock .number) f lent a b in
       let size : at + s .f - at ≡ s .f = omega arith in
+      let stored : length (storedIn s v (lock .number) f) ≡ s .f = length-part (flakeAt s (lock .number) f) (s .f) v room in
+      let opened : openedFlake g f (storedIn s v (lock .number) f) ≡ contentsIn s v g f = rw (← one) (opened-contents s v g f (rw one stored)) in
       rw (size, p, q)
-      (ap (λ (x : List ℕ). overlaid (offsetAt s (g .number) f 0) o bytes x) (opened-contents s v g f (length-part (flakeAt s (g .number) f) (s .f) v room))
-      ∙ overlaid-written s o bytes (g .number) f (contentsIn s v g f) (length-contents s v g f lent a b))
+      (ap (λ (x : List ℕ). overlaid (offsetAt s (lock .number) f 0) o bytes x) opened
+      ∙ overlaid-written s o bytes (lock .number) f (contentsIn s v g f) (length-contents s v g f lent (rw one a) b))
 
   -- the lent flake, and then its tag
-  pub flake-laid : Lent s v → g .number < s .n → f < s .p → (at start tag : ℕ) {z t w : List ℕ}
-      → at ≡ flakeAt s (g .number) f → start ≡ offsetAt s (g .number) f 0 → tag ≡ tagAt s (g .number) f
-      → z ≡ under key k f (length (midOf at (at + s .f - at) v)) (anew g f start o bytes (midOf at (at + s .f - at) v))
-      → t ≡ tagUnder key k f (anew g f start o bytes (midOf at (at + s .f - at) v))
-      → w ≡ sets (putMid at (at + s .f - at) v z) tag t → w ≡ laidFlake s (g .number) f key k new v
+  pub flake-laid : Lent s v → lock .number < s .n → f < s .p → (at start tag : ℕ) {z t w : List ℕ}
+      → at ≡ flakeAt s (lock .number) f → start ≡ offsetAt s (lock .number) f 0 → tag ≡ tagAt s (lock .number) f
+      → z ≡ under lock f (length (midOf at (at + s .f - at) v)) (anew g f start o bytes (midOf at (at + s .f - at) v))
+      → t ≡ tagUnder lock f (anew g f start o bytes (midOf at (at + s .f - at) v))
+      → w ≡ sets (putMid at (at + s .f - at) v z) tag t → w ≡ laidFlake s lock f new v
   unfolding laidFlake tagUnder
   flake-laid lent a b at start tag {z} {t} p q r ez et ew =
       let m = midOf at (at + s .f - at) v in
-      let room : at + s .f ≤ length v = rw p (flake-room s v (g .number) f lent a b) in
+      let room : at + s .f ≤ length v = rw p (flake-room s v (lock .number) f lent a b) in
       let size : at + s .f - at ≡ s .f = omega arith in
       let long : length m ≡ s .f = rw size (length-part at (s .f) v room) in
-      let wide : length new ≡ s .f = length-written s o bytes (g .number) f (contentsIn s v g f) in
+      let wide : length new ≡ s .f = length-written s o bytes (lock .number) f (contentsIn s v g f) in
       let fresh : anew g f start o bytes m ≡ new = anew-written lent a b at start p q in
-      let stored : z ≡ under key k f (s .f) new = ez ∙ rw (long, fresh) in
-      let tagged : t ≡ tagOf key k f (under key k f (s .f) new) = et ∙ rw (fresh, wide) in
-      let full : length z ≡ s .f = rw stored (length-under key k f (s .f) new wide) in
+      let stored : z ≡ under lock f (s .f) new = ez ∙ rw (long, fresh) in
+      let tagged : t ≡ tagOf lock f (under lock f (s .f) new) = et ∙ rw (fresh, wide) in
+      let full : length z ≡ s .f = rw stored (length-under lock f (s .f) new wide) in
       let put : putMid at (at + s .f - at) v z ≡ sets v at z = rw size (back at (s .f) v z room full) in
       ew ∙ rw (put, stored, tagged, p, r)
 
@@ -135,7 +138,7 @@ module _ (s : Shape) (salt : List ℕ) (fresh : ℕ → ℕ → List ℕ) (n k :
   none-laid = refl
 
   pub one-laid : (f : ℕ) {w z : List ℕ} → w ≡ laid s salt fresh (padsOf n k secret has f) v → has f ≡ true
-      → z ≡ laidFlake s n f (nuggetKey secret salt n) k (fresh n f) w → z ≡ laid s salt fresh (padsOf n k secret has (f + 1)) v
+      → z ≡ laidFlake s (lockBy s salt secret n k) f (fresh n f) w → z ≡ laid s salt fresh (padsOf n k secret has (f + 1)) v
   unfolding padsOf laid laidEntry
   one-laid f ew h ez = ez ∙ rw (ew, add-one f, h) (sym (laid-append s salt fresh (padsOf n k secret has f) _ v))
 
@@ -145,7 +148,7 @@ module _ (s : Shape) (salt : List ℕ) (fresh : ℕ → ℕ → List ℕ) (n k :
 
   -- a flake not laid yet still has its contents
   pub still-there : Long s fresh → n < s .n → (f : ℕ) → f < s .p → {w : List ℕ} → w ≡ laid s salt fresh (padsOf n k secret has f) v
-      → (g : Nugget) → g .number ≡ n → contentsIn s w g f ≡ contentsIn s v g f
+      → (g : Nugget) → g .lock .number ≡ n → contentsIn s w g f ≡ contentsIn s v g f
   unfolding contentsIn
   still-there long a f b {w} ew g e =
       let stored : storedIn s w n f ≡ storedIn s v n f = rw ew (laid-stored s salt fresh long n f a b (padsOf n k secret has f) v (before-far s n f a b k secret has)) in
@@ -164,17 +167,18 @@ module _ (d : Drive) (v : List ℕ) (n k mask o : ℕ) (bytes : List ℕ) where
   turn-length f e = rw e (length-laid (shapeOf d) (d .salt) (newContents d v o bytes) (padsOf n k (d .present) (bit mask) f) v)
 
   -- what laying the next flake asks
-  pub turn-asks : Lent (shapeOf d) v → n < d .n → o + length bytes ≤ capacity (shapeOf d) → (f : ℕ) → f < d .p → {s : Shape} {g : Nugget} {w : List ℕ}
-      → s ≡ shapeOf d → g ≡ nuggetOf d v n → Upto f w → Lent s w × (g .number < s .n) × (f < s .p) × (o + length bytes ≤ capacity s)
-  turn-asks lent a room f b es eg e = rw (es, eg) (record { limited = lent .limited; size = turn-length f e ∙ lent .size }, a, b, room)
+  pub turn-asks : Lent (shapeOf d) v → n < d .n → o + length bytes ≤ capacity (shapeOf d) → (f : ℕ) → f < d .p → {s : Shape} {g : Nugget} {lock : Lock} {w : List ℕ}
+      → s ≡ shapeOf d → g ≡ nuggetOf d v n → lock ≡ lockBy s (d .salt) (d .present) n k → Upto f w
+      → Lent s w × (lock .number < s .n) × (f < s .p) × (o + length bytes ≤ capacity s) × (g .lock .number ≡ lock .number)
+  turn-asks lent a room f b es eg el e = rw (el, es, eg) (record { limited = lent .limited; size = turn-length f e ∙ lent .size }, a, b, room, refl)
 
-  pub turn-in : n < d .n → (f : ℕ) → f < d .p → {s : Shape} {g : Nugget} {key w z : List ℕ} → s ≡ shapeOf d → g ≡ nuggetOf d v n
-      → key ≡ nuggetKey (d .present) (d .salt) n → Upto f w → bit mask f ≡ true
-      → z ≡ laidFlake s (g .number) f key k (written s o bytes (g .number) f (contentsIn s w g f)) w → Upto (f + 1) z
-  turn-in a f b {w = w} es eg ek e h ez =
+  pub turn-in : n < d .n → (f : ℕ) → f < d .p → {s : Shape} {g : Nugget} {lock : Lock} {w z : List ℕ} → s ≡ shapeOf d → g ≡ nuggetOf d v n
+      → lock ≡ lockBy s (d .salt) (d .present) n k → Upto f w → bit mask f ≡ true
+      → z ≡ laidFlake s lock f (written s o bytes (lock .number) f (contentsIn s w g f)) w → Upto (f + 1) z
+  turn-in a f b {w = w} es eg el e h ez =
       let still = still-there (shapeOf d) (d .salt) (newContents d v o bytes) n k (d .present) (bit mask) v long-new a f b e (nuggetOf d v n) refl in
       one-laid (shapeOf d) (d .salt) (newContents d v o bytes) n k (d .present) (bit mask) v f e h
-      (ez ∙ rw (es, eg, ek) (ap (λ (x : List ℕ). laidFlake (shapeOf d) n f (nuggetKey (d .present) (d .salt) n) k (written (shapeOf d) o bytes n f x) w) still))
+      (ez ∙ rw (el, es, eg) (ap (λ (x : List ℕ). laidFlake (shapeOf d) (lockBy (shapeOf d) (d .salt) (d .present) n k) f (written (shapeOf d) o bytes n f x) w) still))
 
 -- by the way of the nugget: the flakes that it enciphers, under the keycount after it
 pub lay-is : (d : Drive) (v : List ℕ) (n : ℕ) (way : Way) (o : ℕ) (bytes : List ℕ) {r after : Record} {mask : ℕ} {w : List ℕ} → r ≡ recordOf (shapeOf d) v n

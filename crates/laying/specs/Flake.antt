@@ -14,7 +14,7 @@ use Rattle.changes.specs.Laid.{over}
 
 -- what the stored bytes of flake f read as: "Absent flakes give zeros."
 unfoldable pub openedFlake : Nugget → ℕ → List ℕ → List ℕ
-openedFlake g f l = pick (bit (g .journal) f) (under (g .key) (g .keycount) f (length l) l) (zeros (length l))
+openedFlake g f l = pick (bit (g .held) f) (under (g .lock) f (length l) l) (zeros (length l))
 
 -- the written bytes reach from the flake's first byte to its last
 unfoldable pub coveredBy : ℕ → ℕ → ℕ → ℕ → Bool

@@ -1,4 +1,5 @@
 use drive::Drive;
+use keys::Lock;
 use layout::Shape;
 use nuggets::Nugget;
 ghost use mathlib.Core.Path.{_≡_};
@@ -21,9 +22,9 @@ fn open_flake(flake: &mut [u8], g: Nugget, f: u32)
     requires { ⌜ (length (now flake) ≤ 4096) × (f < 64) ⌝ }
     ensures { λ _. ⌜ now (flake .exit) ≡ openedFlake g f (now (flake .entry)) ⌝ }
 {
-    if records::has(g.journal, f) {
-        let key = g.key;
-        keys::lay_pad(&mut *flake, key, g.keycount, f);
+    if records::has(g.held, f) {
+        let lock = g.lock;
+        keys::lay_pad(&mut *flake, lock, f);
     } else {
         words::clear(&mut *flake);
     }
@@ -75,42 +76,32 @@ fn ready(flake: &mut [u8], g: Nugget, f: u32, start: usize, o: usize, len: usize
 fn lay_anew(
     flake: &mut [u8],
     g: Nugget,
-    key: [u8; 32],
-    k: u64,
+    lock: Lock,
     f: u32,
     start: usize,
     o: usize,
     bytes: &[u8],
 ) -> [u8; 16]
     requires { ⌜ (length (now flake) ≤ 4096) × (f < 64) × (start + length (now flake) < 2 ^ 64) × (o + length (now bytes) < 2 ^ 64) ⌝ }
-    ensures { λ r. ⌜ (r ≡ tagUnder key k f (anew g f start o (now (bytes .entry)) (now (flake .entry))))
-        × (now (flake .exit) ≡ under key k f (length (now (flake .entry))) (anew g f start o (now (bytes .entry)) (now (flake .entry)))) ⌝ }
+    ensures { λ r. ⌜ (r ≡ tagUnder lock f (anew g f start o (now (bytes .entry)) (now (flake .entry))))
+        × (now (flake .exit) ≡ under lock f (length (now (flake .entry))) (anew g f start o (now (bytes .entry)) (now (flake .entry)))) ⌝ }
 {
     ready(&mut *flake, g, f, start, o, bytes.len());
     overlay(&mut *flake, start, o, bytes);
-    keys::encipher(&mut *flake, key, k, f)
+    keys::encipher(&mut *flake, lock, f)
 }
 
 // Flake f and its tag, in the volume.
-fn lay_flake(
-    vol: &mut [u8],
-    s: Shape,
-    g: Nugget,
-    key: [u8; 32],
-    k: u64,
-    f: u32,
-    o: usize,
-    bytes: &[u8],
-)
-    requires { ⌜ Lent s (now vol) × (g .number < s .n) × (f < s .p) × (o + length (now bytes) ≤ capacity s) ⌝ }
-    ensures { λ _. ⌜ now (vol .exit) ≡ laidFlake s (g .number) f key k
-        (written s o (now (bytes .entry)) (g .number) f (contentsIn s (now (vol .entry)) g f)) (now (vol .entry)) ⌝ }
+fn lay_flake(vol: &mut [u8], s: Shape, g: Nugget, lock: Lock, f: u32, o: usize, bytes: &[u8])
+    requires { ⌜ Lent s (now vol) × (lock .number < s .n) × (f < s .p) × (o + length (now bytes) ≤ capacity s) × (g .lock .number ≡ lock .number) ⌝ }
+    ensures { λ _. ⌜ now (vol .exit) ≡ laidFlake s lock f
+        (written s o (now (bytes .entry)) (lock .number) f (contentsIn s (now (vol .entry)) g f)) (now (vol .entry)) ⌝ }
 {
-    let at = layout::flake_at(s, g.number, f);
+    let at = layout::flake_at(s, lock.number, f);
     let end = at + (s.f as usize);
-    let start = layout::offset_of(s, g.number, f, 0);
-    let tag_at = layout::tag_at(s, g.number, f);
-    let tag = lay_anew(&mut vol[at..end], g, key, k, f, start, o, bytes);
+    let start = layout::offset_of(s, lock.number, f, 0);
+    let tag_at = layout::tag_at(s, lock.number, f);
+    let tag = lay_anew(&mut vol[at..end], g, lock, f, start, o, bytes);
     words::copy(&mut *vol, tag_at, &tag);
 }
 
@@ -124,11 +115,11 @@ pub fn lay_flakes(d: Drive, vol: &mut [u8], n: u32, k: u64, mask: u64, o: usize,
     let g = nuggets::nugget_of(d, vol, n);
     let present = d.present;
     let salt = d.salt;
-    let key = keys::nugget_key(present, salt, n);
+    let lock = nuggets::lock_by(s, salt, present, n, k);
     let mut f = 0;
     while f < d.p {
         if records::has(mask, f) {
-            lay_flake(&mut *vol, s, g, key, k, f, o, bytes);
+            lay_flake(&mut *vol, s, g, lock, f, o, bytes);
         }
         f += 1;
     }

@@ -7,6 +7,9 @@ use Rattle.nuggets.proofs as fn
 pub secret-for : OneOutcome fn.secret_for.ended fn.secret_for.Reads.Post
 secret-for κs a x y u v p q = (agree p q, refl)
 
+pub lock-by : OneOutcome fn.lock_by.ended fn.lock_by.Reads.Post
+lock-by κs a x y u v p q = (agree p q, refl)
+
 pub nugget-of : OneOutcome fn.nugget_of.ended fn.nugget_of.Reads.Post
 nugget-of κs a x y u v p q = (agree p q, refl)
 

@@ -24,6 +24,7 @@ use Rattle.layout.specs.declared.Shape.{Shape}
 use Rattle.layout.specs.Parts.{flakeAt}
 use Rattle.layout.proofs.Places.{flake-inside}
 use Rattle.records.specs.Journal.{bit}
+use Rattle.keys.specs.declared.Lock.{Lock}
 use Rattle.keys.specs.Pads.{nonceOf, firstBlock, padOf}
 use Rattle.keys.proofs.PadLaws.{length-under}
 use Rattle.drive.specs.Drive.{zeros}
@@ -111,44 +112,46 @@ module _ (key nonce : List ℕ) (c : ℕ) where
       ∙ rw none-behind (ap (λ (x : List ℕ). z ++ x) (append-nil w) ∙ rw (here, first) (stream-parts d skip n h l e)))
 
 -- the pad from byte b on is the keystream from byte b % 64 of block b / 64 on
-pub pad-from : (key : List ℕ) (k f size b : ℕ) (d : List ℕ) → b + length d ≤ size → firstBlock size f + b / 64 < 2 ^ 20
-    → xorl d (drop (b % 64) (keystream key (nonceOf k) (firstBlock size f + b / 64) (blocks (b % 64 + length d)))) ≡ xorl d (drop b (padOf key k f size))
+pub pad-from : (lock : Lock) (f size b : ℕ) (d : List ℕ) → b + length d ≤ size → firstBlock size f + b / 64 < 2 ^ 20
+    → xorl d (drop (b % 64) (keystream (lock .key) (nonceOf (lock .keycount)) (firstBlock size f + b / 64) (blocks (b % 64 + length d)))) ≡ xorl d (drop b (padOf lock f size))
 unfolding padOf
-pad-from key k f size b d h l =
+pad-from lock f size b d h l =
+    let key = lock .key in
+    let nonce = nonceOf (lock .keycount) in
     let first = firstBlock size f in
     let m = blocks (b % 64 + length d) in
     xorl-ext d _ _ (λ i q.
     let place : 64 * (b / 64) + (b % 64 + i) ≡ b + i = omega arith in
     getD-drop (b % 64) _ i 0
-    ∙ sym (stream-on key (nonceOf k) first (b / 64) m (b % 64 + i) (omega (arith, l)))
-    ∙ ap (λ (x : ℕ). getD (keystream key (nonceOf k) first (b / 64 + m)) x 0) place
-    ∙ stream-at key (nonceOf k) first (b / 64 + m) (blocks size) (b + i) (omega (arith, q)) (omega (arith, q, h))
+    ∙ sym (stream-on key nonce first (b / 64) m (b % 64 + i) (omega (arith, l)))
+    ∙ ap (λ (x : ℕ). getD (keystream key nonce first (b / 64 + m)) x 0) place
+    ∙ stream-at key nonce first (b / 64 + m) (blocks size) (b + i) (omega (arith, q)) (omega (arith, q, h))
     ∙ sym (getD-drop b _ i 0 ∙ getD-take size _ (b + i) 0 (omega (arith, q, h))))
 
-pub length-contents : (s : Shape) (v : List ℕ) (g : Nugget) (f : ℕ) → Lent s v → g .number < s .n → f < s .p → length (contentsIn s v g f) ≡ s .f
+pub length-contents : (s : Shape) (v : List ℕ) (g : Nugget) (f : ℕ) → Lent s v → g .lock .number < s .n → f < s .p → length (contentsIn s v g f) ≡ s .f
 unfolding contentsIn
 length-contents s v g f lent a b =
-    let room : flakeAt s (g .number) f + s .f ≤ length v = rw (lent .size) (flake-inside s (g .number) f a b) in
+    let room : flakeAt s (g .lock .number) f + s .f ≤ length v = rw (lent .size) (flake-inside s (g .lock .number) f a b) in
     ⊎-elim
-    (λ here. rw here (length-under (g .key) (g .keycount) f (s .f) (storedIn s v (g .number) f) ∙ length-part (flakeAt s (g .number) f) (s .f) v room))
+    (λ here. rw here (length-under (g .lock) f (s .f) (storedIn s v (g .lock .number) f) ∙ length-part (flakeAt s (g .lock .number) f) (s .f) v room))
     (λ gone. rw gone (length-replicate (s .f) 0))
-    (told (bit (g .journal) f))
+    (told (bit (g .held) f))
 
 module _ (s : Shape) (v : List ℕ) (g : Nugget) (f b n : ℕ) where
   -- the stored bytes of a piece with the pad's laid over them
-  pub piece-present : Lent s v → g .number < s .n → f < s .p → b + n ≤ s .f → bit (g .journal) f ≡ true
-      → xorl (part (flakeAt s (g .number) f + b) n v) (drop b (padOf (g .key) (g .keycount) f (s .f))) ≡ part b n (contentsIn s v g f)
+  pub piece-present : Lent s v → g .lock .number < s .n → f < s .p → b + n ≤ s .f → bit (g .held) f ≡ true
+      → xorl (part (flakeAt s (g .lock .number) f + b) n v) (drop b (padOf (g .lock) f (s .f))) ≡ part b n (contentsIn s v g f)
   unfolding contentsIn
   piece-present lent p q h here =
-      let at = flakeAt s (g .number) f in
-      let room : at + s .f ≤ length v = rw (lent .size) (flake-inside s (g .number) f p q) in
-      let long : length (storedIn s v (g .number) f) ≡ s .f = length-part at (s .f) v room in
-      let pad = padOf (g .key) (g .keycount) f (s .f) in
+      let at = flakeAt s (g .lock .number) f in
+      let room : at + s .f ≤ length v = rw (lent .size) (flake-inside s (g .lock .number) f p q) in
+      let long : length (storedIn s v (g .lock .number) f) ≡ s .f = length-part at (s .f) v room in
+      let pad = padOf (g .lock) f (s .f) in
       rw here
       (ap (λ (x : List ℕ). xorl x (drop b pad)) (sym (part-part b n at (s .f) v h))
-      ∙ sym (xorl-part b n (storedIn s v (g .number) f) pad (rw long h)))
+      ∙ sym (xorl-part b n (storedIn s v (g .lock .number) f) pad (rw long h)))
 
-  pub piece-absent : b + n ≤ s .f → bit (g .journal) f ≡ false → zeros n ≡ part b n (contentsIn s v g f)
+  pub piece-absent : b + n ≤ s .f → bit (g .held) f ≡ false → zeros n ≡ part b n (contentsIn s v g f)
   unfolding contentsIn
   piece-absent h gone =
       let whole : length (zeros (s .f)) ≡ s .f = length-replicate (s .f) 0 in

@@ -17,18 +17,18 @@ use Rattle.answers.specs.Numbers.{accepts}
 use Rattle.records.specs.declared.Record.{Record}
 use Rattle.records.specs.Journal.{bit}
 use Rattle.keys.specs.Tags.{tagOf}
-use Rattle.keys.specs.Keys.{nuggetKey}
+use Rattle.keys.specs.declared.Lock.{Lock}
 use Rattle.drive.specs.declared.Drive.{Drive}
 use Rattle.drive.specs.Drive.{shapeOf}
 use Rattle.nuggets.specs.declared.Nugget.{Nugget}
-use Rattle.nuggets.specs.Nugget.{secretFor, keyFor, nuggetOf}
+use Rattle.nuggets.specs.Nugget.{secretFor, lockBy, nuggetOf}
 use Rattle.nuggets.specs.Tests.{goodFlake, passes, flakesUp, flakesIn, pathFor, nuggetRead}
 use Rattle.records.specs.Record.{recordOf}
 
 module _ (s : Shape) (v : List ℕ) (g : Nugget) where
   -- the tag compared with the one that the bytes at these places give
   pub good-is : (f at tag : ℕ) {made : List ℕ} {r : Bool} → r ≡ same (part tag (tag + 16 - tag) v) made
-      → made ≡ tagOf (g .key) (g .keycount) f (part at (at + s .f - at) v) → at ≡ flakeAt s (g .number) f → tag ≡ tagAt s (g .number) f → r ≡ goodFlake s v g f
+      → made ≡ tagOf (g .lock) f (part at (at + s .f - at) v) → at ≡ flakeAt s (g .lock .number) f → tag ≡ tagAt s (g .lock .number) f → r ≡ goodFlake s v g f
   unfolding goodFlake
   good-is f at tag e m p q =
       let a : at + s .f - at ≡ s .f = omega arith in
@@ -48,7 +48,7 @@ module _ (s : Shape) (v : List ℕ) (g : Nugget) where
     unfolding flakesUp
     up-on p f h e = let k : p - f ≡ suc (p - (f + 1)) = omega arith in rw (k, add-one f) (sym (yes _ e refl))
 
-    pub up-off : (p f : ℕ) → f < p → passes s v g mask f ≡ false → A.Altered (P.Flake (g .number) f) ≡ flakesUp s v g mask (p - f) f
+    pub up-off : (p f : ℕ) → f < p → passes s v g mask f ≡ false → A.Altered (P.Flake (g .lock .number) f) ≡ flakesUp s v g mask (p - f) f
     unfolding flakesUp
     up-off p f h e = let k : p - f ≡ suc (p - (f + 1)) = omega arith in rw k (sym (no _ e refl))
 
@@ -61,18 +61,17 @@ module _ (s : Shape) (v : List ℕ) (g : Nugget) where
     up-start = let k : s .p - 0 ≡ s .p = omega arith in rw k
 
 module _ (d : Drive) (v : List ℕ) (n : ℕ) where
-  pub nugget-is : {r : Record} {secret key : List ℕ} → r ≡ recordOf (shapeOf d) v n → secret ≡ secretFor d (r .epoch) → key ≡ nuggetKey secret (d .salt) n
-      → record { number = n; key = key; keycount = r .keycount; journal = r .held } ≡ nuggetOf d v n
-  unfolding keyFor
-  nugget-is er es ek = rw (ek, es, er) refl
+  pub nugget-is : {s : Shape} {r : Record} {secret : List ℕ} {lock : Lock} → s ≡ shapeOf d → r ≡ recordOf s v n → secret ≡ secretFor d (r .epoch)
+      → lock ≡ lockBy s (d .salt) secret n (r .keycount) → record { lock = lock; held = r .held } ≡ nuggetOf d v n
+  nugget-is eh er es el = rw (el, es, er, eh) refl
 
   pub read-on : (touched : ℕ) {a r : Answer} {s : Shape} {g : Nugget} → a ≡ pathFor d v n → accepts a ≡ true → s ≡ shapeOf d → g ≡ nuggetOf d v n
-      → r ≡ flakesIn s v g (bitAnd (g .journal) touched) → r ≡ nuggetRead d v n touched
+      → r ≡ flakesIn s v g (bitAnd (g .held) touched) → r ≡ nuggetRead d v n touched
   unfolding nuggetRead
   read-on touched {g = g} e h es eg er =
       er
-      ∙ ap (λ (x : Shape). flakesIn x v g (bitAnd (g .journal) touched)) es
-      ∙ ap (λ (x : Nugget). flakesIn (shapeOf d) v x (bitAnd (x .journal) touched)) eg
+      ∙ ap (λ (x : Shape). flakesIn x v g (bitAnd (g .held) touched)) es
+      ∙ ap (λ (x : Nugget). flakesIn (shapeOf d) v x (bitAnd (x .held) touched)) eg
       ∙ sym (yes _ (ap accepts (sym e) ∙ h) refl)
 
   pub read-off : (touched : ℕ) {a : Answer} → a ≡ pathFor d v n → accepts a ≡ false → a ≡ nuggetRead d v n touched

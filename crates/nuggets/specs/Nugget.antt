@@ -9,6 +9,8 @@ use Rattle.layout.specs.declared.Shape.{Shape}
 use Rattle.layout.specs.Parts.{flakeAt}
 use Rattle.layout.specs.Spots.{spotAt}
 use Rattle.records.specs.Journal.{bit}
+use Rattle.records.specs.Listing.{Entry}
+use Rattle.keys.specs.declared.Lock.{Lock}
 use Rattle.keys.specs.Keys.{nuggetKey}
 use Rattle.keys.specs.Pads.{under}
 use Rattle.drive.specs.declared.Drive.{Drive}
@@ -20,12 +22,20 @@ use Rattle.records.specs.Record.{recordOf}
 unfoldable pub secretFor : Drive → ℕ → List ℕ
 secretFor d e = pick (eqb e (d .epoch)) (d .present) (d .old)
 
--- "Nugget key: keyed with the nugget's secret, `N`, salt, nugget (4 bytes)."
-unfoldable pub keyFor : Drive → List ℕ → ℕ → List ℕ
-keyFor d v n = nuggetKey (secretFor d (recordOf (shapeOf d) v n .epoch)) (d .salt) n
+-- under what the flakes of nugget n lie at keycount k: "Nugget key: keyed with the nugget's secret, `N`, salt, nugget (4 bytes)."
+abbrev pub lockBy : Shape → List ℕ → List ℕ → ℕ → ℕ → Lock
+lockBy s salt secret n k = record { number = n; key = nuggetKey secret salt n; keycount = k }
+
+-- the lock of an enciphering
+abbrev pub lockOf : Shape → List ℕ → Entry → Lock
+lockOf s salt e = lockBy s salt (e .secret) (e .nugget) (e .keycount)
+
+-- the lock of a nugget by its record
+abbrev pub lockFor : Drive → List ℕ → ℕ → Lock
+lockFor d v n = let r = recordOf (shapeOf d) v n in lockBy (shapeOf d) (d .salt) (secretFor d (r .epoch)) n (r .keycount)
 
 abbrev pub nuggetOf : Drive → List ℕ → ℕ → Nugget
-nuggetOf d v n = record { number = n; key = keyFor d v n; keycount = recordOf (shapeOf d) v n .keycount; journal = recordOf (shapeOf d) v n .held }
+nuggetOf d v n = record { lock = lockFor d v n; held = recordOf (shapeOf d) v n .held }
 
 -- the F bytes that stand for a flake in the volume
 abbrev pub storedIn : Shape → List ℕ → ℕ → ℕ → List ℕ
@@ -33,7 +43,7 @@ storedIn s v n f = part (flakeAt s n f) (s .f) v
 
 -- what a flake reads as: "Stored flake = contents xor pad."; "Absent flakes give zeros."
 unfoldable pub contentsIn : Shape → List ℕ → Nugget → ℕ → List ℕ
-contentsIn s v g f = pick (bit (g .journal) f) (under (g .key) (g .keycount) f (s .f) (storedIn s v (g .number) f)) (zeros (s .f))
+contentsIn s v g f = pick (bit (g .held) f) (under (g .lock) f (s .f) (storedIn s v (g .lock .number) f)) (zeros (s .f))
 
 abbrev pub contentsOf : Drive → List ℕ → ℕ → ℕ → List ℕ
 contentsOf d v n f = contentsIn (shapeOf d) v (nuggetOf d v n) f

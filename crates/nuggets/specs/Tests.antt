@@ -22,7 +22,7 @@ use Rattle.nuggets.specs.Nugget.{nuggetOf, storedIn}
 
 -- "Tag = Poly1305 under the tag key over the stored flake."
 unfoldable pub goodFlake : Shape → List ℕ → Nugget → ℕ → Bool
-goodFlake s v g f = same (part (tagAt s (g .number) f) 16 v) (tagOf (g .key) (g .keycount) f (storedIn s v (g .number) f))
+goodFlake s v g f = same (part (tagAt s (g .lock .number) f) 16 v) (tagOf (g .lock) f (storedIn s v (g .lock .number) f))
 
 abbrev pub flakeGood : Drive → List ℕ → ℕ → ℕ → Bool
 flakeGood d v n f = goodFlake (shapeOf d) v (nuggetOf d v n) f
@@ -34,7 +34,7 @@ passes s v g mask f = pick (bit mask f) (goodFlake s v g f) true
 -- "flakes, ascending": the k flakes from f on
 unfoldable pub flakesUp : Shape → List ℕ → Nugget → ℕ → ℕ → ℕ → Answer
 flakesUp s v g mask zero f = A.Accepted
-flakesUp s v g mask (suc k) f = pick (passes s v g mask f) (flakesUp s v g mask k (suc f)) (A.Altered (P.Flake (g .number) f))
+flakesUp s v g mask (suc k) f = pick (passes s v g mask f) (flakesUp s v g mask k (suc f)) (A.Altered (P.Flake (g .lock .number) f))
 
 -- the first flake of the set whose tag differs
 unfoldable pub flakesIn : Shape → List ℕ → Nugget → ℕ → Answer

@@ -3,6 +3,7 @@
 use answers::Answer;
 use answers::Place;
 use drive::Drive;
+use keys::Lock;
 use layout::Shape;
 ghost use mathlib.Core.Path.{_≡_};
 ghost use mathlib.Core.Bool.{true};
@@ -15,17 +16,15 @@ ghost use Rattle.layout.specs.Shape.{inLimits};
 ghost use Rattle.layout.specs.Spots.{capacity};
 ghost use Rattle.keys.specs.Pads.{firstBlock, padOf, Size};
 ghost use Rattle.drive.specs.Drive.{shapeOf};
-ghost use Rattle.nuggets.specs.Nugget.{secretFor, nuggetOf, contentsIn};
+ghost use Rattle.nuggets.specs.Nugget.{secretFor, lockBy, nuggetOf, contentsIn};
 ghost use Rattle.nuggets.specs.Tests.{goodFlake, passes, flakesIn, pathFor, nuggetRead};
 ghost use Rattle.nuggets.specs.Touched.{touchedOf, spanOf, fitsIn};
 ghost use Rattle.layout.specs.Lent.{Lent};
 
 // What the tests and the contents of one nugget rest on.
 pub struct Nugget {
-    pub number: u32,
-    pub key: [u8; 32],
-    pub keycount: u64,
-    pub journal: u64,
+    pub lock: Lock,
+    pub held: u64,
 }
 
 // The nuggets from the first up to the end.
@@ -46,40 +45,51 @@ pub fn secret_for(d: Drive, epoch: u16) -> [u8; 32]
     old
 }
 
-// The key is made once for all flakes of the nugget.
+// "Nugget key: keyed with the nugget's secret, `N`, salt, nugget": made once for all flakes of the nugget.
+pub fn lock_by(s: Shape, salt: [u8; 16], secret: [u8; 32], n: u32, k: u64) -> Lock
+    ensures { λ r. ⌜ r ≡ lockBy s salt secret n k ⌝ }
+{
+    let key = keys::nugget_key(secret, salt, n);
+    Lock {
+        number: n,
+        key: key,
+        keycount: k,
+    }
+}
+
+// The nugget as its record says.
 pub fn nugget_of(d: Drive, vol: &[u8], n: u32) -> Nugget
     requires { ⌜ Lent (shapeOf d) (now vol) × (n < d .n) ⌝ }
     ensures { λ r. ⌜ r ≡ nuggetOf d (now (vol .entry)) n ⌝ }
 {
-    let r = records::read(vol, drive::shape_of(d), n);
+    let s = drive::shape_of(d);
+    let r = records::read(vol, s, n);
     let secret = secret_for(d, r.epoch);
     let salt = d.salt;
-    let key = keys::nugget_key(secret, salt, n);
+    let lock = lock_by(s, salt, secret, n, r.keycount);
     Nugget {
-        number: n,
-        key: key,
-        keycount: r.keycount,
-        journal: r.held,
+        lock: lock,
+        held: r.held,
     }
 }
 
 // "Tag = Poly1305 under the tag key over the stored flake."
 fn flake_good(vol: &[u8], s: Shape, g: Nugget, f: u32) -> bool
-    requires { ⌜ Lent s (now vol) × (g .number < s .n) × (f < s .p) ⌝ }
+    requires { ⌜ Lent s (now vol) × (g .lock .number < s .n) × (f < s .p) ⌝ }
     ensures { λ r. ⌜ r ≡ goodFlake s (now (vol .entry)) g f ⌝ }
 {
-    let key = g.key;
-    let at = layout::flake_at(s, g.number, f);
+    let lock = g.lock;
+    let at = layout::flake_at(s, lock.number, f);
     let end = at + (s.f as usize);
-    let tag = layout::tag_at(s, g.number, f);
+    let tag = layout::tag_at(s, lock.number, f);
     let tag_end = tag + 16;
-    let made = keys::tag_of(&vol[at..end], key, g.keycount, f);
+    let made = keys::tag_of(&vol[at..end], lock, f);
     words::equal(&vol[tag..tag_end], &made)
 }
 
 // A flake outside the set isn't looked at.
 fn flake_passes(vol: &[u8], s: Shape, g: Nugget, mask: u64, f: u32) -> bool
-    requires { ⌜ Lent s (now vol) × (g .number < s .n) × (f < s .p) ⌝ }
+    requires { ⌜ Lent s (now vol) × (g .lock .number < s .n) × (f < s .p) ⌝ }
     ensures { λ r. ⌜ r ≡ passes s (now (vol .entry)) g mask f ⌝ }
 {
     if records::has(mask, f) {
@@ -91,11 +101,11 @@ fn flake_passes(vol: &[u8], s: Shape, g: Nugget, mask: u64, f: u32) -> bool
 
 // "flakes, ascending": the first of the set whose tag differs.
 pub fn flakes(vol: &[u8], s: Shape, g: Nugget, mask: u64) -> Answer
-    requires { ⌜ Lent s (now vol) × (g .number < s .n) ⌝ }
+    requires { ⌜ Lent s (now vol) × (g .lock .number < s .n) ⌝ }
     ensures { λ r. ⌜ r ≡ flakesIn s (now (vol .entry)) g mask ⌝ }
 {
     let count = s.p;
-    let number = g.number;
+    let number = g.lock.number;
     let mut f = 0;
     while f < count {
         if flake_passes(vol, s, g, mask, f) {
@@ -123,7 +133,7 @@ pub fn test_read(d: Drive, vol: &[u8], n: u32, touched: u64) -> Answer
     let a = test_path(d, vol, n);
     if answers::accepted(a) {
         let g = nugget_of(d, vol, n);
-        return flakes(vol, drive::shape_of(d), g, g.journal & touched);
+        return flakes(vol, drive::shape_of(d), g, g.held & touched);
     }
     a
 }
@@ -174,26 +184,27 @@ fn lay_stream(d: &mut [u8], key: [u8; 32], nonce: [u8; 12], block: u32, skip: us
 }
 
 // The pad of flake f from its byte b on laid over d, a piece of the flake.
-pub fn lay_from(d: &mut [u8], key: [u8; 32], k: u64, size: usize, f: u32, b: usize)
+pub fn lay_from(d: &mut [u8], lock: Lock, size: usize, f: u32, b: usize)
     requires { ⌜ Size size × (f < 64) × (b + length (now d) ≤ size) ⌝ }
-    ensures { λ _. ⌜ now (d .exit) ≡ xorl (now (d .entry)) (drop b (padOf key k f size)) ⌝ }
+    ensures { λ _. ⌜ now (d .exit) ≡ xorl (now (d .entry)) (drop b (padOf lock f size)) ⌝ }
 {
-    let nonce = keys::nonce_of(k);
+    let key = lock.key;
+    let nonce = keys::nonce_of(lock.keycount);
     let block = block_of(size, f, b);
     lay_stream(d, key, nonce, block, b % 64);
 }
 
 // The contents of flake f from its byte b on, as many as the buffer takes: "Absent flakes give zeros."
 pub fn piece(vol: &[u8], s: Shape, g: Nugget, f: u32, b: usize, buf: &mut [u8])
-    requires { ⌜ Lent s (now vol) × (g .number < s .n) × (f < s .p) × (b + length (now buf) ≤ s .f) ⌝ }
+    requires { ⌜ Lent s (now vol) × (g .lock .number < s .n) × (f < s .p) × (b + length (now buf) ≤ s .f) ⌝ }
     ensures { λ _. ⌜ now (buf .exit) ≡ part b (length (now (buf .entry))) (contentsIn s (now (vol .entry)) g f) ⌝ }
 {
-    if records::has(g.journal, f) {
-        let key = g.key;
-        let at = layout::flake_at(s, g.number, f) + b;
+    if records::has(g.held, f) {
+        let lock = g.lock;
+        let at = layout::flake_at(s, lock.number, f) + b;
         let end = at + buf.len();
         words::copy(&mut *buf, 0, &vol[at..end]);
-        lay_from(&mut *buf, key, g.keycount, s.f as usize, f, b);
+        lay_from(&mut *buf, lock, s.f as usize, f, b);
     } else {
         words::clear(&mut *buf);
     }

@@ -12,14 +12,19 @@ use Rattle.layout.specs.Shape.{inLimits}
 use Rattle.layout.specs.Parts.{lengthOf}
 use Rattle.words.specs.Xor.{xorl}
 use Rattle.records.specs.declared.Gauge.{Gauge}
+use Rattle.keys.specs.declared.Lock.{Lock}
 use Rattle.keys.specs.Pads.{padOf}
 use Rattle.tree.specs.Path.{pathOf}
 use Rattle.tree.specs.Whole.{wholeOf}
 use Rattle.tree.specs.Renewed.{renewed, built}
 
+-- a lock by its key and keycount: a pad or a tag of version 1 doesn't look at the nugget's number
+abbrev pub lockWith : List ℕ → ℕ → Lock
+lockWith key k = record { number = 0; key = key; keycount = k }
+
 -- the pad over a flake of at most 4,096 bytes, of the 64 flakes that a nugget can have
 unfoldable pub laidBytes : List ℕ → ℕ → ℕ → List ℕ → List ℕ
-laidBytes key k f d = pick (leb (length d) 4096) (pick (ltb f 64) (xorl d (padOf key k f (length d))) d) d
+laidBytes key k f d = pick (leb (length d) 4096) (pick (ltb f 64) (xorl d (padOf (lockWith key k) f (length d))) d) d
 
 -- 1, 2
 unfoldable pub lentAnswer : Shape → List ℕ → Answer

@@ -1,6 +1,7 @@
 // The C interface of keys and tree, which comparisons go through.
 // It touches `keys`, `tree` and `images`, and tests what it is given itself.
 use answers::Answer;
+use keys::Lock;
 use layout::Shape;
 use records::Gauge;
 ghost use mathlib.Core.Path.{_≡_};
@@ -9,7 +10,7 @@ ghost use Rattle.keys.specs.Tags.{tagOf};
 ghost use Rattle.layout.specs.Shape.{shape};
 ghost use Rattle.records.specs.Record.{against};
 ghost use Rattle.images.specs.Answers.{answerImage};
-ghost use Rattle.probe.specs.Probes.{lentAnswer, pathAnswer, wholeAnswer, renewAnswer, laidBytes, renewedBytes, builtBytes};
+ghost use Rattle.probe.specs.Probes.{lockWith, lentAnswer, pathAnswer, wholeAnswer, renewAnswer, laidBytes, renewedBytes, builtBytes};
 
 #[no_mangle]
 pub extern "C" fn ngt_nugget_key(secret: &[u8; 32], salt: &[u8; 16], n: u32, out: &mut [u8; 32])
@@ -20,9 +21,14 @@ pub extern "C" fn ngt_nugget_key(secret: &[u8; 32], salt: &[u8; 16], n: u32, out
 
 #[no_mangle]
 pub extern "C" fn ngt_tag_key(key: &[u8; 32], f: u32, k: u64, out: &mut [u8; 32])
-    ensures { λ _. ⌜ now (out .exit) ≡ tagKey (now (key .entry)) f k ⌝ }
+    ensures { λ _. ⌜ now (out .exit) ≡ tagKey (lockWith (now (key .entry)) k) f ⌝ }
 {
-    *out = keys::tag_key(*key, f, k);
+    let lock = Lock {
+        number: 0,
+        key: *key,
+        keycount: k,
+    };
+    *out = keys::tag_key(lock, f);
 }
 
 #[no_mangle]
@@ -41,9 +47,14 @@ pub extern "C" fn ngt_seal(secret: &[u8; 32], front: &[u8], node: &[u8], out: &m
 
 #[no_mangle]
 pub extern "C" fn ngt_tag(stored: &[u8], key: &[u8; 32], k: u64, f: u32, out: &mut [u8; 16])
-    ensures { λ _. ⌜ now (out .exit) ≡ tagOf (now (key .entry)) k f (now (stored .entry)) ⌝ }
+    ensures { λ _. ⌜ now (out .exit) ≡ tagOf (lockWith (now (key .entry)) k) f (now (stored .entry)) ⌝ }
 {
-    *out = keys::tag_of(stored, *key, k, f);
+    let lock = Lock {
+        number: 0,
+        key: *key,
+        keycount: k,
+    };
+    *out = keys::tag_of(stored, lock, f);
 }
 
 // The pad of flake f laid over a flake; a slice over 4,096 bytes or a flake past 63 is left as it is.
@@ -53,7 +64,12 @@ pub extern "C" fn ngt_lay_pad(flake: &mut [u8], key: &[u8; 32], k: u64, f: u32)
 {
     if flake.len() <= 4096 {
         if f < 64 {
-            keys::lay_pad(flake, *key, k, f);
+            let lock = Lock {
+                number: 0,
+                key: *key,
+                keycount: k,
+            };
+            keys::lay_pad(flake, lock, f);
         }
     }
 }

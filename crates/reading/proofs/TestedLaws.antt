@@ -31,7 +31,7 @@ pub record ReadTested (d : Drive) (v : List ℕ) (o len n : ℕ) : Type 0 where
   pub opens : openingOf d v ≡ A.Accepted
   pub fits : o + len ≤ capacity (shapeOf d)
   pub path : pathFor d v n ≡ A.Accepted
-  pub flakes : flakesOf d v n (bitAnd (nuggetOf d v n .journal) (touchedOf (shapeOf d) o len n)) ≡ A.Accepted
+  pub flakes : flakesOf d v n (bitAnd (nuggetOf d v n .held) (touchedOf (shapeOf d) o len n)) ≡ A.Accepted
 
 module _ (d : Drive) (v : List ℕ) (o len : ℕ) where
   up-each : (k m : ℕ) → accepts (nuggetsUp d v o len k m) ≡ true → (n : ℕ) → m ≤ n → n < m + k
@@ -64,7 +64,7 @@ module _ (d : Drive) (v : List ℕ) (o len : ℕ) where
       let tests : accepts (nuggetsUp d v o len (span .end - span .first) (span .first)) ≡ true =
       ap accepts (sym (no {b = eqb len 0} A.Accepted (ne-eqb len 0 (λ z. omega (arith, z, h, k))) refl)) ∙ inside .1 in
       let each = up-each (span .end - span .first) (span .first) tests n (met .0) (omega (arith, met .0, met .1)) in
-      let parts = both-stages (pathFor d v n) (flakesOf d v n (bitAnd (nuggetOf d v n .journal) (touchedOf s o len n))) each in
+      let parts = both-stages (pathFor d v n) (flakesOf d v n (bitAnd (nuggetOf d v n .held) (touchedOf s o len n))) each in
       record {
         opens = accepted-is (openingOf d v) (opened .0);
         fits = fits-within d o len refl (inside .0);

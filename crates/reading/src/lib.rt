@@ -60,7 +60,7 @@ fn admit(d: Drive, vol: &[u8], offset: u64, len: usize) -> Answer
 
 // The contents of one nugget from its byte `from` on, flake by flake.
 fn fill_nugget(vol: &[u8], s: Shape, g: Nugget, from: usize, buf: &mut [u8])
-    requires { ⌜ Lent s (now vol) × (g .number < s .n) × (from + length (now buf) ≤ s .p * s .f) ⌝ }
+    requires { ⌜ Lent s (now vol) × (g .lock .number < s .n) × (from + length (now buf) ≤ s .p * s .f) ⌝ }
     ensures { λ _. ⌜ now (buf .exit) ≡ tab (length (now (buf .entry))) (λ i. byteIn s (now (vol .entry)) g (from + i)) ⌝ }
 {
     let size = s.f as usize;

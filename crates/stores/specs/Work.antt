@@ -10,27 +10,27 @@ use Rattle.records.specs.declared.Way.{Way}
 use Rattle.records.specs.Record.{recordBytes, recordOf}
 use Rattle.records.specs.Rule.{turned}
 use Rattle.records.specs.Listing.{Entry}
-use Rattle.keys.specs.Keys.{nuggetKey}
+use Rattle.keys.specs.declared.Lock.{Lock}
 use Rattle.keys.specs.Pads.{under}
 use Rattle.keys.specs.Tags.{tagOf}
 use Rattle.nodes.specs.Made.{madeOf, storeNode}
 use Rattle.drive.specs.declared.Drive.{Drive}
 use Rattle.drive.specs.Drive.{shapeOf}
 use Rattle.drive.specs.Head.{headOf}
+use Rattle.nuggets.specs.Nugget.{lockOf}
 use Rattle.changes.specs.Laid.{laid}
 use Rattle.changes.specs.Change.{idles, padsFor, markedTo, tendedTo}
 use Rattle.stores.specs.Store.{Store, store}
 
 -- "Stored flake = contents xor pad. Tag = Poly1305 under the tag key over the stored flake."
-unfoldable pub flakeStores : Shape → ℕ → ℕ → List ℕ → ℕ → List ℕ → List Store
-flakeStores s n f key k contents =
-    let stored = under key k f (s .f) contents in
-    store (flakeAt s n f) stored ∷ store (tagAt s n f) (tagOf key k f stored) ∷ []
+unfoldable pub flakeStores : Shape → Lock → ℕ → List ℕ → List Store
+flakeStores s lock f contents =
+    let stored = under lock f (s .f) contents in
+    store (flakeAt s (lock .number) f) stored ∷ store (tagAt s (lock .number) f) (tagOf lock f stored) ∷ []
 
 -- an enciphering, and a list of them
 unfoldable pub entryStores : Shape → List ℕ → (ℕ → ℕ → List ℕ) → Entry → List Store
-entryStores s salt new e =
-    flakeStores s (e .nugget) (e .flake) (nuggetKey (e .secret) salt (e .nugget)) (e .keycount) (new (e .nugget) (e .flake))
+entryStores s salt new e = flakeStores s (lockOf s salt e) (e .flake) (new (e .nugget) (e .flake))
 
 unfoldable pub laidStores : Shape → List ℕ → (ℕ → ℕ → List ℕ) → List Entry → List Store
 laidStores s salt new [] = []

@@ -46,20 +46,20 @@ module _ (d : Drive) (v : List ℕ) (n : ℕ) where
   unfolding nuggetChange
   rekey-path e h = e ∙ sym (stops (pathFor d v n) _ (ap accepts (sym e) ∙ h))
 
-  pub rekey-top : {a : Answer} {g : Nugget} → a ≡ pathFor d v n → accepts a ≡ true → g ≡ nuggetOf d v n → g .keycount ≡ 2 ^ 64 - 1 → A.KeycountTop ≡ nuggetChange d v n sweepWay
+  pub rekey-top : {a : Answer} {g : Nugget} → a ≡ pathFor d v n → accepts a ≡ true → g ≡ nuggetOf d v n → g .lock .keycount ≡ 2 ^ 64 - 1 → A.KeycountTop ≡ nuggetChange d v n sweepWay
   unfolding nuggetChange atTop
   rekey-top e h eg k =
-      let top : recordOf (shapeOf d) v n .keycount ≡ 2 ^ 64 - 1 = ap (λ (x : Nugget). x .keycount) (sym eg) ∙ k in
+      let top : recordOf (shapeOf d) v n .keycount ≡ 2 ^ 64 - 1 = ap (λ (x : Nugget). x .lock .keycount) (sym eg) ∙ k in
       sym (goes-on (pathFor d v n) _ (ap accepts (sym e) ∙ h) ∙ yes _ (eq-eqb _ _ top) refl)
 
-  pub rekey-flakes : {a r : Answer} {g : Nugget} {s : Shape} → a ≡ pathFor d v n → accepts a ≡ true → g ≡ nuggetOf d v n → (g .keycount ≡ 2 ^ 64 - 1 → ⊥) → s ≡ shapeOf d
-      → r ≡ flakesIn s v g (g .journal) → r ≡ nuggetChange d v n sweepWay
+  pub rekey-flakes : {a r : Answer} {g : Nugget} {s : Shape} → a ≡ pathFor d v n → accepts a ≡ true → g ≡ nuggetOf d v n → (g .lock .keycount ≡ 2 ^ 64 - 1 → ⊥) → s ≡ shapeOf d
+      → r ≡ flakesIn s v g (g .held) → r ≡ nuggetChange d v n sweepWay
   unfolding nuggetChange atTop
   rekey-flakes {g = g} e h eg k es er =
-      let low : recordOf (shapeOf d) v n .keycount ≡ 2 ^ 64 - 1 → ⊥ = λ q. k (ap (λ (x : Nugget). x .keycount) eg ∙ q) in
+      let low : recordOf (shapeOf d) v n .keycount ≡ 2 ^ 64 - 1 → ⊥ = λ q. k (ap (λ (x : Nugget). x .lock .keycount) eg ∙ q) in
       er
-      ∙ ap (λ (x : Shape). flakesIn x v g (g .journal)) es
-      ∙ ap (λ (x : Nugget). flakesIn (shapeOf d) v x (x .journal)) eg
+      ∙ ap (λ (x : Shape). flakesIn x v g (g .held)) es
+      ∙ ap (λ (x : Nugget). flakesIn (shapeOf d) v x (x .held)) eg
       ∙ sym (goes-on (pathFor d v n) _ (ap accepts (sym e) ∙ h) ∙ no _ (ne-eqb _ _ low) refl)
 
   pub change-idle : {way : Way} → way ≡ Idle → A.Accepted ≡ nuggetChange d v n way

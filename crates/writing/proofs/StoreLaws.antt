@@ -20,7 +20,7 @@ use Rattle.records.specs.Rule.{wayOf, enciphered, keycountAfter, atTop}
 use Rattle.records.specs.Listing.{Entry, padsBy, padsTo}
 use Rattle.drive.specs.declared.Drive.{Drive}
 use Rattle.drive.specs.Drive.{shapeOf}
-use Rattle.nuggets.specs.Nugget.{keyFor, storedIn, contentsIn, contentsOf}
+use Rattle.nuggets.specs.Nugget.{storedIn, contentsIn, contentsOf}
 use Rattle.nuggets.specs.Touched.{touchedOf}
 use Rattle.changes.specs.Laid.{written, laid}
 use Rattle.changes.specs.Change.{idles, marked, markedTo, tended, tendedTo, worked}
@@ -36,7 +36,7 @@ use Rattle.records.specs.Record.{recordOf}
 
 -- a nugget's contents rest on its record and its stored flakes alone, and its way on its record
 contents-told : (d : Drive) (v w : List ℕ) (n f : ℕ) → recordOf (shapeOf d) w n ≡ recordOf (shapeOf d) v n → storedIn (shapeOf d) w n f ≡ storedIn (shapeOf d) v n f → contentsOf d w n f ≡ contentsOf d v n f
-unfolding contentsIn keyFor
+unfolding contentsIn
 contents-told d v w n f er es = rw (er, es) refl
 
 pub room-told : (d : Drive) (v w : List ℕ) (o len n : ℕ) {y : Way} → y ≡ writeWay d w o len n → recordOf (shapeOf d) w n ≡ recordOf (shapeOf d) v n → atTop (writeWay d v o len n) (recordOf (shapeOf d) v n) ≡ false

@@ -36,10 +36,10 @@ fn test_rekey(d: Drive, vol: &[u8], n: u32) -> Answer
     let a = nuggets::test_path(d, vol, n);
     if answers::accepted(a) {
         let g = nuggets::nugget_of(d, vol, n);
-        if g.keycount == 0xffff_ffff_ffff_ffff {
+        if g.lock.keycount == 0xffff_ffff_ffff_ffff {
             return Answer::KeycountTop;
         }
-        return nuggets::flakes(vol, drive::shape_of(d), g, g.journal);
+        return nuggets::flakes(vol, drive::shape_of(d), g, g.held);
     }
     a
 }

@@ -17,7 +17,7 @@ same-length c = search needs
 
 returns : tie.Need-returns
 unfolding tagUnder
-returns c = let A = c .before .before .before .before .before .before .before .args in (c .tag-of .ensures ∙ ap (λ (s : List ℕ). tagOf (A .key) (A .k) (A .f) s) (c .before .before .before .before .lay-pad .ensures), c .before .before .before .before .lay-pad .ensures)
+returns c = let A = c .before .before .before .before .before .before .before .args in (c .tag-of .ensures ∙ ap (λ (s : List ℕ). tagOf (A .lock) (A .f) s) (c .before .before .before .before .lay-pad .ensures), c .before .before .before .before .lay-pad .ensures)
 
 pub encipher-spec : {M : Type 1} → statement M
 encipher-spec = tie.close (tie.spec lay-pad-requires tag-of-requires same-length returns)

@@ -18,10 +18,10 @@ same-length c = search needs
 
 returns : tie.Need-returns
 returns c =
-    let a = c .before .before .before .before .before .before .before .args in
+    let a = c .before .before .before .before .before .before .before .before .args in
     c .before .before .lay .ensures
     ∙ rw (c .before .before .before .before .first-block .ensures, c .before .before .before .before .before .nonce-of .ensures)
-    (laid (a .key) (a .k) (a .f) (a .flake .now))
+    (laid (a .lock) (a .f) (a .flake .now))
 
 pub lay-pad-spec : {M : Type 1} → statement M
 lay-pad-spec =

@@ -20,7 +20,7 @@ finish-requires c κs = rw (c .absorb .ensures, c .before .start .ensures) (abso
 returns : tie.Need-returns
 unfolding covered
 returns c =
-    tagged _ _ _ _ (c .before .before .before .tag-key .ensures) (c .before .before .start .ensures) (c .before .absorb .ensures) (c .finish .ensures)
+    tagged _ _ _ (c .before .before .before .tag-key .ensures) (c .before .before .start .ensures) (c .before .absorb .ensures) (c .finish .ensures)
 
 pub tag-of-spec : {M : Type 1} → statement M
 tag-of-spec =

@@ -22,8 +22,8 @@ add-end c =
     let lent = c .before .before .before .before .pre .0 in
     let q = lent-small lent in
     let m = limits s (lent .limited) in
-    let at : c .before .flake-at .result ≡ flakeAt s (a .g .number) (a .f) = c .before .flake-at .ensures ∙ inside s (lent .limited) in
-    omega (arith, at, flake-inside s (a .g .number) (a .f) (c .before .before .before .before .pre .1) (c .before .before .before .before .pre .2), q .few-leaves, q .few-tags, q .few-nuggets, q .few-flakes, m .short, mul-le-mul (q .few-tags) (m .short))
+    let at : c .before .flake-at .result ≡ flakeAt s (a .g .lock .number) (a .f) = c .before .flake-at .ensures ∙ inside s (lent .limited) in
+    omega (arith, at, flake-inside s (a .g .lock .number) (a .f) (c .before .before .before .before .pre .1) (c .before .before .before .before .pre .2), q .few-leaves, q .few-tags, q .few-nuggets, q .few-flakes, m .short, mul-le-mul (q .few-tags) (m .short))
 
 tag-at-requires : tie.Need-tag-at-requires
 tag-at-requires c κs = search needs
@@ -35,8 +35,8 @@ add-tag-end c =
     let lent = c .before .before .before .before .before .pre .0 in
     let q = lent-small lent in
     let m = limits s (lent .limited) in
-    let tag : c .tag-at .result ≡ tagAt s (a .g .number) (a .f) = c .tag-at .ensures ∙ inside s (lent .limited) in
-    omega (arith, tag, tag-inside s (a .g .number) (a .f) (c .before .before .before .before .before .pre .1) (c .before .before .before .before .before .pre .2), q .few-leaves, q .few-tags, q .few-nuggets, q .few-flakes, m .short, mul-le-mul (q .few-tags) (m .short))
+    let tag : c .tag-at .result ≡ tagAt s (a .g .lock .number) (a .f) = c .tag-at .ensures ∙ inside s (lent .limited) in
+    omega (arith, tag, tag-inside s (a .g .lock .number) (a .f) (c .before .before .before .before .before .pre .1) (c .before .before .before .before .before .pre .2), q .few-leaves, q .few-tags, q .few-nuggets, q .few-flakes, m .short, mul-le-mul (q .few-tags) (m .short))
 
 sub-tag-of : tie.Need-sub-tag-of
 sub-tag-of c = search needs
@@ -49,8 +49,8 @@ part-tag-of-end c =
     let a = c .before .before .before .before .before .args in
     let s = a .s in
     let lent = c .before .before .before .before .before .pre .0 in
-    let at : c .before .before .flake-at .result ≡ flakeAt s (a .g .number) (a .f) = c .before .before .flake-at .ensures ∙ inside s (lent .limited) in
-    omega (arith, at, flake-inside s (a .g .number) (a .f) (c .before .before .before .before .before .pre .1) (c .before .before .before .before .before .pre .2), lent .size)
+    let at : c .before .before .flake-at .result ≡ flakeAt s (a .g .lock .number) (a .f) = c .before .before .flake-at .ensures ∙ inside s (lent .limited) in
+    omega (arith, at, flake-inside s (a .g .lock .number) (a .f) (c .before .before .before .before .before .pre .1) (c .before .before .before .before .before .pre .2), lent .size)
 
 tag-of-requires : tie.Need-tag-of-requires
 tag-of-requires c κs = search needs
@@ -66,8 +66,8 @@ part-equal-end c =
     let a = c .before .before .before .before .before .before .before .args in
     let s = a .s in
     let lent = c .before .before .before .before .before .before .before .pre .0 in
-    let tag : c .before .before .tag-at .result ≡ tagAt s (a .g .number) (a .f) = c .before .before .tag-at .ensures ∙ inside s (lent .limited) in
-    omega (arith, tag, tag-inside s (a .g .number) (a .f) (c .before .before .before .before .before .before .before .pre .1) (c .before .before .before .before .before .before .before .pre .2), parts-inside s, lent .size)
+    let tag : c .before .before .tag-at .result ≡ tagAt s (a .g .lock .number) (a .f) = c .before .before .tag-at .ensures ∙ inside s (lent .limited) in
+    omega (arith, tag, tag-inside s (a .g .lock .number) (a .f) (c .before .before .before .before .before .before .before .pre .1) (c .before .before .before .before .before .before .before .pre .2), parts-inside s, lent .size)
 
 slice-aggregate-equal : tie.Need-slice-aggregate-equal
 slice-aggregate-equal c = search needs
@@ -80,8 +80,8 @@ returns c =
     let a = c .before .before .before .before .before .before .before .before .before .before .args in
     let s = a .s in
     let lent = c .before .before .before .before .before .before .before .before .before .before .pre .0 in
-    let at : c .before .before .before .before .before .before .before .flake-at .result ≡ flakeAt s (a .g .number) (a .f) = c .before .before .before .before .before .before .before .flake-at .ensures ∙ inside s (lent .limited) in
-    let tag : c .before .before .before .before .before .tag-at .result ≡ tagAt s (a .g .number) (a .f) = c .before .before .before .before .before .tag-at .ensures ∙ inside s (lent .limited) in
+    let at : c .before .before .before .before .before .before .before .flake-at .result ≡ flakeAt s (a .g .lock .number) (a .f) = c .before .before .before .before .before .before .before .flake-at .ensures ∙ inside s (lent .limited) in
+    let tag : c .before .before .before .before .before .tag-at .result ≡ tagAt s (a .g .lock .number) (a .f) = c .before .before .before .before .before .tag-at .ensures ∙ inside s (lent .limited) in
     good-is s (a .vol .now) (a .g) (a .f) (c .before .before .before .before .before .before .before .flake-at .result) (c .before .before .before .before .before .tag-at .result) (c .equal .ensures) (c .before .before .before .tag-of .ensures) at tag
 
 pub flake-good-spec : {M : Type 1} → statement M

@@ -20,10 +20,10 @@ same-length c = search needs
 
 returns : tie.Need-returns
 returns c =
-    let a = c .before .before .before .before .before .before .before .args in
+    let a = c .before .before .before .before .before .before .before .before .args in
     let b = c .before .before .before .before .block-of .ensures in
     let low : firstBlock (a .size) (a .f) + a .b / 64 < 2 ^ 20 = rw (← (b .0)) (b .1) in
-    c .before .before .lay-stream .ensures ∙ rw (c .before .before .before .before .before .nonce-of .ensures, b .0) (pad-from (a .key) (a .k) (a .f) (a .size) (a .b) (a .d .now) (c .before .before .before .before .before .before .before .pre .2) low)
+    c .before .before .lay-stream .ensures ∙ rw (c .before .before .before .before .before .nonce-of .ensures, b .0) (pad-from (a .lock) (a .f) (a .size) (a .b) (a .d .now) (c .before .before .before .before .before .before .before .before .pre .2) low)
 
 pub lay-from-spec : {M : Type 1} → statement M
 lay-from-spec =

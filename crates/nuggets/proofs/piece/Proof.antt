@@ -28,8 +28,8 @@ add-at c =
     let lent = c .before .before .before .before .before .before .pre .0 in
     let q = lent-small lent in
     let m = limits s (lent .limited) in
-    let at : c .flake-at .result ≡ flakeAt s (a .g .number) (a .f) = c .flake-at .ensures ∙ inside s (lent .limited) in
-    let room = flake-inside s (a .g .number) (a .f) (c .before .before .before .before .before .before .pre .1) (c .before .before .before .before .before .before .pre .2) in
+    let at : c .flake-at .result ≡ flakeAt s (a .g .lock .number) (a .f) = c .flake-at .ensures ∙ inside s (lent .limited) in
+    let room = flake-inside s (a .g .lock .number) (a .f) (c .before .before .before .before .before .before .pre .1) (c .before .before .before .before .before .before .pre .2) in
     omega (arith, at, room, c .before .before .before .before .before .before .pre .3, q .few-leaves, q .few-tags, q .few-nuggets, q .few-flakes, m .short, mul-le-mul (q .few-tags) (m .short))
 
 add-end : tie.Need-add-end
@@ -39,8 +39,8 @@ add-end c =
     let lent = c .before .before .before .before .before .before .pre .0 in
     let q = lent-small lent in
     let m = limits s (lent .limited) in
-    let at : c .flake-at .result ≡ flakeAt s (a .g .number) (a .f) = c .flake-at .ensures ∙ inside s (lent .limited) in
-    let room = flake-inside s (a .g .number) (a .f) (c .before .before .before .before .before .before .pre .1) (c .before .before .before .before .before .before .pre .2) in
+    let at : c .flake-at .result ≡ flakeAt s (a .g .lock .number) (a .f) = c .flake-at .ensures ∙ inside s (lent .limited) in
+    let room = flake-inside s (a .g .lock .number) (a .f) (c .before .before .before .before .before .before .pre .1) (c .before .before .before .before .before .before .pre .2) in
     omega (arith, at, room, c .before .before .before .before .before .before .pre .3, q .few-leaves, q .few-tags, q .few-nuggets, q .few-flakes, m .short, mul-le-mul (q .few-tags) (m .short))
 
 sub-copy : tie.Need-sub-copy
@@ -54,8 +54,8 @@ part-copy-end c =
     let a = c .before .before .before .before .before .before .before .args in
     let s = a .s in
     let lent = c .before .before .before .before .before .before .before .pre .0 in
-    let at : c .before .flake-at .result ≡ flakeAt s (a .g .number) (a .f) = c .before .flake-at .ensures ∙ inside s (lent .limited) in
-    let room = flake-inside s (a .g .number) (a .f) (c .before .before .before .before .before .before .before .pre .1) (c .before .before .before .before .before .before .before .pre .2) in
+    let at : c .before .flake-at .result ≡ flakeAt s (a .g .lock .number) (a .f) = c .before .flake-at .ensures ∙ inside s (lent .limited) in
+    let room = flake-inside s (a .g .lock .number) (a .f) (c .before .before .before .before .before .before .before .pre .1) (c .before .before .before .before .before .before .before .pre .2) in
     omega (arith, at, room, c .before .before .before .before .before .before .before .pre .3, lent .size)
 
 copy-requires : tie.Need-copy-requires
@@ -80,12 +80,12 @@ returns c =
     let a = c .before .before .before .before .before .before .before .before .before .before .before .before .before .before .before .before .args in
     let s = a .s in
     let lent = c .before .before .before .before .before .before .before .before .before .before .before .before .before .before .before .before .pre .0 in
-    let at : c .before .before .before .before .before .before .before .before .before .before .flake-at .result ≡ flakeAt s (a .g .number) (a .f) = c .before .before .before .before .before .before .before .before .before .before .flake-at .ensures ∙ inside s (lent .limited) in
-    let room = flake-inside s (a .g .number) (a .f) (c .before .before .before .before .before .before .before .before .before .before .before .before .before .before .before .before .pre .1) (c .before .before .before .before .before .before .before .before .before .before .before .before .before .before .before .before .pre .2) in
+    let at : c .before .before .before .before .before .before .before .before .before .before .flake-at .result ≡ flakeAt s (a .g .lock .number) (a .f) = c .before .before .before .before .before .before .before .before .before .before .flake-at .ensures ∙ inside s (lent .limited) in
+    let room = flake-inside s (a .g .lock .number) (a .f) (c .before .before .before .before .before .before .before .before .before .before .before .before .before .before .before .before .pre .1) (c .before .before .before .before .before .before .before .before .before .before .before .before .before .before .before .before .pre .2) in
     let k = length (a .buf .now) in
     let fits : c .before .before .before .before .before .before .before .before .before .before .flake-at .result + a .b + k ≤ length (a .vol .now) = omega (arith, at, room, c .before .before .before .before .before .before .before .before .before .before .before .before .before .before .before .before .pre .3, lent .size) in
     c .before .before .lay-from .ensures
-    ∙ ap (λ (x : List ℕ). xorl x (drop (a .b) (padOf (a .g .key) (a .g .keycount) (a .f) (s .f)))) ((c .before .before .before .before .before .before .before .copy .ensures) ∙ copied (a .buf .now) (a .vol .now) (c .before .before .before .before .before .before .before .before .before .before .flake-at .result + a .b) k refl fits ∙ rw at)
+    ∙ ap (λ (x : List ℕ). xorl x (drop (a .b) (padOf (a .g .lock) (a .f) (s .f)))) ((c .before .before .before .before .before .before .before .copy .ensures) ∙ copied (a .buf .now) (a .vol .now) (c .before .before .before .before .before .before .before .before .before .before .flake-at .result + a .b) k refl fits ∙ rw at)
     ∙ piece-present s (a .vol .now) (a .g) (a .f) (a .b) k lent (c .before .before .before .before .before .before .before .before .before .before .before .before .before .before .before .before .pre .1) (c .before .before .before .before .before .before .before .before .before .before .before .before .before .before .before .before .pre .2) (c .before .before .before .before .before .before .before .before .before .before .before .before .before .before .before .before .pre .3) (sym (c .before .before .before .before .before .before .before .before .before .before .before .before .before .has .ensures) ∙ c .before .before .before .before .before .before .before .before .before .before .before .before .if1 .taken)
 
 same-length-2 : tie.Need-same-length-2

@@ -18,7 +18,7 @@ same-length c = search needs
 returns : tie.Need-returns
 returns c =
     let a = c .before .before .before .before .before .before .before .before .before .before .before .before .before .before .args in
-    anew-is (a .g) (a .key) (a .k) (a .f) (a .start) (a .o) (a .bytes .now) (a .flake .now) (c .before .before .before .before .before .before .before .before .before .before .ready .ensures) (c .before .before .before .before .before .before .overlay .ensures) (c .before .before .encipher .ensures .0) (c .before .before .encipher .ensures .1)
+    anew-is (a .g) (a .lock) (a .f) (a .start) (a .o) (a .bytes .now) (a .flake .now) (c .before .before .before .before .before .before .before .before .before .before .ready .ensures) (c .before .before .before .before .before .before .overlay .ensures) (c .before .before .encipher .ensures .0) (c .before .before .encipher .ensures .1)
 
 pub lay-anew-spec : {M : Type 1} → statement M
 lay-anew-spec =

@@ -21,8 +21,8 @@ add-end : tie.Need-add-end
 add-end c =
     let a = c .before .before .before .before .args in
     let pre = c .before .before .before .before .pre in
-    let at : c .before .flake-at .result ≡ flakeAt (a .s) (a .g .number) (a .f) = placed (a .s) (pre .0 .limited) (c .before .flake-at .ensures) in
-    omega (arith, at, flake-room (a .s) (a .vol .now) (a .g .number) (a .f) (pre .0) (pre .1) (pre .2))
+    let at : c .before .flake-at .result ≡ flakeAt (a .s) (a .lock .number) (a .f) = placed (a .s) (pre .0 .limited) (c .before .flake-at .ensures) in
+    omega (arith, at, flake-room (a .s) (a .vol .now) (a .lock .number) (a .f) (pre .0) (pre .1) (pre .2))
 
 offset-of-requires : tie.Need-offset-of-requires
 offset-of-requires c κs = search needs
@@ -40,8 +40,8 @@ part-lay-anew-end : tie.Need-part-lay-anew-end
 part-lay-anew-end c =
     let a = c .before .before .before .before .before .before .args in
     let pre = c .before .before .before .before .before .before .pre in
-    let at : c .before .before .before .flake-at .result ≡ flakeAt (a .s) (a .g .number) (a .f) = placed (a .s) (pre .0 .limited) (c .before .before .before .flake-at .ensures) in
-    omega (arith, at, flake-room (a .s) (a .vol .now) (a .g .number) (a .f) (pre .0) (pre .1) (pre .2))
+    let at : c .before .before .before .flake-at .result ≡ flakeAt (a .s) (a .lock .number) (a .f) = placed (a .s) (pre .0 .limited) (c .before .before .before .flake-at .ensures) in
+    omega (arith, at, flake-room (a .s) (a .vol .now) (a .lock .number) (a .f) (pre .0) (pre .1) (pre .2))
 
 lay-anew-requires : tie.Need-lay-anew-requires
 lay-anew-requires c κs =
@@ -49,12 +49,12 @@ lay-anew-requires c κs =
     let pre = c .before .before .before .before .before .before .before .pre in
     let s = a .s in
     let x = c .before .before .before .before .flake-at .result in
-    let at : x ≡ flakeAt s (a .g .number) (a .f) = placed s (pre .0 .limited) (c .before .before .before .before .flake-at .ensures) in
-    let start : c .before .before .offset-of .result ≡ offsetAt s (a .g .number) (a .f) 0 = placed s (pre .0 .limited) (c .before .before .offset-of .ensures) in
+    let at : x ≡ flakeAt s (a .lock .number) (a .f) = placed s (pre .0 .limited) (c .before .before .before .before .flake-at .ensures) in
+    let start : c .before .before .offset-of .result ≡ offsetAt s (a .lock .number) (a .f) 0 = placed s (pre .0 .limited) (c .before .before .offset-of .ensures) in
     let m = limits s (pre .0 .limited) in
-    let room = flake-room s (a .vol .now) (a .g .number) (a .f) (pre .0) (pre .1) (pre .2) in
+    let room = flake-room s (a .vol .now) (a .lock .number) (a .f) (pre .0) (pre .1) (pre .2) in
     let long : length (midOf x (x + s .f - x) (a .vol .now)) ≡ x + s .f - x = mid-len x (x + s .f) (a .vol .now) (omega (arith, at, room)) in
-    let all = offset-room s (a .vol .now) (a .g .number) (a .f) (pre .0) (pre .1) (pre .2) in
+    let all = offset-room s (a .vol .now) (a .lock .number) (a .f) (pre .0) (pre .1) (pre .2) in
     let most = capacity-le s m in
     (omega (arith, long, m .short), omega (arith, pre .2, m .narrow), omega (arith, long, start, all, most), omega (arith, pre .3, most))
 
@@ -65,9 +65,9 @@ copy-requires : tie.Need-copy-requires
 copy-requires c κs =
     let a = c .before .before .before .before .before .before .before .before .before .before .before .before .args in
     let pre = c .before .before .before .before .before .before .before .before .before .before .before .before .pre in
-    let tag : c .before .before .before .before .before .before .tag-at .result ≡ tagAt (a .s) (a .g .number) (a .f) = placed (a .s) (pre .0 .limited) (c .before .before .before .before .before .before .tag-at .ensures) in
+    let tag : c .before .before .before .before .before .before .tag-at .result ≡ tagAt (a .s) (a .lock .number) (a .f) = placed (a .s) (pre .0 .limited) (c .before .before .before .before .before .before .tag-at .ensures) in
     let k : length (c .before .before .before .before .lay-anew .result) ≡ 16 = search needs in
-    omega (arith, tag, k, tag-room (a .s) (a .vol .now) (a .g .number) (a .f) (pre .0) (pre .1) (pre .2))
+    omega (arith, tag, k, tag-room (a .s) (a .vol .now) (a .lock .number) (a .f) (pre .0) (pre .1) (pre .2))
 
 same-length : tie.Need-same-length
 same-length c = search needs
@@ -77,10 +77,10 @@ returns c =
     let a = c .before .before .before .before .before .before .before .before .before .before .before .before .before .before .before .args in
     let pre = c .before .before .before .before .before .before .before .before .before .before .before .before .before .before .before .pre in
     let s = a .s in
-    let at : c .before .before .before .before .before .before .before .before .before .before .before .before .flake-at .result ≡ flakeAt s (a .g .number) (a .f) = placed s (pre .0 .limited) (c .before .before .before .before .before .before .before .before .before .before .before .before .flake-at .ensures) in
-    let start : c .before .before .before .before .before .before .before .before .before .before .offset-of .result ≡ offsetAt s (a .g .number) (a .f) 0 = placed s (pre .0 .limited) (c .before .before .before .before .before .before .before .before .before .before .offset-of .ensures) in
-    let tag : c .before .before .before .before .before .before .before .before .before .tag-at .result ≡ tagAt s (a .g .number) (a .f) = placed s (pre .0 .limited) (c .before .before .before .before .before .before .before .before .before .tag-at .ensures) in
-    flake-laid s (a .vol .now) (a .g) (a .key) (a .k) (a .f) (a .o) (a .bytes .now) (pre .0) (pre .1) (pre .2) (c .before .before .before .before .before .before .before .before .before .before .before .before .flake-at .result) (c .before .before .before .before .before .before .before .before .before .before .offset-of .result) (c .before .before .before .before .before .before .before .before .before .tag-at .result) at start tag (c .before .before .before .before .before .before .before .lay-anew .ensures .1) (c .before .before .before .before .before .before .before .lay-anew .ensures .0) (c .before .before .copy .ensures)
+    let at : c .before .before .before .before .before .before .before .before .before .before .before .before .flake-at .result ≡ flakeAt s (a .lock .number) (a .f) = placed s (pre .0 .limited) (c .before .before .before .before .before .before .before .before .before .before .before .before .flake-at .ensures) in
+    let start : c .before .before .before .before .before .before .before .before .before .before .offset-of .result ≡ offsetAt s (a .lock .number) (a .f) 0 = placed s (pre .0 .limited) (c .before .before .before .before .before .before .before .before .before .before .offset-of .ensures) in
+    let tag : c .before .before .before .before .before .before .before .before .before .tag-at .result ≡ tagAt s (a .lock .number) (a .f) = placed s (pre .0 .limited) (c .before .before .before .before .before .before .before .before .before .tag-at .ensures) in
+    flake-laid s (a .vol .now) (a .g) (a .lock) (a .f) (a .o) (a .bytes .now) (pre .4) (pre .0) (pre .1) (pre .2) (c .before .before .before .before .before .before .before .before .before .before .before .before .flake-at .result) (c .before .before .before .before .before .before .before .before .before .before .offset-of .result) (c .before .before .before .before .before .before .before .before .before .tag-at .result) at start tag (c .before .before .before .before .before .before .before .lay-anew .ensures .1) (c .before .before .before .before .before .before .before .lay-anew .ensures .0) (c .before .before .copy .ensures)
 
 pub lay-flake-spec : {M : Type 1} → statement M
 lay-flake-spec =

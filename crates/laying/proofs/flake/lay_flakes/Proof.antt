@@ -12,10 +12,10 @@ use Rattle.laying.proofs.flake.lay_flakes.Statement.{statement}
 use Rattle.laying.proofs.flake.lay_flakes.Tie as tie
 
 abbrev Inv-loop : tie.InvT-loop
-Inv-loop d vol₀ n k mask o bytes s g key f₀ vol f = (f ≤ d .p) × Upto d vol₀ n k mask o bytes f vol
+Inv-loop d vol₀ n k mask o bytes s g lock f₀ vol f = (f ≤ d .p) × Upto d vol₀ n k mask o bytes f vol
 
 abbrev μ-loop : tie.MeasureT-loop
-μ-loop d vol₀ n k mask o bytes s g key f₀ vol f = d .p - f
+μ-loop d vol₀ n k mask o bytes s g lock f₀ vol f = d .p - f
 
 shape-of-requires : tie.Need-shape-of-requires Inv-loop μ-loop
 shape-of-requires c κs = search needs
@@ -23,8 +23,8 @@ shape-of-requires c κs = search needs
 nugget-of-requires : tie.Need-nugget-of-requires Inv-loop μ-loop
 nugget-of-requires c κs = (c .before .before .before .before .pre .0, c .before .before .before .before .pre .1)
 
-nugget-key-requires : tie.Need-nugget-key-requires Inv-loop μ-loop
-nugget-key-requires c κs = search needs
+lock-by-requires : tie.Need-lock-by-requires Inv-loop μ-loop
+lock-by-requires c κs = search needs
 
 loop-holds : tie.Need-loop-holds Inv-loop μ-loop
 loop-holds c =
@@ -39,7 +39,7 @@ lay-flake-requires c κs =
     let a = c .before .before .before .before .before .before .before .before .before .before .before .before .before .before .args in
     let pre = c .before .before .before .before .before .before .before .before .before .before .before .before .before .before .pre in
     let l = c .before .before .before .before .before .loop in
-    turn-asks (a .d) (a .vol .now) (a .n) (a .k) (a .mask) (a .o) (a .bytes .now) (pre .0) (pre .1) (pre .2) (l .f) (c .before .before .before .if1 .taken) (c .before .before .before .before .before .before .before .before .before .before .before .shape-of .ensures) (c .before .before .before .before .before .before .before .before .before .nugget-of .ensures) (l .inv .1)
+    turn-asks (a .d) (a .vol .now) (a .n) (a .k) (a .mask) (a .o) (a .bytes .now) (pre .0) (pre .1) (pre .2) (l .f) (c .before .before .before .if1 .taken) (c .before .before .before .before .before .before .before .before .before .before .before .shape-of .ensures) (c .before .before .before .before .before .before .before .before .before .nugget-of .ensures) (c .before .before .before .before .before .before .lock-by .ensures) (l .inv .1)
 
 add-f : tie.Need-add-f Inv-loop μ-loop
 add-f c =
@@ -57,7 +57,7 @@ loop-again c =
     let v = a .vol .now in (
       omega (arith, c .before .before .if1 .taken),
       ⊎-elim
-          (λ w. turn-in (a .d) v (a .n) (a .k) (a .mask) (a .o) (a .bytes .now) (pre .1) (l .f) (c .before .before .if1 .taken) (c .before .before .before .before .before .before .before .before .before .before .shape-of .ensures) (c .before .before .before .before .before .before .before .before .nugget-of .ensures) (c .before .before .before .before .before .nugget-key .ensures) (l .inv .1) (sym (c .before .has .ensures) ∙ w .0 .taken) (w .5 ∙ w .2 .ensures))
+          (λ w. turn-in (a .d) v (a .n) (a .k) (a .mask) (a .o) (a .bytes .now) (pre .1) (l .f) (c .before .before .if1 .taken) (c .before .before .before .before .before .before .before .before .before .before .shape-of .ensures) (c .before .before .before .before .before .before .before .before .nugget-of .ensures) (c .before .before .before .before .before .lock-by .ensures) (l .inv .1) (sym (c .before .has .ensures) ∙ w .0 .taken) (w .5 ∙ w .2 .ensures))
           (λ w. w .1 ∙ one-left (shapeOf (a .d)) (a .d .salt) (newContents (a .d) v (a .o) (a .bytes .now)) (a .n) (a .k) (a .d .present) (bit (a .mask)) v (l .f) (l .inv .1) (sym (c .before .has .ensures) ∙ w .0 .left))
           (c .if2 .came),
     )
@@ -81,7 +81,7 @@ lay-flakes-spec =
     μ-loop
     shape-of-requires
     nugget-of-requires
-    nugget-key-requires
+    lock-by-requires
     loop-holds
     has-requires
     lay-flake-requires
