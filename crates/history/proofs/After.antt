@@ -1,5 +1,5 @@
 -- A change of nuggets, each in its way: every record, flake and tag afterwards, and what nobody touched is untouched again.
-use mathlib.Core.Path.{_≡_, refl, sym, ap, _∙_}
+use mathlib.Core.Path.{_≡_, refl, ap, _∙_}
 use mathlib.Core.Bool.{true, false}
 use mathlib.Core.Logic.{_⊎_, inl, inr}
 use mathlib.Core.List.{List}
@@ -7,7 +7,7 @@ use Prim.Native.Nat.{ℕ, _^_, _<_}
 use native.Mathlib.Nat.{lt-of-lt-of-le}
 use lib.ListN.{length}
 use lib.Pow.{pow-mono}
-use Rattle.base.proofs.PickLaws.{yes, told, clash}
+use Rattle.base.proofs.PickLaws.{yes, told}
 use Rattle.base.proofs.FoldLaws.{same-refl}
 use borrow.Author.Tests.{eq-eqb}
 use Rattle.layout.specs.declared.Shape.{Shape}
@@ -17,7 +17,7 @@ use Rattle.records.specs.declared.Record.{Record}
 use Rattle.records.specs.declared.Way.{Way}
 use Rattle.records.specs.Journal.{bit}
 use Rattle.records.specs.Record.{Codes, recordOf}
-use Rattle.records.specs.Rule.{touchedBy, keycountAfter, heldAfter, epochAfter, turned, atTop}
+use Rattle.records.specs.Rule.{touchedBy, keycountAfter, turned, atTop}
 use Rattle.records.proofs.RuleLaws.{well-formed-after, codes-after}
 use Rattle.keys.specs.declared.Lock.{Lock}
 use Rattle.drive.specs.declared.Drive.{Drive}
@@ -34,7 +34,7 @@ use Rattle.changes.proofs.PutLaws.{Same, Under, same-trans, under-same}
 use Rattle.changes.proofs.ViewLaws.{worked-lent, worked-record, worked-put, worked-kept, worked-good}
 use Rattle.changes.proofs.SettleLaws.{settled-record, settled-same, settled-good}
 use Rattle.ledger.specs.Step.{Fits}
-use Rattle.ledger.proofs.TurnLaws.{Adds, Rekeyed, turn-told, touched-lt}
+use Rattle.ledger.proofs.TurnLaws.{Adds, Rekeyed, turn-told, new-epoch, old-stays, touched-lt}
 use Rattle.history.proofs.Quiet.{Untouched, untouched-lent}
 use Rattle.history.proofs.Heads.{settled-opens, tag-kept}
 use Rattle.drive.proofs.OpeningLaws.{opening-told}
@@ -114,11 +114,7 @@ module _ (d : Drive) (v : List ℕ) (way : ℕ → Way) (new : ℕ → ℕ → L
 
   -- an enciphered flake's nugget has the head's epoch
   epoch-after : (n f : ℕ) → n < d .n → chosen way (recordOf (shapeOf d) v) n f ≡ true → recordOf (shapeOf d) z n .epoch ≡ d .epoch
-  epoch-after n f h on = ap (λ (r : Record). r .epoch) (record-after n h) ∙ go (turn n h)
-    where
-      go : Adds (d .epoch) (way n) (recordOf (shapeOf d) v n) ⊎ Rekeyed (d .epoch) (way n) (recordOf (shapeOf d) v n) → epochAfter (way n) (d .epoch) (recordOf (shapeOf d) v n) ≡ d .epoch
-      go (inl a) = a .epochKept ∙ a .moved f on
-      go (inr a) = a .epochSet
+  epoch-after n f h on = ap (λ (r : Record). r .epoch) (record-after n h) ∙ new-epoch (d .epoch) (way n) (recordOf (shapeOf d) v n) f (turn n h) on
 
   keycount-after : (n : ℕ) → n < d .n → recordOf (shapeOf d) z n .keycount ≡ keycountAfter (way n) (recordOf (shapeOf d) v n)
   keycount-after n h = ap (λ (r : Record). r .keycount) (record-after n h)
@@ -126,16 +122,6 @@ module _ (d : Drive) (v : List ℕ) (way : ℕ → Way) (new : ℕ → ℕ → L
   lock-after : (n f : ℕ) → n < d .n → chosen way (recordOf (shapeOf d) v) n f ≡ true → lockFor e z n ≡ lockAfter n
   unfolding advanced
   lock-after n f h on = rw (epoch-after n f h on, secret-head, keycount-after n h) refl
-
-  -- a flake that is held and wasn't enciphered was held before, and its nugget was not rekeyed
-  stays : (n f : ℕ) → n < d .n → chosen way (recordOf (shapeOf d) v) n f ≡ false → bit (recordOf (shapeOf d) z n .held) f ≡ true
-      → (bit (recordOf (shapeOf d) v n .held) f ≡ true) × Adds (d .epoch) (way n) (recordOf (shapeOf d) v n)
-  stays n f h off on = go (turn n h) (rw (record-after n h) at on)
-    where
-      go : Adds (d .epoch) (way n) (recordOf (shapeOf d) v n) ⊎ Rekeyed (d .epoch) (way n) (recordOf (shapeOf d) v n) → bit (heldAfter (way n) (recordOf (shapeOf d) v n)) f ≡ true
-          → (bit (recordOf (shapeOf d) v n .held) f ≡ true) × Adds (d .epoch) (way n) (recordOf (shapeOf d) v n)
-      go (inl a) t = (a .stays f t off, a)
-      go (inr a) t = absurd (clash (ap (λ (j : ℕ). bit j f) (sym (a .rest)) ∙ t) off)
 
   tag-after : (n f : ℕ) → n < d .n → f < d .p → bit (recordOf (shapeOf d) z n .held) f ≡ true → flakeGood e z n f ≡ true
   unfolding advanced
@@ -145,7 +131,7 @@ module _ (d : Drive) (v : List ℕ) (way : ℕ → Way) (new : ℕ → ℕ → L
       go (inl put) =
           tag-laid e z n f (lockAfter n) (new n f) (put-after n f h l put) (lock-after n f h put)
       go (inr off) =
-          let (was, a) = stays n f h off on in
+          let (was, a) = old-stays (d .epoch) (way n) (recordOf (shapeOf d) v n) f (turn n h) off (rw (record-after n h) at on) in
           tag-kept d e v z n f refl refl (kept-after n f h l off) (keycount-after n h ∙ a .keycountKept)
           (secret-after (recordOf (shapeOf d) z n .epoch) ∙ ap (secretFor d) (ap (λ (r : Record). r .epoch) (record-after n h) ∙ a .epochKept)) (x .was .tags n f h l was)
 

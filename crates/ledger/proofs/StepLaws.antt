@@ -10,13 +10,13 @@ use lib.Dec.{eqb, leb}
 use lib.ListN.{length, length-append}
 use borrow.Author.Tests.{eq-eqb, ne-eqb, leb-true, leb-false}
 use Rattle.base.specs.Pick.{pick, both}
-use Rattle.base.proofs.PickLaws.{told, clash, both-no}
+use Rattle.base.proofs.PickLaws.{told, both-no}
 use Rattle.words.specs.Xor.{xorl}
 use Rattle.records.specs.declared.Record.{Record}
 use Rattle.records.specs.declared.Way.{Way}
 use Rattle.records.specs.Journal.{bit, present as presentOf}
 use Rattle.records.specs.Record.{wellFormed}
-use Rattle.records.specs.Rule.{enciphered, keycountAfter, spentAfter, heldAfter, epochAfter, turned}
+use Rattle.records.specs.Rule.{enciphered, keycountAfter, spentAfter, turned}
 use Rattle.records.specs.Listing.{Entry, entry, padsBy, padsTo}
 use Rattle.records.proofs.BitLaws.{none-above, bit-below}
 use Rattle.records.proofs.RuleLaws.{keycount-rises, well-formed-after, formed-held, formed-epoch}
@@ -28,7 +28,7 @@ use Rattle.ledger.specs.Step.{Step}
 use Rattle.ledger.proofs.ListingLaws.{times-append, last-append}
 use Rattle.ledger.proofs.CallLaws.{times-by, last-by, last-by-none, times-past, times-call, last-call, length-call}
 use Rattle.ledger.proofs.TotalLaws.{sum-same, sum-pairs}
-use Rattle.ledger.proofs.TurnLaws.{Adds, Rekeyed, turn-told, touched-lt, enciphered-lt, untouched-by, absent-after, keycount-step, one-once, one-now, one-tally}
+use Rattle.ledger.proofs.TurnLaws.{Adds, Rekeyed, turn-told, new-epoch, old-stays, touched-lt, enciphered-lt, untouched-by, absent-after, keycount-step, one-once, one-now, one-tally}
 
 module _ (κ : Kit) (way : ℕ → Way) (l m : Ledger) (inv : Inv κ l) (step : Step κ way l m) where
   abbrev before : ℕ → Record
@@ -137,26 +137,13 @@ module _ (κ : Kit) (way : ℕ → Way) (l m : Ledger) (inv : Inv κ l) (step : 
   -- an enciphered flake lies under the entry that the call listed; any other present one was present, and lies as it did
   entry-new : (n f : ℕ) → n < κ .n → bit (enciphered (way n) (before n)) f ≡ true
       → entryAt m n f ≡ entry n (keycountAfter (way n) (before n)) f (l .present)
-  entry-new n f h e = rw (step .turns n h, head (turn n h), secret-head)
-    where
-      head : Adds (l .epoch) (way n) (before n) ⊎ Rekeyed (l .epoch) (way n) (before n) → epochAfter (way n) (l .epoch) (before n) ≡ l .epoch
-      head (inl a) = a .epochKept ∙ a .moved f e
-      head (inr a) = a .epochSet
+  entry-new n f h e = rw (step .turns n h, new-epoch (l .epoch) (way n) (before n) f (turn n h) e, secret-head)
 
   entry-old : (n f : ℕ) → n < κ .n → bit (enciphered (way n) (before n)) f ≡ false → bit (m .records n .held) f ≡ true
       → (bit (before n .held) f ≡ true) × (entryAt m n f ≡ entryAt l n f)
-  entry-old n f h e d = go (turn n h)
-    where
-      there : bit (heldAfter (way n) (before n)) f ≡ true
-      there = rw (step .turns n h) at d
-
-      go : Adds (l .epoch) (way n) (before n) ⊎ Rekeyed (l .epoch) (way n) (before n)
-          → (bit (before n .held) f ≡ true) × (entryAt m n f ≡ entryAt l n f)
-      go (inl a) = (
-        a .stays f there e,
-        rw (step .turns n h, a .keycountKept, a .epochKept, secret-kept n h),
-      )
-      go (inr a) = absurd (clash (rw (a .rest) at there) e)
+  entry-old n f h e d =
+      let (was, a) = old-stays (l .epoch) (way n) (before n) f (turn n h) e (rw (step .turns n h) at d) in
+      (was, rw (step .turns n h, a .keycountKept, a .epochKept, secret-kept n h))
 
   few-after : (n f : ℕ) → n < κ .n → bit (m .records n .held) f ≡ true → f < κ .p
   few-after n f h e =

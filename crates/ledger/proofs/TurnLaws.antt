@@ -81,6 +81,18 @@ turn-told p head r (Add t) h = inl (record {
 })
 turn-told p head r (Rekey t) h = inr (record { keycountUp = refl; epochSet = refl; whole = refl; rest = refl })
 
+-- Of a flake that is enciphered the nugget has the head's epoch afterwards; one that is held afterwards and isn't enciphered was
+-- held before, in a nugget that isn't rekeyed.
+module _ (head : ℕ) (way : Way) (r : Record) (f : ℕ) where
+  pub new-epoch : Adds head way r ⊎ Rekeyed head way r → bit (enciphered way r) f ≡ true → epochAfter way head r ≡ head
+  new-epoch (inl a) on = a .epochKept ∙ a .moved f on
+  new-epoch (inr a) on = a .epochSet
+
+  pub old-stays : Adds head way r ⊎ Rekeyed head way r → bit (enciphered way r) f ≡ false → bit (heldAfter way r) f ≡ true
+      → (bit (r .held) f ≡ true) × Adds head way r
+  old-stays (inl a) off on = (a .stays f on off, a)
+  old-stays (inr a) off on = absurd (clash (rw (a .rest) at on) off)
+
 -- what a way touches and enciphers are flakes below p
 pub touched-lt : (p head : ℕ) (r : Record) (way : Way) → Fits p head r way → touchedBy way < 2 ^ p
 unfolding Fits
