@@ -25,6 +25,7 @@ use Rattle.records.specs.Record.{recordOf}
 use Rattle.tree.specs.Whole.{wholeOf}
 use Rattle.drive.specs.declared.Drive.{Drive}
 use Rattle.drive.specs.Drive.{shapeOf, gaugeOf}
+use Rattle.keys.specs.Keys.{sealOf, checkOf}
 use Rattle.drive.specs.Head.{checkIn}
 use Rattle.drive.specs.Opening.{openingOf}
 use Rattle.drive.proofs.OpeningLaws.{opening-lent}
@@ -122,7 +123,7 @@ pub report-detected : ReportDetected
 report-detected d v e = let q = report-stages d v e in whole-right d v (q .1) (lent-by d v (q .0))
 
 pub mount-detected : MountDetected
-unfolding openedDrive sealed checked headFits lengthFits
+unfolding openedDrive sealed checked headFits lengthFits sealOf checkOf
 mount-detected v present old outside e =
     let d = openedDrive v present old in
     let o = opened v present old outside e in

@@ -22,7 +22,7 @@ use Rattle.layout.specs.Parts.{recordAt, nodeAt}
 use Rattle.layout.specs.Lent.{Lent}
 use Rattle.layout.proofs.Limits.{Small, lent-small}
 use Rattle.layout.proofs.Places.{node-inside, record-inside, parts-inside}
-use Rattle.nodes.specs.Nodes.{nodeIn, leafOf, innerOf, recordPart, tagsPart}
+use Rattle.nodes.specs.Nodes.{nodeIn, recordPart, tagsPart}
 use Rattle.nodes.specs.Alike.{Alike}
 use Rattle.drive.specs.declared.Drive.{Drive}
 use Rattle.drive.specs.Drive.{shapeOf}
@@ -69,7 +69,7 @@ module _ (s : Shape) (n : ℕ) (q : Small s) (h : n < s .n) where
 
 module _ (d : Drive) (v w : List ℕ) (n : ℕ) (lv : Lent (shapeOf d) v) (lw : Lent (shapeOf d) w) (h : n < d .n) (pv : PathGood d v n) (pw : PathGood d w n) where
   leaf-told : nodeIn (shapeOf d) v (leaves (d .n) + n) ≡ nodeIn (shapeOf d) w (leaves (d .n) + n) → Alike (shapeOf d) v w n ⊎ Collision (shapeOf d) v w n
-  unfolding messageAt leafOf
+  unfolding messageAt
   leaf-told e = go (decided (messageAt (shapeOf d) v n 0) (messageAt (shapeOf d) w n 0))
     where
       s : Shape
@@ -85,7 +85,7 @@ module _ (d : Drive) (v w : List ℕ) (n : ℕ) (lv : Lent (shapeOf d) v) (lw : 
 
   down : (k : ℕ) → k ≤ heightOf (d .n) → nodeIn (shapeOf d) v (stepsUp (shapeOf d) n k) ≡ nodeIn (shapeOf d) w (stepsUp (shapeOf d) n k)
       → Alike (shapeOf d) v w n ⊎ Collision (shapeOf d) v w n
-  unfolding messageAt innerOf
+  unfolding messageAt
   down zero l e = let z : stepsUp (shapeOf d) n 0 ≡ leaves (d .n) + n = omega arith in leaf-told (rw z at e)
   down (suc k) l e =
       go (decided (messageAt (shapeOf d) v n (suc k)) (messageAt (shapeOf d) w n (suc k))) (λ q. down k (omega arith) q)

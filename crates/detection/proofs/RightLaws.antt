@@ -24,6 +24,8 @@ use Rattle.records.specs.Journal.{bit}
 use Rattle.records.specs.Record.{wellFormed, recordOf}
 use Rattle.records.proofs.BitLaws.{none-above, lies-bits}
 use Rattle.records.proofs.RuleLaws.{formed-spent, formed-lies, formed-epoch}
+use Rattle.keys.specs.Tags.{covered, tagOf}
+use Rattle.nodes.specs.Nodes.{leafOf, innerOf, zeroLeaf}
 use Rattle.nodes.proofs.MadeLaws.{made-leaf, made-inner, made-bottom, bottom-zero}
 use Rattle.tree.specs.Good.{upward}
 use Rattle.tree.specs.Whole.{wholeOf}
@@ -70,6 +72,7 @@ upward-steps (suc h) j (suc k) l = either-right (eqb j (j / 2 ^ suc k)) (rw (hal
 
 module _ (d : Drive) (v : List ℕ) where
   pub path-good : (n : ℕ) → Lent (shapeOf d) v → n < d .n → pathFor d v n ≡ A.Accepted → PathGood d v n
+  unfolding leafOf innerOf
   path-good n l h e =
       let s = shapeOf d in
       let b = path-belongs s (gaugeOf d) v n l h e in
@@ -84,6 +87,7 @@ module _ (d : Drive) (v : List ℕ) where
       on (suc k) p q = rw (half-steps (leaves (d .n) + n) k) (upward-steps (heightOf (d .n)) ((leaves (d .n) + n) / 2) k (omega arith))
 
   pub whole-right : wholeOf (shapeOf d) (gaugeOf d) v ≡ A.Accepted → Lent (shapeOf d) v → WholeGood d v
+  unfolding leafOf innerOf zeroLeaf
   whole-right e l =
       let s = shapeOf d in
       let small = lent-small l in
@@ -110,5 +114,5 @@ flakes-each s v g mask (suc k) f e i a b on =
 
 -- the tag of each flake of the set
 pub tag-right : (d : Drive) (v : List ℕ) (n mask f : ℕ) → flakesOf d v n mask ≡ A.Accepted → f < d .p → bit mask f ≡ true → TagRight d v n f
-unfolding flakesIn goodFlake
+unfolding flakesIn goodFlake tagOf covered
 tag-right d v n mask f e h on = same-true _ _ (flakes-each (shapeOf d) v (nuggetOf d v n) mask (d .p) 0 e f (omega arith) (omega (arith, h)) on)

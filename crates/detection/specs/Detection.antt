@@ -9,7 +9,8 @@ use Rattle.words.specs.Le.{num}
 use Rattle.layout.specs.Spots.{spotAt}
 use Rattle.answers.specs.declared.Answer.{Answer}
 use Rattle.answers.specs.declared.Answer.the-variants as A
-use Rattle.keys.specs.Keys.{checkOf, sealOf}
+use Rattle.messages.specs.Messages.{checkMessage, sealMessage}
+use Rattle.blake2s.specs.Hash.{blake2s}
 use Rattle.nodes.specs.Nodes.{nodeIn}
 use Rattle.records.specs.Record.{recordOf}
 use Rattle.drive.specs.declared.Drive.{Drive}
@@ -70,10 +71,10 @@ ReportDetected = (d : Drive) (v : List ℕ) → reportAnswer d v ≡ A.Accepted 
 -- what a mount holds the volume against: the brought secrets and the outside counter
 pub record Mounts (v present old : List ℕ) (outside : ℕ) : Type 0 where
   -- "Seal: keyed with the present secret, `H`, head bytes 0-71, node 1."
-  pub seal : part 72 32 v ≡ sealOf present (part 0 72 v) (nodeIn (shapeIn v) v 1)
+  pub seal : part 72 32 v ≡ blake2s present (sealMessage (part 0 72 v) (nodeIn (shapeIn v) v 1))
   -- "Old-secret check: keyed with the old secret, `O`, salt, head epoch (2)"; "when steady: from zeros"
   pub steady : num (part 5 1 v) ≡ 0 → part 40 32 v ≡ zeros 32
-  pub changing : num (part 5 1 v) ≡ 1 → part 40 32 v ≡ checkOf old (part 16 16 v) (num (part 6 2 v))
+  pub changing : num (part 5 1 v) ≡ 1 → part 40 32 v ≡ blake2s old (checkMessage (part 16 16 v) (num (part 6 2 v)))
   pub state : num (part 5 1 v) ≤ 1
   -- "head counter is not the outside counter" is refused
   pub counter : num (part 32 8 v) ≡ outside

@@ -1,21 +1,24 @@
--- When a volume is right: said of its bytes, with none of the tests that the calls make.
+-- When a volume is right: said of its bytes by BLAKE2s and Poly1305 themselves, with none of the tests that the calls make.
 use Prim.Native.Nat.{ℕ, _+_, _*_, _/_, _^_, _<_, _≤_}
 use mathlib.Core.Path.{_≡_}
 use mathlib.Core.Bool.{true, false}
 use mathlib.Core.Logic.{_⊎_}
-use mathlib.Core.List.{List}
+use mathlib.Core.List.{List, []}
 use lib.ListN.{length}
 use Rattle.base.specs.Lists.{part}
+use Rattle.messages.specs.Messages.{leafMessage, innerMessage}
+use Rattle.blake2s.specs.Hash.{blake2s}
+use Rattle.poly1305.specs.Poly1305.{poly1305}
 use Rattle.layout.specs.declared.Shape.{Shape}
 use Rattle.layout.specs.Shape.{heightOf, leaves}
 use Rattle.layout.specs.Parts.{lengthOf, tagAt}
 use Rattle.records.specs.declared.Record.{Record}
 use Rattle.records.specs.Journal.{bit}
-use Rattle.keys.specs.Tags.{tagOf}
-use Rattle.nodes.specs.Nodes.{nodeIn, leafOf, innerOf, zeroLeaf}
+use Rattle.keys.specs.Keys.{tagKey}
+use Rattle.nodes.specs.Nodes.{nodeIn, recordPart, tagsPart}
 use Rattle.records.specs.Record.{recordOf}
 use Rattle.drive.specs.declared.Drive.{Drive}
-use Rattle.drive.specs.Drive.{shapeOf, isChanging}
+use Rattle.drive.specs.Drive.{shapeOf, isChanging, zeros}
 use Rattle.drive.specs.Head.{headOf}
 use Rattle.nuggets.specs.Nugget.{lockFor, storedIn}
 
@@ -34,11 +37,12 @@ pub record Formed (d : Drive) (r : Record) : Type 0 where
 
 -- "Leaf, node L + n"
 abbrev pub LeafRight : Drive → List ℕ → ℕ → Type 0
-LeafRight d v n = nodeIn (shapeOf d) v (leaves (d .n) + n) ≡ leafOf (shapeOf d) v n
+LeafRight d v n =
+    nodeIn (shapeOf d) v (leaves (d .n) + n) ≡ blake2s [] (leafMessage n (recordPart (shapeOf d) v n) (tagsPart (shapeOf d) v n))
 
 -- "each node stands over the two nodes below it"
 abbrev pub InnerRight : Drive → List ℕ → ℕ → Type 0
-InnerRight d v i = nodeIn (shapeOf d) v i ≡ innerOf (nodeIn (shapeOf d) v (2 * i)) (nodeIn (shapeOf d) v (2 * i + 1))
+InnerRight d v i = nodeIn (shapeOf d) v i ≡ blake2s [] (innerMessage (nodeIn (shapeOf d) v (2 * i)) (nodeIn (shapeOf d) v (2 * i + 1)))
 
 -- the node k steps above the leaf of nugget n; with as many steps as the tree is high it is node 1
 abbrev pub stepsUp : Shape → ℕ → ℕ → ℕ
@@ -56,7 +60,7 @@ Present d v n f = bit (recordOf (shapeOf d) v n .held) f ≡ true
 
 -- "Tag = Poly1305 under the tag key over the stored flake.": the tag of these bytes as flake f of nugget n
 abbrev pub tagFor : Drive → List ℕ → ℕ → ℕ → List ℕ → List ℕ
-tagFor d v n f stored = tagOf (lockFor d v n) f stored
+tagFor d v n f stored = poly1305 (tagKey (lockFor d v n) f) stored
 
 abbrev pub TagRight : Drive → List ℕ → ℕ → ℕ → Type 0
 TagRight d v n f = part (tagAt (shapeOf d) n f) 16 v ≡ tagFor d v n f (storedIn (shapeOf d) v n f)
@@ -69,5 +73,5 @@ TagsRight d v n = (f : ℕ) → f < d .p → Present d v n f → TagRight d v n 
 pub record WholeGood (d : Drive) (v : List ℕ) : Type 0 where
   pub formed : (n : ℕ) → n < d .n → Formed d (recordOf (shapeOf d) v n)
   pub leaf : (n : ℕ) → n < d .n → LeafRight d v n
-  pub spare : (i : ℕ) → leaves (d .n) + d .n ≤ i → i < 2 * leaves (d .n) → nodeIn (shapeOf d) v i ≡ zeroLeaf
+  pub spare : (i : ℕ) → leaves (d .n) + d .n ≤ i → i < 2 * leaves (d .n) → nodeIn (shapeOf d) v i ≡ zeros 32
   pub inner : (i : ℕ) → 1 ≤ i → i < leaves (d .n) → InnerRight d v i

@@ -18,6 +18,7 @@ use mathlib.Core.List.{List, _∷_, _++_}
 use mathlib.Core.Option.{some}
 use lib.ListN.{length, getD}
 use Rattle.base.specs.Lists.{tab, part}
+use Rattle.words.specs.Xor.{xorl}
 use Rattle.answers.specs.declared.Answer.the-variants as A
 use Rattle.answers.specs.Numbers.{numberOf}
 use Rattle.layout.specs.declared.Shape.{Shape}
@@ -27,7 +28,7 @@ use Rattle.records.specs.Journal.{bit}
 use Rattle.records.specs.Listing.{Entry}
 use Rattle.poly1305.specs.Poly1305.{poly1305}
 use Rattle.keys.specs.Keys.{tagKey}
-use Rattle.keys.specs.Pads.{under}
+use Rattle.keys.specs.Pads.{padOf}
 use Rattle.drive.specs.Drive.{shapeOf}
 use Rattle.opening.specs.Mount.{mountAnswer, mountDone}
 use Rattle.nuggets.specs.Nugget.{secretFor, lockOf, storedIn}
@@ -86,13 +87,13 @@ EntriesListed =
 unfoldable pub plainIn : Shape → (ℕ → ℕ) → ℕ → ℕ → List ℕ
 plainIn s contents n f = tab (s .f) (λ b. contents (offsetAt s n f b))
 
--- a flake is its contents under the pad last listed for it, that pad is of the secret of its nugget's epoch and of its
--- nugget's keycount, and the flake's tag is Poly1305 under that pad's tag key over the stored bytes
+-- a flake is its contents xor the pad last listed for it, that pad is of the secret of its nugget's epoch and of its nugget's
+-- keycount, and the flake's tag is Poly1305 under that pad's tag key over the stored bytes; what pads and keys are made of: Pads.antt
 pub record LastPad (w : World) (n f : ℕ) : Type 0 where
   pub pad : Entry
   pub last : lastOf n f (w .listing) ≡ some pad
   pub laid : storedIn (shapeOf (w .drive)) (w .vol) n f
-      ≡ under (lockOf (shapeOf (w .drive)) (w .drive .salt) pad) f (w .drive .f) (plainIn (shapeOf (w .drive)) (w .contents) n f)
+      ≡ xorl (plainIn (shapeOf (w .drive)) (w .contents) n f) (padOf (lockOf (shapeOf (w .drive)) (w .drive .salt) pad) f (w .drive .f))
   pub secret : pad .secret ≡ secretFor (w .drive) (recordOf (shapeOf (w .drive)) (w .vol) n .epoch)
   pub keycount : pad .keycount ≡ recordOf (shapeOf (w .drive)) (w .vol) n .keycount
   pub tagged : part (tagAt (shapeOf (w .drive)) n f) 16 (w .vol)

@@ -21,7 +21,7 @@ fn begun(d: Drive, secret: [u8; 32]) -> Drive
     ensures { λ r. ⌜ r ≡ begunDrive d secret ⌝ }
 {
     let node = d.node;
-    let present = d.present;
+    let kept = d.present;
     drive::headed(
         d,
         State::Changing(d.epoch),
@@ -29,7 +29,7 @@ fn begun(d: Drive, secret: [u8; 32]) -> Drive
         d.counter + 1,
         node,
         secret,
-        present,
+        kept,
     )
 }
 
