@@ -19,7 +19,7 @@ from layout import layout
 from checks.make import OLD, PRESENT, SALT, Spec, flipped, made
 
 HERE = os.path.dirname(os.path.dirname(os.path.abspath(__file__)))
-SAMPLE_LINE = b"nuggets=3 moved=1 left=2 flakes=2 share=50.00\n"
+SAMPLE_LINE = b"nuggets=3 moved=1 left=2 flakes=2 share=50.00 done=1\n"
 SAMPLE_PAGE = SAMPLE_LINE + b"""nugget=0 key=new epoch=2 keycount=1 flakes=1
 nugget=1 key=old epoch=1 keycount=0 flakes=-
 nugget=2 key=old epoch=1 keycount=0 flakes=0
@@ -72,7 +72,7 @@ def refusals(tally):
     drive, volume = made(Spec(3, 2, 64, 1, 3, 9, [[4, 3, 2], [7, 3, 3], [0, 1, 2]]))
     good = sheet_input(drive, volume)
     for words, data in (
-            (b"nuggets=3 moved=1 left=2 flakes=5 share=40.00", good),
+            (b"nuggets=3 moved=1 left=2 flakes=5 share=40.00 done=2", good),
             (b"refused=2 class=form", b""), (b"refused=2 class=form", good[:71]),
             (b"refused=2 class=form", good[:72]), (b"refused=2 class=form", good[:175]),
             (b"refused=2 class=form", good[:176]), (b"refused=2 class=form", good + b"\0"),
@@ -87,8 +87,8 @@ def refusals(tally):
         tally.same(f"sheet {words.decode()}", sheet.line(data), words + b"\n")
     moved = made(Spec(2, 1, 64, 0, 3, 9, [[4, 1, 3], [7, 0, 3]]))
     tally.same("all moved", sheet.line(sheet_input(*moved)),
-               b"nuggets=2 moved=2 left=0 flakes=1 share=100.00\n")
-    for p, want in ((14, b"nuggets=1 moved=1 left=0 flakes=0 share=100.00\n"),
+               b"nuggets=2 moved=2 left=0 flakes=1 share=100.00 done=1\n")
+    for p, want in ((14, b"nuggets=1 moved=1 left=0 flakes=0 share=100.00 done=0\n"),
                     (15, b"refused=2 class=form\n")):
         got = calls.format(bytes(layout(1, p, 4096).length), 1, p, 4096, SALT, PRESENT, 0)
         tally.same(f"volume of {len(got.volume)} bytes",
@@ -101,7 +101,7 @@ def refusals(tally):
 def pages(tally):
     drive, volume = made(Spec(3, 2, 64, 1, 2, 9, [[1, 2, 2], [4, 0, 1], [0, 3, 1]]))
     good = sheet_input(drive, volume)
-    tally.same("page while changing", audit.page(good), b"""nuggets=3 moved=1 left=2 flakes=3 share=33.33
+    tally.same("page while changing", audit.page(good), b"""nuggets=3 moved=1 left=2 flakes=3 share=33.33 done=1
 nugget=0 key=new epoch=2 keycount=1 flakes=1
 nugget=1 key=old epoch=1 keycount=4 flakes=-
 nugget=2 key=old epoch=1 keycount=0 flakes=0,1
@@ -110,7 +110,7 @@ old=needed
 """)
     steady = made(Spec(1, 64, 64, 0, 3, 2**64 - 1, [[2**64 - 1, 2**64 - 1, 3]]))
     tally.same("page when steady", audit.page(sheet_input(*steady)),
-               b"nuggets=1 moved=1 left=0 flakes=64 share=100.00\n"
+               b"nuggets=1 moved=1 left=0 flakes=64 share=100.00 done=64\n"
                b"nugget=0 key=present epoch=3 keycount=18446744073709551615 flakes="
                + b",".join(b"%d" % f for f in range(64)) + b"\ncounter=18446744073709551615\nold=free\n")
     for data in (b"", good[:71], good[:-1], flipped(good, 0), flipped(good, 32), flipped(good, 64), flipped(good, 72 + 104)):
