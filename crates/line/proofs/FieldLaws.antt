@@ -89,7 +89,7 @@ fields-free c ((name, x) ∷ fs) l m s p q =
     (free-append c x _ (both-right (free c name) _ h) (no _ s (fields-free c fs l m s (both-right (without c (name, x)) _ p) q))))
 
 -- a share has digits and a point
-share-free : (c h : ℕ) → Far c → eqb 46 c ≡ false → free c (shareText h) ≡ true
+pub share-free : (c h : ℕ) → Far c → eqb 46 c ≡ false → free c (shareText h) ≡ true
 unfolding shareText free
 share-free c h far p =
     free-append c (decimal (h / 100)) _ (decimal-free c (h / 100) far) (no _ p (no _ (far (h / 10 % 10) (omega arith)) (no _ (far (h % 10) (omega arith)) refl)))
