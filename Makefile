@@ -1,6 +1,6 @@
-# `make test` is the whole gate. `make bench` measures; it is no part of the gate. `make sheet` and `make audit` prove and build
-# the sheet and the auditor's page, and run them on the sample volume.
-.PHONY: test bench sheet audit
+# `make test` is the whole gate. `make bench` measures; it is no part of the gate. `make sheet`, `make audit` and `make fleet` prove
+# and build the sheet, the auditor's page and the fleet's sheet, and run each on its sample.
+.PHONY: test bench sheet audit fleet
 
 test:
 	@bash tests/gate.sh
@@ -17,3 +17,8 @@ audit:
 	@tests/needs.sh
 	@rt check audit
 	@tests/run_built.sh audit < crates/audit/stdin
+
+fleet:
+	@tests/needs.sh
+	@rt check fleet
+	@tests/run_built.sh fleet < crates/fleet/stdin

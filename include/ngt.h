@@ -1,8 +1,8 @@
 /* The drive for hosts in C: link libngt.a, which `rt staticlib ngt` makes.
  *
  * No function has a precondition but that each pointer is to as many bytes as its type or its length says, and that no two
- * of them overlap; a pointer whose length is 0 may be null. Each returns the answer's number, 0 if the call is accepted, and
- * always stores the answer's image.
+ * of them overlap; a pointer whose length is 0 may be null. Each but ngt_fleet returns the answer's number, 0 if the call is
+ * accepted, and always stores the answer's image.
  *
  * The drive's image, 144 bytes: 0-3 N; 4-7 P; 8-11 F; 12 state (0 steady, 1 changing); 13 zero; 14-15 epoch; 16-17 the epoch
  * being left; 18-23 zero; 24-39 salt; 40-47 counter; 48-79 node 1; 80-111 present secret; 112-143 old secret. Bytes 13 and
@@ -50,6 +50,12 @@ uint32_t ngt_report(const uint8_t drive[144], const uint8_t *vol, size_t vol_len
  * volume's length and the numbers alone (1, 2, 8), and checks no tag. */
 uint32_t ngt_stored_flake(const uint8_t drive[144], const uint8_t *vol, size_t vol_len, uint32_t nugget, uint32_t flake,
                           uint8_t span[16], uint8_t answer[16]);
+
+/* The fleet's sheet. lines: sheet lines, one a drive, 256 at most, each ended by a newline (the last may lack it). The line, with
+ * its newline, stands in the first bytes of line; returns how many they are, at most 140. The bytes behind them stay as they
+ * are. There is no answer: the first line that isn't taken gives `open=` and its number, no line at all `open=0`. A share of
+ * 100.00 says that nothing is left on any drive; it is not leave to destroy an old secret. */
+uint32_t ngt_fleet(const uint8_t *lines, size_t lines_len, uint8_t line[192]);
 
 #ifdef __cplusplus
 }

@@ -29,7 +29,7 @@ def share_words(share):
 
 def report_line(report):
     return (f"nuggets={report.nuggets} moved={report.moved} left={report.left} "
-            f"flakes={report.flakes} share={share_words(report.share)}")
+            f"flakes={report.flakes} share={share_words(report.share)} done={report.done}")
 
 
 def text(data):

@@ -14,8 +14,8 @@ DRIVES = 60
 SHOWN = inputs.REFUSALS + [b"key=old", b"key=new", b"key=present", b"flakes=-", b"flakes=0,1,2,", b",63\n", b"epoch=65535",
                            b"keycount=%d" % TOP, b"counter=%d" % TOP]
 # 100.00 twice: swept to the end and not finished, and finished.
-SWEPT = b"nuggets=1 moved=1 left=0 flakes=1 share=100.00\nnugget=0 key=new epoch=2 keycount=1 flakes=0\ncounter=3\nold=needed\n"
-FINISHED = b"nuggets=1 moved=1 left=0 flakes=1 share=100.00\nnugget=0 key=present epoch=2 keycount=1 flakes=0\ncounter=4\nold=free\n"
+SWEPT = b"nuggets=1 moved=1 left=0 flakes=1 share=100.00 done=1\nnugget=0 key=new epoch=2 keycount=1 flakes=0\ncounter=3\nold=needed\n"
+FINISHED = b"nuggets=1 moved=1 left=0 flakes=1 share=100.00 done=1\nnugget=0 key=present epoch=2 keycount=1 flakes=0\ncounter=4\nold=free\n"
 
 
 def given(spec, **other):

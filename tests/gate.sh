@@ -62,5 +62,6 @@ counts "calls that may store nothing run where nothing can be stored" python3 te
 counts "README.md does as written" python3 tests/readme.py
 counts "the sheet agrees with the second program" python3 tests/sheet.py
 counts "the auditor's page agrees with the second program" python3 tests/audit.py
+counts "the fleet's sheet agrees with the second program" python3 tests/fleet.py
 echo "gate: $((SECONDS - started)) s in all"
 echo "$passed passed, 0 failed"

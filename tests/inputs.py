@@ -42,9 +42,10 @@ def around_the_sample(source, volume_flips):
         yield f"byte {byte} of the volume", flipped(good, 72 + byte, source.randrange(8))
 
 
-def compare(program, second, cases, shown):
-    """Runs the built program and the second one on each case; the last line counts. Each of the words shown has to come up."""
-    passed = failed = 0
+def compare(program, second, cases, shown, passed=0):
+    """Runs the built program and the second one on each case; the last line counts, with what passed before. Each of the words
+    shown has to come up."""
+    failed = 0
     missing = set(shown)
     for name, data in cases(random.Random(SEED)):
         ran = subprocess.run([ROOT / "tests/run_built.sh", program], input=data, capture_output=True)

@@ -15,7 +15,7 @@ from checks.make import PRESENT, SALT, Spec, flipped, made
 ROUNDS = 5000
 TOP = 2**64 - 1
 WORDS = (0, 1, 2, 3, 5, 63, 64, 65, 96, 128, 4096, 4160, 16384, 16385, 2**16, 2**31, 2**32 - 1)
-LINE = re.compile(rb"(nuggets=\d+ moved=\d+ left=\d+ flakes=\d+ share=\d+\.\d\d|refused=[1-6] class="
+LINE = re.compile(rb"(nuggets=\d+ moved=\d+ left=\d+ flakes=\d+ share=\d+\.\d\d done=\d+|refused=[1-6] class="
                   rb"(form|key)|refused=7 class=altered place=(record|node) \d+)\n")
 # Which numbers each call may give at all.
 POSSIBLE = {

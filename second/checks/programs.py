@@ -1,4 +1,4 @@
-"""The sheet's lines, the auditor's pages, the sample, and the script runner; also as programs of their own."""
+"""The sheet's lines, the auditor's pages, the fleet's lines, the sample, and the script runner; also as programs of their own."""
 
 import hashlib
 import os
@@ -9,6 +9,7 @@ import tempfile
 
 import audit
 import calls
+import fleet
 import run as runner
 import sample
 import sheet
@@ -19,7 +20,7 @@ from layout import layout
 from checks.make import OLD, PRESENT, SALT, Spec, flipped, made
 
 HERE = os.path.dirname(os.path.dirname(os.path.abspath(__file__)))
-SAMPLE_LINE = b"nuggets=3 moved=1 left=2 flakes=2 share=50.00\n"
+SAMPLE_LINE = b"nuggets=3 moved=1 left=2 flakes=2 share=50.00 done=1\n"
 SAMPLE_PAGE = SAMPLE_LINE + b"""nugget=0 key=new epoch=2 keycount=1 flakes=1
 nugget=1 key=old epoch=1 keycount=0 flakes=-
 nugget=2 key=old epoch=1 keycount=0 flakes=0
@@ -72,7 +73,7 @@ def refusals(tally):
     drive, volume = made(Spec(3, 2, 64, 1, 3, 9, [[4, 3, 2], [7, 3, 3], [0, 1, 2]]))
     good = sheet_input(drive, volume)
     for words, data in (
-            (b"nuggets=3 moved=1 left=2 flakes=5 share=40.00", good),
+            (b"nuggets=3 moved=1 left=2 flakes=5 share=40.00 done=2", good),
             (b"refused=2 class=form", b""), (b"refused=2 class=form", good[:71]),
             (b"refused=2 class=form", good[:72]), (b"refused=2 class=form", good[:175]),
             (b"refused=2 class=form", good[:176]), (b"refused=2 class=form", good + b"\0"),
@@ -87,8 +88,8 @@ def refusals(tally):
         tally.same(f"sheet {words.decode()}", sheet.line(data), words + b"\n")
     moved = made(Spec(2, 1, 64, 0, 3, 9, [[4, 1, 3], [7, 0, 3]]))
     tally.same("all moved", sheet.line(sheet_input(*moved)),
-               b"nuggets=2 moved=2 left=0 flakes=1 share=100.00\n")
-    for p, want in ((14, b"nuggets=1 moved=1 left=0 flakes=0 share=100.00\n"),
+               b"nuggets=2 moved=2 left=0 flakes=1 share=100.00 done=1\n")
+    for p, want in ((14, b"nuggets=1 moved=1 left=0 flakes=0 share=100.00 done=0\n"),
                     (15, b"refused=2 class=form\n")):
         got = calls.format(bytes(layout(1, p, 4096).length), 1, p, 4096, SALT, PRESENT, 0)
         tally.same(f"volume of {len(got.volume)} bytes",
@@ -101,7 +102,7 @@ def refusals(tally):
 def pages(tally):
     drive, volume = made(Spec(3, 2, 64, 1, 2, 9, [[1, 2, 2], [4, 0, 1], [0, 3, 1]]))
     good = sheet_input(drive, volume)
-    tally.same("page while changing", audit.page(good), b"""nuggets=3 moved=1 left=2 flakes=3 share=33.33
+    tally.same("page while changing", audit.page(good), b"""nuggets=3 moved=1 left=2 flakes=3 share=33.33 done=1
 nugget=0 key=new epoch=2 keycount=1 flakes=1
 nugget=1 key=old epoch=1 keycount=4 flakes=-
 nugget=2 key=old epoch=1 keycount=0 flakes=0,1
@@ -110,12 +111,36 @@ old=needed
 """)
     steady = made(Spec(1, 64, 64, 0, 3, 2**64 - 1, [[2**64 - 1, 2**64 - 1, 3]]))
     tally.same("page when steady", audit.page(sheet_input(*steady)),
-               b"nuggets=1 moved=1 left=0 flakes=64 share=100.00\n"
+               b"nuggets=1 moved=1 left=0 flakes=64 share=100.00 done=64\n"
                b"nugget=0 key=present epoch=3 keycount=18446744073709551615 flakes="
                + b",".join(b"%d" % f for f in range(64)) + b"\ncounter=18446744073709551615\nold=free\n")
     for data in (b"", good[:71], good[:-1], flipped(good, 0), flipped(good, 32), flipped(good, 64), flipped(good, 72 + 104)):
         tally.same("page of a refusal", audit.page(data), sheet.line(data))
     tally.same("page of the sample", audit.page(sample.sample()), SAMPLE_PAGE)
+
+
+def fleets(tally):
+    """Document 02, Item 11, on lines made by hand."""
+    half = b"nuggets=3 moved=1 left=2 flakes=2 share=50.00 done=1\n"
+    whole = b"nuggets=1 moved=1 left=0 flakes=0 share=100.00 done=0\n"
+    near = b"nuggets=2 moved=1 left=1 flakes=64 share=99.99 done=64\n"
+    third = b"nuggets=2 moved=1 left=1 flakes=3 share=33.33 done=1\n"
+    less = b"nuggets=4 moved=2 left=2 flakes=100 share=33.00 done=33\n"
+    below = b"nuggets=400 moved=100 left=300 flakes=10000 share=33.33 done=3333\n"
+    for data, want in ((b"", b"open=0"), (b"\n", b"open=1"), (half + b"\n", b"open=2"),
+                       (half, b"drives=1 " + half[:-1] + b" last=1"), (half[:-1], b"drives=1 " + half[:-1] + b" last=1"),
+                       (whole * 2, b"drives=2 nuggets=2 moved=2 left=0 flakes=0 share=100.00 done=0 last=1"),
+                       (whole + half, b"drives=2 nuggets=4 moved=2 left=2 flakes=2 share=50.00 done=1 last=2"),
+                       (near * 2, b"drives=2 nuggets=4 moved=2 left=2 flakes=128 share=99.99 done=128 last=1"),
+                       (third + below, b"drives=2 nuggets=402 moved=101 left=301 flakes=10003 share=33.33 done=3334 last=2"),
+                       (third + less, b"drives=2 nuggets=6 moved=3 left=3 flakes=103 share=33.00 done=34 last=2"),
+                       (half + half.replace(b"50.00", b"50.01"), b"open=2"), (half.replace(b"=3 ", b"=03 "), b"open=1"),
+                       (half[:-1] + b"\r\n", b"open=1"), (half + b"refused=6 class=key\n", b"open=2"),
+                       (b"nuggets=1 moved=0 left=1 flakes=65 share=0.00 done=0\n", b"open=1"),
+                       (b"nuggets=1 moved=1 left=0 flakes=1 share=100.00 done=2\n", b"open=1"),
+                       (b"nuggets=16385 moved=0 left=16385 flakes=0 share=0.00 done=0\n", b"open=1"),
+                       (whole * 256 + b"x", b"open=257"), (whole * 257, b"open=257"), (whole * 255 + b"x\n" + whole, b"open=256")):
+        tally.same(f"fleet {want.decode()}", fleet.line(data), want + b"\n")
 
 
 def started(name, *arguments, given=b""):
@@ -134,6 +159,7 @@ def programs(tally):
         tally.same("sample's hash", hashlib.sha256(data).hexdigest(), SAMPLE_HASH)
         tally.same("sheet.py", started("sheet.py", given=data), (0, SAMPLE_LINE))
         tally.same("audit.py", started("audit.py", given=data), (0, SAMPLE_PAGE))
+        tally.same("fleet.py", started("fleet.py", given=SAMPLE_LINE), (0, b"drives=1 " + SAMPLE_LINE[:-1] + b" last=1\n"))
         tally.same("sheet.py refuses", started("sheet.py", given=data[:-1]),
                    (0, b"refused=2 class=form\n"))
         with open(path, "w", encoding="utf-8") as script:
@@ -213,5 +239,5 @@ def script(tally):
 
 
 def run(tally):
-    for part in (lines, images, refusals, pages, programs, script):
+    for part in (lines, images, refusals, pages, fleets, programs, script):
         part(tally)

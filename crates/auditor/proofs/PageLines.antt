@@ -3,53 +3,23 @@ use mathlib.Core.Path.{_≡_, refl, ap, _∙_}
 use mathlib.Core.Bool.{true, false}
 use mathlib.Core.Logic.{_⊎_, inl, inr}
 use mathlib.Core.List.{List, [], _++_, append-assoc}
-use Prim.Native.Nat.{ℕ, zero, suc, _/_, _%_, _<_, _≤_}
+use Prim.Native.Nat.{ℕ, zero, suc, _<_, _≤_}
 use native.Mathlib.Omega.{arith}
 use lib.Dec.{eqb}
 use borrow.Author.Tests.{eqb-true, eqb-false}
-use Rattle.base.proofs.PickLaws.{no, told}
+use Rattle.base.proofs.PickLaws.{told}
 use Rattle.drive.specs.Drive.{shapeOf}
 use Rattle.drive.specs.declared.Drive.{Drive}
-use Rattle.line.specs.Decimal.{decimal}
-use Rattle.line.specs.Texts.{t-nuggets, t-moved, t-left, t-flakes, t-share}
-use Rattle.line.specs.Lines.{newline, shareText, reportLine}
+use Rattle.line.specs.Lines.{newline, reportText, reportLine}
+use Rattle.line.specs.Reading.{upTo, past, linesFrom, lineAt}
+use Rattle.line.proofs.ReadLaws.{free, up-to, past-to}
+use Rattle.line.proofs.FieldLaws.{report-free}
 use Rattle.pages.specs.Page.{nuggetText, nuggetLine, nuggetLines}
-use Rattle.auditor.specs.Reading.{upTo, past, linesFrom, lineAt}
-use Rattle.auditor.proofs.ReadLaws.{free, free-append, up-to, up-to-free, past-free, past-to, decimal-free, far-newline}
 use Rattle.records.specs.Record.{recordOf}
 
 -- a text that ends in its only newline
 abbrev pub Line : List ℕ → Type 0
 Line l = (rest : List ℕ) → (past 10 (l ++ rest) ≡ rest) × (upTo 10 (l ++ rest) ++ newline ≡ l)
-
-newline-line : Line newline
-unfolding past upTo
-newline-line rest = (refl, refl)
-
-line-more : (a b : List ℕ) → free 10 a ≡ true → Line b → Line (a ++ b)
-line-more a b f l rest = (
-  rw (append-assoc a b rest, past-free 10 a (b ++ rest) f) (l rest .0),
-  rw (append-assoc a b rest, up-to-free 10 a (b ++ rest) f, append-assoc a (upTo 10 (b ++ rest)) newline, l rest .1),
-)
-
-share-free : (h : ℕ) → free 10 (shareText h) ≡ true
-unfolding shareText free
-share-free h =
-    free-append 10 (decimal (h / 100)) _ (decimal-free 10 (h / 100) far-newline)
-    (no _ (far-newline (h / 10 % 10) (omega arith)) (no _ (far-newline (h % 10) (omega arith)) refl))
-
--- the sheet's line is one
-pub report-is-line : (n m l k h : ℕ) → Line (reportLine n m l k h)
-unfolding reportLine free
-report-is-line n m l k h =
-    line-more t-nuggets _ refl
-    (line-more (decimal n) _ (decimal-free 10 n far-newline)
-    (line-more t-moved _ refl
-    (line-more (decimal m) _ (decimal-free 10 m far-newline)
-    (line-more t-left _ refl
-    (line-more (decimal l) _ (decimal-free 10 l far-newline)
-    (line-more t-flakes _ refl
-    (line-more (decimal k) _ (decimal-free 10 k far-newline) (line-more t-share _ refl (line-more (shareText h) _ (share-free h) newline-line)))))))))
 
 -- a line of known text
 pub line-ends : (l rest : List ℕ) → free 10 l ≡ true → past 10 ((l ++ newline) ++ rest) ≡ rest
@@ -57,6 +27,12 @@ line-ends l rest f = rw (append-assoc l newline rest) (past-to 10 l rest f)
 
 pub line-text : (l rest : List ℕ) → free 10 l ≡ true → upTo 10 ((l ++ newline) ++ rest) ≡ l
 line-text l rest f = rw (append-assoc l newline rest) (up-to 10 l rest f)
+
+-- the sheet's line is one
+pub report-is-line : (n m l k h d : ℕ) → Line (reportLine n m l k h d)
+report-is-line n m l k h d rest =
+    let free = report-free n m l k h d in
+    (line-ends (reportText n m l k h d) rest free, ap (λ (t : List ℕ). t ++ newline) (line-text (reportText n m l k h d) rest free))
 
 pub last-ends : (l : List ℕ) → free 10 l ≡ true → past 10 (l ++ newline) ≡ []
 last-ends l f = past-to 10 l [] f

@@ -30,12 +30,13 @@ use Rattle.opening.specs.Mount.{wholeIn, openedDrive}
 use Rattle.opening.proofs.HeadBack.{Opened, opened}
 use Rattle.reports.specs.Report.{reportAnswer, reportOf}
 use Rattle.line.specs.Lines.{newline, reportLine}
-use Rattle.sheets.specs.Sheet.{presentIn, oldIn, outsideIn, volumeIn, sized, reportText, mountedText, mountedBy, sheetLine}
+use Rattle.sheets.specs.Sheet.{presentIn, oldIn, outsideIn, volumeIn, sized, reportedLine, mountedText, mountedBy, sheetLine}
 use Rattle.sheets.proofs.SheetLaws.{volume-taken}
 use Rattle.sheets.proofs.Follows.{report-follows}
 use Rattle.pages.specs.Page.{presentFlakes, nuggetText, nuggetLines, counterText, counterLine, oldText, oldLine, driveText, mounts, auditPage}
 use Rattle.pages.proofs.MountLaws.{mounted-drive, mounted-answer, opened-lent}
-use Rattle.auditor.specs.Reading.{upTo, past, linesFrom, lineAt, fieldAt, value, lineRead, toldOf, times}
+use Rattle.line.specs.Reading.{upTo, past, linesFrom, lineAt, fieldAt, value}
+use Rattle.auditor.specs.Reading.{lineRead, toldOf, times}
 use Rattle.auditor.specs.Question.{keyWord, secretNamed, Answers}
 use Rattle.auditor.proofs.ListLaws.{times-present, times-above}
 use Rattle.auditor.proofs.LineLaws.{LineTold, line-told, counter-told, counter-free, old-told, old-line-free}
@@ -103,7 +104,7 @@ module _ (d : Drive) (v : List ℕ) (lent : Lent (shapeOf d) v) (narrow : Narrow
     page-ends = from-next (suc (suc (d .n))) page ∙ ap (past 10) old-from ∙ last-ends (oldText d) (old-line-free d)
 
     answered : outside < 10 ^ 20 → d .counter ≡ outside
-        → (let r = reportOf d v in first ≡ reportLine (r .n) (r .moved) (r .left) (r .flakes) (r .share))
+        → (let r = reportOf d v in first ≡ reportLine (r .n) (r .moved) (r .left) (r .flakes) (r .share) (r .done))
         → Answers page d v outside
     answered small counter is =
         let named : (n : ℕ) → n < d .n → toldOf page n .key ≡ keyWord d (recordOf (shapeOf d) v n .epoch) = λ n h. ap (λ (l : List ℕ). lineRead l .key) (nugget-text n h) ∙ line n h .key ∙ key-word d (recordOf (shapeOf d) v n .epoch) (fits n h) in
@@ -125,8 +126,8 @@ module _ (d : Drive) (v : List ℕ) (lent : Lent (shapeOf d) v) (narrow : Narrow
 
 -- the report after an accepted mount is accepted, so the sheet's line has its numbers
 report-line-is : (d : Drive) (v : List ℕ) → reportAnswer d v ≡ A.Accepted
-    → (let r = reportOf d v in reportText r ≡ reportLine (r .n) (r .moved) (r .left) (r .flakes) (r .share))
-unfolding reportText reportOf
+    → (let r = reportOf d v in reportedLine r ≡ reportLine (r .n) (r .moved) (r .left) (r .flakes) (r .share) (r .done))
+unfolding reportedLine reportOf
 report-line-is d v e = let accepted : accepts (reportOf d v .answer) ≡ true = rw e refl in yes _ accepted refl
 
 module _ (i : List ℕ) (mounted : mounts i ≡ true) where
@@ -144,7 +145,7 @@ module _ (i : List ℕ) (mounted : mounts i ≡ true) where
   told : Opened (volumeIn i) (openedDrive (volumeIn i) (presentIn i) (oldIn i)) (outsideIn i)
   told = opened (volumeIn i) (presentIn i) (oldIn i) (outsideIn i) (mounted-answer i accepted)
 
-  sheet-is : sheetLine i ≡ reportText (reportOf drive (volumeIn i))
+  sheet-is : sheetLine i ≡ reportedLine (reportOf drive (volumeIn i))
   unfolding sheetLine mountedText
   sheet-is = yes _ size (yes _ accepted (rw (mounted-drive i accepted)))
 
@@ -160,8 +161,8 @@ module _ (i : List ℕ) (mounted : mounts i ≡ true) where
   answers narrow small reports =
       let v = volumeIn i in
       let r = reportOf drive v in
-      let is : sheetLine i ≡ reportLine (r .n) (r .moved) (r .left) (r .flakes) (r .share) = sheet-is ∙ report-line-is drive v reports in
-      let is-line : Line (sheetLine i) = rw is (report-is-line (r .n) (r .moved) (r .left) (r .flakes) (r .share)) in
+      let is : sheetLine i ≡ reportLine (r .n) (r .moved) (r .left) (r .flakes) (r .share) (r .done) = sheet-is ∙ report-line-is drive v reports in
+      let is-line : Line (sheetLine i) = rw is (report-is-line (r .n) (r .moved) (r .left) (r .flakes) (r .share) (r .done)) in
       rw (page-is, mounted-drive i accepted)
       (answered drive v lent narrow (told .whole) (outsideIn i) (sheetLine i) is-line (lt-of-lt-of-le small (lit≤ tt)) (told .counter) is)
 

@@ -13,7 +13,8 @@ use Rattle.nuggets.specs.Nugget.{lockFor}
 use Rattle.reports.specs.Report.{reportOf}
 use Rattle.line.specs.Lines.{newline, reportLine}
 use Rattle.pages.specs.Words.{t-new, t-old, t-present, t-needed, t-free}
-use Rattle.auditor.specs.Reading.{linesFrom, lineAt, toldOf, counterTold, oldTold, times}
+use Rattle.line.specs.Reading.{linesFrom, lineAt}
+use Rattle.auditor.specs.Reading.{toldOf, counterTold, oldTold, times}
 use Rattle.records.specs.Record.{recordOf}
 
 -- "One less means: under the old secret": `old` exactly if the epoch is one less than the head's. Else it is `new`, in a steady drive `present`.
@@ -27,7 +28,7 @@ secretNamed d word = pick (same word t-old) (d .old) (d .present)
 -- the page answers it for the mounted drive: what is read off it is what the records say
 pub record Answers (page : List ℕ) (d : Drive) (v : List ℕ) (outside : ℕ) : Type 0 where
   -- the first line is the sheet's, with the report's numbers
-  pub sheet : let r = reportOf d v in lineAt 0 page ++ newline ≡ reportLine (r .n) (r .moved) (r .left) (r .flakes) (r .share)
+  pub sheet : let r = reportOf d v in lineAt 0 page ++ newline ≡ reportLine (r .n) (r .moved) (r .left) (r .flakes) (r .share) (r .done)
   -- then each nugget in turn: its number, its epoch and its keycount
   pub nugget : (n : ℕ) → n < d .n → toldOf page n .nugget ≡ n
   pub epoch : (n : ℕ) → n < d .n → toldOf page n .epoch ≡ recordOf (shapeOf d) v n .epoch

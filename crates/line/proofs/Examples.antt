@@ -5,21 +5,21 @@ use Rattle.answers.specs.declared.Answer.the-variants as A
 use Rattle.answers.specs.declared.Place.the-variants as P
 use Rattle.answers.specs.Classes.{classOf}
 use Rattle.line.specs.Decimal.{digits, widthIn, decimal}
-use Rattle.line.specs.Lines.{shareText, reportLine, refusalLine}
+use Rattle.line.specs.Lines.{shareText, reportText, reportLine, refusalLine}
 
--- `nuggets=3 moved=1 left=2 flakes=2 share=50.00`
-pub half : reportLine 3 1 2 2 5000 ≡ 110 ∷ 117 ∷ 103 ∷ 103 ∷ 101 ∷ 116 ∷ 115 ∷ 61 ∷ 51 ∷ 32 ∷ 109 ∷ 111 ∷ 118 ∷ 101 ∷ 100 ∷ 61 ∷ 49 ∷ 32 ∷ 108 ∷ 101 ∷ 102 ∷ 116 ∷ 61 ∷ 50 ∷ 32 ∷ 102 ∷ 108 ∷ 97 ∷ 107 ∷ 101 ∷ 115 ∷ 61 ∷ 50 ∷ 32 ∷ 115 ∷ 104 ∷ 97 ∷ 114 ∷ 101 ∷ 61 ∷ 53 ∷ 48 ∷ 46 ∷ 48 ∷ 48 ∷ 10 ∷ []
-unfolding reportLine shareText decimal digits widthIn
+-- `nuggets=3 moved=1 left=2 flakes=2 share=50.00 done=1`
+pub half : reportLine 3 1 2 2 5000 1 ≡ 110 ∷ 117 ∷ 103 ∷ 103 ∷ 101 ∷ 116 ∷ 115 ∷ 61 ∷ 51 ∷ 32 ∷ 109 ∷ 111 ∷ 118 ∷ 101 ∷ 100 ∷ 61 ∷ 49 ∷ 32 ∷ 108 ∷ 101 ∷ 102 ∷ 116 ∷ 61 ∷ 50 ∷ 32 ∷ 102 ∷ 108 ∷ 97 ∷ 107 ∷ 101 ∷ 115 ∷ 61 ∷ 50 ∷ 32 ∷ 115 ∷ 104 ∷ 97 ∷ 114 ∷ 101 ∷ 61 ∷ 53 ∷ 48 ∷ 46 ∷ 48 ∷ 48 ∷ 32 ∷ 100 ∷ 111 ∷ 110 ∷ 101 ∷ 61 ∷ 49 ∷ 10 ∷ []
+unfolding reportText shareText decimal digits widthIn
 half = refl
 
--- `nuggets=10000 moved=10000 left=0 flakes=0 share=100.00`
-pub all : reportLine 10000 10000 0 0 10000 ≡ 110 ∷ 117 ∷ 103 ∷ 103 ∷ 101 ∷ 116 ∷ 115 ∷ 61 ∷ 49 ∷ 48 ∷ 48 ∷ 48 ∷ 48 ∷ 32 ∷ 109 ∷ 111 ∷ 118 ∷ 101 ∷ 100 ∷ 61 ∷ 49 ∷ 48 ∷ 48 ∷ 48 ∷ 48 ∷ 32 ∷ 108 ∷ 101 ∷ 102 ∷ 116 ∷ 61 ∷ 48 ∷ 32 ∷ 102 ∷ 108 ∷ 97 ∷ 107 ∷ 101 ∷ 115 ∷ 61 ∷ 48 ∷ 32 ∷ 115 ∷ 104 ∷ 97 ∷ 114 ∷ 101 ∷ 61 ∷ 49 ∷ 48 ∷ 48 ∷ 46 ∷ 48 ∷ 48 ∷ 10 ∷ []
-unfolding reportLine shareText decimal digits widthIn
+-- `nuggets=10000 moved=10000 left=0 flakes=0 share=100.00 done=0`
+pub all : reportLine 10000 10000 0 0 10000 0 ≡ 110 ∷ 117 ∷ 103 ∷ 103 ∷ 101 ∷ 116 ∷ 115 ∷ 61 ∷ 49 ∷ 48 ∷ 48 ∷ 48 ∷ 48 ∷ 32 ∷ 109 ∷ 111 ∷ 118 ∷ 101 ∷ 100 ∷ 61 ∷ 49 ∷ 48 ∷ 48 ∷ 48 ∷ 48 ∷ 32 ∷ 108 ∷ 101 ∷ 102 ∷ 116 ∷ 61 ∷ 48 ∷ 32 ∷ 102 ∷ 108 ∷ 97 ∷ 107 ∷ 101 ∷ 115 ∷ 61 ∷ 48 ∷ 32 ∷ 115 ∷ 104 ∷ 97 ∷ 114 ∷ 101 ∷ 61 ∷ 49 ∷ 48 ∷ 48 ∷ 46 ∷ 48 ∷ 48 ∷ 32 ∷ 100 ∷ 111 ∷ 110 ∷ 101 ∷ 61 ∷ 48 ∷ 10 ∷ []
+unfolding reportText shareText decimal digits widthIn
 all = refl
 
--- `nuggets=1 moved=0 left=1 flakes=0 share=0.00`
-pub none : reportLine 1 0 1 0 0 ≡ 110 ∷ 117 ∷ 103 ∷ 103 ∷ 101 ∷ 116 ∷ 115 ∷ 61 ∷ 49 ∷ 32 ∷ 109 ∷ 111 ∷ 118 ∷ 101 ∷ 100 ∷ 61 ∷ 48 ∷ 32 ∷ 108 ∷ 101 ∷ 102 ∷ 116 ∷ 61 ∷ 49 ∷ 32 ∷ 102 ∷ 108 ∷ 97 ∷ 107 ∷ 101 ∷ 115 ∷ 61 ∷ 48 ∷ 32 ∷ 115 ∷ 104 ∷ 97 ∷ 114 ∷ 101 ∷ 61 ∷ 48 ∷ 46 ∷ 48 ∷ 48 ∷ 10 ∷ []
-unfolding reportLine shareText decimal digits widthIn
+-- `nuggets=1 moved=0 left=1 flakes=0 share=0.00 done=0`
+pub none : reportLine 1 0 1 0 0 0 ≡ 110 ∷ 117 ∷ 103 ∷ 103 ∷ 101 ∷ 116 ∷ 115 ∷ 61 ∷ 49 ∷ 32 ∷ 109 ∷ 111 ∷ 118 ∷ 101 ∷ 100 ∷ 61 ∷ 48 ∷ 32 ∷ 108 ∷ 101 ∷ 102 ∷ 116 ∷ 61 ∷ 49 ∷ 32 ∷ 102 ∷ 108 ∷ 97 ∷ 107 ∷ 101 ∷ 115 ∷ 61 ∷ 48 ∷ 32 ∷ 115 ∷ 104 ∷ 97 ∷ 114 ∷ 101 ∷ 61 ∷ 48 ∷ 46 ∷ 48 ∷ 48 ∷ 32 ∷ 100 ∷ 111 ∷ 110 ∷ 101 ∷ 61 ∷ 48 ∷ 10 ∷ []
+unfolding reportText shareText decimal digits widthIn
 none = refl
 
 -- `refused=6 class=key`

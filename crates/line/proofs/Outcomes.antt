@@ -16,6 +16,9 @@ put κs a x y u v p q = (agree (p .behind) (q .behind), agree (p .stored) (q .st
 pub put-field : OneOutcome fn.put_field.ended fn.put_field.Reads.Post
 put-field κs a x y u v p q = (agree (p .behind) (q .behind), agree (p .stored) (q .stored) ∥ refl)
 
+pub report-text : OneOutcome fn.report_text.ended fn.report_text.Reads.Post
+report-text κs a x y u v p q = (agree (p .behind) (q .behind), agree (p .stored) (q .stored) ∥ refl)
+
 pub report-line : OneOutcome fn.report_line.ended fn.report_line.Reads.Post
 report-line κs a x y u v p q = (agree (p .behind) (q .behind), agree (p .stored) (q .stored) ∥ refl)
 

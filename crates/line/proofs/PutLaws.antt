@@ -15,8 +15,8 @@ use Rattle.answers.specs.declared.Class.{Class}
 use Rattle.answers.specs.declared.Class.the-variants as C
 use Rattle.answers.specs.declared.Place.{Place}
 use Rattle.answers.specs.declared.Place.the-variants as P
-use Rattle.line.specs.Texts.{t-nuggets, t-moved, t-left, t-flakes, t-share, t-refused, t-class, t-record, t-node, t-flake}
-use Rattle.line.specs.Lines.{Put, newline, shareText, classText, placeText, carriedText, reportLine, refusalLine}
+use Rattle.line.specs.Texts.{t-nuggets, t-moved, t-left, t-flakes, t-share, t-done, t-refused, t-class, t-record, t-node, t-flake}
+use Rattle.line.specs.Lines.{Put, newline, shareText, classText, placeText, carriedText, reportText, refusalLine}
 use Rattle.line.specs.Decimal.{decimal, longDecimal, widthIn}
 use Rattle.line.proofs.DecimalLaws.{length-digits, width-le}
 
@@ -70,18 +70,29 @@ pub put-as : {s x : List ℕ} {at r : ℕ} (p q : List ℕ) → p ≡ q → Put 
 put-as p q e f = record { behind = rw e at (f .behind); stored = rw e at (f .stored) }
 
 -- the pieces of a line, joined as the code puts them
-eleven : (a b c d e f g h i j k : List ℕ)
-    → ((((((a ++ b) ++ (c ++ d)) ++ (e ++ f)) ++ (g ++ h)) ++ i) ++ j) ++ k ≡ a ++ (b ++ (c ++ (d ++ (e ++ (f ++ (g ++ (h ++ (i ++ (j ++ k)))))))))
-eleven a b c d e f g h i j k = simp append-assoc
+twelve : (a b c d e f g h i j k l : List ℕ)
+    → (((a ++ b) ++ (c ++ d)) ++ (e ++ f)) ++ ((((g ++ h) ++ i) ++ j) ++ (k ++ l))
+    ≡ a ++ (b ++ (c ++ (d ++ (e ++ (f ++ (g ++ (h ++ (i ++ (j ++ (k ++ l))))))))))
+twelve a b c d e f g h i j k l = simp append-assoc
 
 six : (a b c d e f : List ℕ) → ((((a ++ b) ++ c) ++ d) ++ e) ++ f ≡ a ++ (b ++ (c ++ (d ++ (e ++ f))))
 six a b c d e f = simp append-assoc
 
-pub report-text : (n m l k h : ℕ)
-    → ((((((t-nuggets ++ decimal n) ++ (t-moved ++ decimal m)) ++ (t-left ++ decimal l)) ++ (t-flakes ++ decimal k)) ++ t-share) ++ shareText h) ++ newline
-    ≡ reportLine n m l k h
-unfolding reportLine
-report-text n m l k h = eleven t-nuggets (decimal n) t-moved (decimal m) t-left (decimal l) t-flakes (decimal k) t-share (shareText h) newline
+pub report-joins : (n m l k h d : ℕ)
+    → (((t-nuggets ++ decimal n) ++ (t-moved ++ decimal m)) ++ (t-left ++ decimal l)) ++ ((((t-flakes ++ decimal k) ++ t-share) ++ shareText h) ++ (t-done ++ decimal d))
+    ≡ reportText n m l k h d
+unfolding reportText
+report-joins n m l k h d =
+    twelve t-nuggets (decimal n) t-moved (decimal m) t-left (decimal l) t-flakes (decimal k) t-share (shareText h) t-done (decimal d)
+
+-- how far its nuggets and all of it reach
+pub nuggets-le : (n m l : ℕ) → length (((t-nuggets ++ decimal n) ++ (t-moved ++ decimal m)) ++ (t-left ++ decimal l)) ≤ 51
+nuggets-le n m l = simp length-append (omega (arith, decimal-le n, decimal-le m, decimal-le l))
+
+pub report-le : (n m l k h d : ℕ) → length (reportText n m l k h d) ≤ 105
+unfolding reportText
+report-le n m l k h d =
+    simp length-append (omega (arith, decimal-le n, decimal-le m, decimal-le l, decimal-le k, share-le h, decimal-le d))
 
 pub refusal-text : (a : Answer) (n : ℕ) (c : Class) (k : Carried) → n ≡ numberOf a → c ≡ classOf n → k ≡ carriedOf a
     → ((((t-refused ++ decimal n) ++ t-class) ++ classText c) ++ carriedText k) ++ newline ≡ refusalLine a

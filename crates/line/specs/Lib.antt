@@ -1,3 +1,4 @@
 pub mod Decimal
 pub mod Texts
 pub mod Lines
+pub mod Reading

@@ -14,7 +14,7 @@ use Rattle.answers.specs.declared.Place.the-variants as P
 use Rattle.answers.specs.Numbers.{numberOf, carriedOf}
 use Rattle.answers.specs.Classes.{classOf}
 use Rattle.line.specs.Decimal.{decimal}
-use Rattle.line.specs.Texts.{t-nuggets, t-moved, t-left, t-flakes, t-share, t-refused, t-class, t-form, t-key, t-altered, t-request, t-spent, t-head, t-record, t-node, t-flake}
+use Rattle.line.specs.Texts.{t-nuggets, t-moved, t-left, t-flakes, t-share, t-done, t-refused, t-class, t-form, t-key, t-altered, t-request, t-spent, t-head, t-record, t-node, t-flake}
 
 -- the text is stored at a place, and nothing else changes; next is the place behind it
 pub record Put (s : List ℕ) (at : ℕ) (text : List ℕ) (next : ℕ) (last : List ℕ) : Type 0 where
@@ -28,10 +28,14 @@ newline = 10 ∷ []
 unfoldable pub shareText : ℕ → List ℕ
 shareText h = decimal (h / 100) ++ (46 ∷ (48 + h / 10 % 10) ∷ (48 + h % 10) ∷ [])
 
--- `nuggets=3 moved=1 left=2 flakes=2 share=50.00`
-unfoldable pub reportLine : ℕ → ℕ → ℕ → ℕ → ℕ → List ℕ
-reportLine n moved left flakes share =
-    t-nuggets ++ (decimal n ++ (t-moved ++ (decimal moved ++ (t-left ++ (decimal left ++ (t-flakes ++ (decimal flakes ++ (t-share ++ (shareText share ++ newline)))))))))
+-- `nuggets=3 moved=1 left=2 flakes=2 share=50.00 done=1`: document 02, Item 11: "The sheet line gains a last column, present
+-- flakes in moved nuggets (`done=`)."
+unfoldable pub reportText : ℕ → ℕ → ℕ → ℕ → ℕ → ℕ → List ℕ
+reportText n moved left flakes share done =
+    t-nuggets ++ (decimal n ++ (t-moved ++ (decimal moved ++ (t-left ++ (decimal left ++ (t-flakes ++ (decimal flakes ++ (t-share ++ (shareText share ++ (t-done ++ decimal done))))))))))
+
+abbrev pub reportLine : ℕ → ℕ → ℕ → ℕ → ℕ → ℕ → List ℕ
+reportLine n moved left flakes share done = reportText n moved left flakes share done ++ newline
 
 -- "Classes: answers 1 to 3 form, 4 to 6 key, 7 altered, 8 to 12 request, 13 to 15 spent."
 abbrev pub classText : Class → List ℕ

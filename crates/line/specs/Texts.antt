@@ -22,6 +22,10 @@ t-flakes = 32 ∷ 102 ∷ 108 ∷ 97 ∷ 107 ∷ 101 ∷ 115 ∷ 61 ∷ []
 abbrev pub t-share : List ℕ
 t-share = 32 ∷ 115 ∷ 104 ∷ 97 ∷ 114 ∷ 101 ∷ 61 ∷ []
 
+-- ` done=`
+abbrev pub t-done : List ℕ
+t-done = 32 ∷ 100 ∷ 111 ∷ 110 ∷ 101 ∷ 61 ∷ []
+
 -- `refused=`
 abbrev pub t-refused : List ℕ
 t-refused = 114 ∷ 101 ∷ 102 ∷ 117 ∷ 115 ∷ 101 ∷ 100 ∷ 61 ∷ []

@@ -10,7 +10,8 @@ ghost use Prim.Native.Nat.{_+_, _≤_};
 ghost use lib.ListN.{length};
 ghost use lib.Seq.{sets};
 ghost use Rattle.line.specs.Decimal.{digits, widthIn, decimal, longDecimal};
-ghost use Rattle.line.specs.Lines.{Put, shareText, reportLine, classText, placeText, carriedText, refusalLine};
+ghost use Rattle.line.specs.Texts.{t-nuggets, t-moved, t-left, t-flakes, t-share, t-done};
+ghost use Rattle.line.specs.Lines.{Put, shareText, reportText, reportLine, classText, placeText, carriedText, refusalLine};
 
 // How many decimal digits n has.
 pub fn width(n: u64) -> usize
@@ -85,18 +86,60 @@ fn put_share(out: &mut [u8], at: usize, share: u32) -> usize
     put(&mut *out, next, &tail)
 }
 
-// The report's line in the first bytes of `out`; how many they are.
-pub fn report_line(out: &mut [u8], n: u32, moved: u32, left: u32, flakes: u32, share: u32) -> usize
-    requires { ⌜ 128 ≤ length (now out) ⌝ }
-    ensures { λ r. ⌜ Put (now (out .entry)) 0 (reportLine n moved left flakes share) r (now (out .exit)) ⌝ }
+// The nuggets of a report.
+fn put_nuggets(out: &mut [u8], at: usize, n: u32, moved: u32, left: u32) -> usize
+    requires { ⌜ at + 51 ≤ length (now out) ⌝ }
+    ensures { λ r. ⌜ Put (now (out .entry)) at ((t-nuggets ++ decimal n) ++ (t-moved ++ decimal moved) ++ (t-left ++ decimal left)) r (now (out .exit)) ⌝ }
 {
-    let a = put_field(&mut *out, 0, b"nuggets=", n);
+    let a = put_field(&mut *out, at, b"nuggets=", n);
     let b = put_field(&mut *out, a, b" moved=", moved);
-    let c = put_field(&mut *out, b, b" left=", left);
-    let d = put_field(&mut *out, c, b" flakes=", flakes);
-    let e = put(&mut *out, d, b" share=");
-    let f = put_share(&mut *out, e, share);
-    put(&mut *out, f, b"\n")
+    put_field(&mut *out, b, b" left=", left)
+}
+
+// The flakes of a report.
+fn put_flakes(out: &mut [u8], at: usize, flakes: u32, share: u32, done: u32) -> usize
+    requires { ⌜ at + 54 ≤ length (now out) ⌝ }
+    ensures { λ r. ⌜ Put (now (out .entry)) at ((t-flakes ++ decimal flakes) ++ t-share ++ shareText share ++ (t-done ++ decimal done)) r (now (out .exit)) ⌝ }
+{
+    let a = put_field(&mut *out, at, b" flakes=", flakes);
+    let b = put(&mut *out, a, b" share=");
+    let c = put_share(&mut *out, b, share);
+    put_field(&mut *out, c, b" done=", done)
+}
+
+// The report's text stored at `at`; the place behind it.
+pub fn report_text(
+    out: &mut [u8],
+    at: usize,
+    n: u32,
+    moved: u32,
+    left: u32,
+    flakes: u32,
+    share: u32,
+    done: u32,
+) -> usize
+    requires { ⌜ at + 105 ≤ length (now out) ⌝ }
+    ensures { λ r. ⌜ Put (now (out .entry)) at (reportText n moved left flakes share done) r (now (out .exit)) ⌝ }
+{
+    let next = put_nuggets(&mut *out, at, n, moved, left);
+    put_flakes(&mut *out, next, flakes, share, done)
+}
+
+// The report's line in the first bytes of `out`; how many they are.
+pub fn report_line(
+    out: &mut [u8],
+    n: u32,
+    moved: u32,
+    left: u32,
+    flakes: u32,
+    share: u32,
+    done: u32,
+) -> usize
+    requires { ⌜ 128 ≤ length (now out) ⌝ }
+    ensures { λ r. ⌜ Put (now (out .entry)) 0 (reportLine n moved left flakes share done) r (now (out .exit)) ⌝ }
+{
+    let next = report_text(&mut *out, 0, n, moved, left, flakes, share, done);
+    put(&mut *out, next, b"\n")
 }
 
 fn put_class(out: &mut [u8], at: usize, class: Class) -> usize

@@ -1,5 +1,5 @@
 // The C interface of the drive: each call with its drive and its answer as bytes.
-// It touches the calls' crates, and `packed` and `images` for the bytes.
+// It touches the calls' crates, `packed` and `images` for the bytes, and `fleets` for the fleet's line.
 use answers::Answer;
 use drive::Drive;
 use layout::Shape;
@@ -8,6 +8,8 @@ ghost use mathlib.Core.List.{_++_};
 ghost use Rattle.words.specs.Le.{le};
 ghost use Rattle.layout.specs.Shape.{shape};
 ghost use Rattle.packed.specs.Image.{driveIn};
+ghost use Rattle.line.specs.Lines.{Put};
+ghost use Rattle.fleets.specs.Lines.{fleetLine};
 ghost use Rattle.changes.specs.Write.{writes};
 ghost use Rattle.ngt.specs.Calls.{Formatted, Mounted, Filled, Reported, Shown, spanOf, imageAfter, Begun, Swept, Finished, Written};
 
@@ -245,4 +247,13 @@ pub extern "C" fn ngt_write(
     keep(image, writes_by(a, bytes), next);
     *answer = images::answer_image(a);
     answers::number(a)
+}
+
+// The fleet's line of drives' lines, in the first bytes of `out`; how many they are.
+#[no_mangle]
+pub extern "C" fn ngt_fleet(lines: &[u8], out: &mut [u8; 192]) -> u32
+    ensures { λ r. ⌜ Put (now (out .entry)) 0 (fleetLine (now (lines .entry))) r (now (out .exit)) ⌝ }
+{
+    let k = fleets::fleet_line(lines, out);
+    k as u32
 }

@@ -91,7 +91,7 @@ page-whole i h em ev eo a =
     rw (h, b, em, ev, eo)
 
 -- how far the sheet's line reaches
-pub mounted-reach : (m : Done) (v : List ℕ) {s x : List ℕ} {r : ℕ} → Put s 0 (mountedText m v) r x → r ≤ 90
+pub mounted-reach : (m : Done) (v : List ℕ) {s x : List ℕ} {r : ℕ} → Put s 0 (mountedText m v) r x → r ≤ 106
 mounted-reach m v f = omega (arith, f .behind, mounted-short m v)
 
 lines-short : (i : List ℕ) → mounts i ≡ true → length (driveText (mountedBy i .drive) (volumeIn i) (outsideIn i)) ≤ 113440
@@ -103,11 +103,11 @@ lines-short i h =
     omega (arith, room .1, lines-le d (volumeIn i) (d .n) narrow, length-append (nuggetLines d (volumeIn i) (d .n)) (counterLine (outsideIn i) ++ oldLine d), length-append (counterLine (outsideIn i)) (oldLine d), counter-le (outsideIn i), old-le d)
 
 -- no page is longer
-pub page-short : (i : List ℕ) → length (auditPage i) ≤ 113530
+pub page-short : (i : List ℕ) → length (auditPage i) ≤ 113546
 unfolding auditPage
 page-short i = go (told (mounts i))
   where
-    go : (mounts i ≡ true) ⊎ (mounts i ≡ false) → length (sheetLine i ++ pick (mounts i) (driveText (mountedBy i .drive) (volumeIn i) (outsideIn i)) []) ≤ 113530
+    go : (mounts i ≡ true) ⊎ (mounts i ≡ false) → length (sheetLine i ++ pick (mounts i) (driveText (mountedBy i .drive) (volumeIn i) (outsideIn i)) []) ≤ 113546
     go (inl e) = rw e (omega (arith, length-append (sheetLine i) (driveText (mountedBy i .drive) (volumeIn i) (outsideIn i)), sheet-short i, lines-short i e))
     go (inr e) = rw e (omega (arith, length-append (sheetLine i) [], sheet-short i))
 

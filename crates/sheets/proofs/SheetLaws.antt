@@ -14,13 +14,13 @@ use Rattle.answers.specs.declared.Answer.{Answer}
 use Rattle.answers.specs.declared.Answer.the-variants as A
 use Rattle.answers.specs.Numbers.{numberOf, carriedOf, accepts}
 use Rattle.answers.specs.Classes.{classOf}
-use Rattle.line.specs.Lines.{Put, reportLine, refusalLine}
-use Rattle.line.proofs.PutLaws.{decimal-le, share-le, class-le, carried-le}
+use Rattle.line.specs.Lines.{Put, newline, reportText, reportLine, refusalLine}
+use Rattle.line.proofs.PutLaws.{decimal-le, report-le, class-le, carried-le}
 use Rattle.drive.specs.declared.Done.{Done}
 use Rattle.opening.specs.Mount.{mountDone}
 use Rattle.reports.specs.declared.told.Report.{Report}
 use Rattle.reports.specs.Report.{reportOf}
-use Rattle.sheets.specs.Sheet.{presentIn, oldIn, outsideIn, volumeIn, sized, reportText, mountedText, mountedBy, sheetLine}
+use Rattle.sheets.specs.Sheet.{presentIn, oldIn, outsideIn, volumeIn, sized, reportedLine, mountedText, mountedBy, sheetLine}
 
 -- the volume is all that follows
 pub volume-taken : (i : List ℕ) → take (length i - 72) (drop 72 i) ≡ volumeIn i
@@ -42,11 +42,10 @@ mounted-is i ev ep eo ek er = rw (er, ek, eo, ep, ev)
 pub mounted-told : (i : List ℕ) {m : Done} {v : List ℕ} → m ≡ mountedBy i → v ≡ volumeIn i → mountedText m v ≡ mountedText (mountedBy i) (volumeIn i)
 mounted-told i em ev = rw (em, ev)
 
-report-short : (n m l k h : ℕ) → length (reportLine n m l k h) ≤ 90
-unfolding reportLine
-report-short n m l k h = simp length-append (omega (arith, decimal-le n, decimal-le m, decimal-le l, decimal-le k, share-le h))
+report-short : (n m l k h d : ℕ) → length (reportLine n m l k h d) ≤ 106
+report-short n m l k h d = omega (arith, length-append (reportText n m l k h d) newline, report-le n m l k h d)
 
-refusal-short : (a : Answer) → length (refusalLine a) ≤ 90
+refusal-short : (a : Answer) → length (refusalLine a) ≤ 106
 unfolding refusalLine
 refusal-short a = simp length-append (omega (arith, decimal-le (numberOf a), class-le (classOf (numberOf a)), carried-le (carriedOf a)))
 
@@ -54,21 +53,21 @@ pick-short : (b : Bool) (x y : List ℕ) (m : ℕ) → length x ≤ m → length
 pick-short true x y m p q = p
 pick-short false x y m p q = q
 
-told-short : (r : Report) → length (reportText r) ≤ 90
-unfolding reportText
+told-short : (r : Report) → length (reportedLine r) ≤ 106
+unfolding reportedLine
 told-short r =
-    pick-short (accepts (r .answer)) (reportLine (r .n) (r .moved) (r .left) (r .flakes) (r .share)) (refusalLine (r .answer)) 90 (report-short (r .n) (r .moved) (r .left) (r .flakes) (r .share)) (refusal-short (r .answer))
+    pick-short (accepts (r .answer)) (reportLine (r .n) (r .moved) (r .left) (r .flakes) (r .share) (r .done)) (refusalLine (r .answer)) 106 (report-short (r .n) (r .moved) (r .left) (r .flakes) (r .share) (r .done)) (refusal-short (r .answer))
 
 -- no line is longer
-pub mounted-short : (m : Done) (v : List ℕ) → length (mountedText m v) ≤ 90
+pub mounted-short : (m : Done) (v : List ℕ) → length (mountedText m v) ≤ 106
 unfolding mountedText
 mounted-short m v =
-    pick-short (accepts (m .answer)) (reportText (reportOf (m .drive) v)) (refusalLine (m .answer)) 90 (told-short (reportOf (m .drive) v)) (refusal-short (m .answer))
+    pick-short (accepts (m .answer)) (reportedLine (reportOf (m .drive) v)) (refusalLine (m .answer)) 106 (told-short (reportOf (m .drive) v)) (refusal-short (m .answer))
 
-pub sheet-short : (i : List ℕ) → length (sheetLine i) ≤ 90
+pub sheet-short : (i : List ℕ) → length (sheetLine i) ≤ 106
 unfolding sheetLine
 sheet-short i =
-    pick-short (sized i) (mountedText (mountedBy i) (volumeIn i)) (refusalLine A.Length) 90 (mounted-short (mountedBy i) (volumeIn i)) (refusal-short A.Length)
+    pick-short (sized i) (mountedText (mountedBy i) (volumeIn i)) (refusalLine A.Length) 106 (mounted-short (mountedBy i) (volumeIn i)) (refusal-short A.Length)
 
 -- so it stands whole in 128 bytes
 pub line-fits : (i : List ℕ) {s x : List ℕ} {k : ℕ} → 128 ≤ length s → Put s 0 (sheetLine i) k x → (k ≤ length x) × (k ≡ length (take k x))

@@ -37,12 +37,12 @@ unfoldable pub sized : List ℕ → Bool
 sized i = both (leb 72 (length i)) (leb (length i) 61512)
 
 -- the line of a report, accepted or refused
-unfoldable pub reportText : Report → List ℕ
-reportText r = pick (accepts (r .answer)) (reportLine (r .n) (r .moved) (r .left) (r .flakes) (r .share)) (refusalLine (r .answer))
+unfoldable pub reportedLine : Report → List ℕ
+reportedLine r = pick (accepts (r .answer)) (reportLine (r .n) (r .moved) (r .left) (r .flakes) (r .share) (r .done)) (refusalLine (r .answer))
 
 -- the line after a mount: a refusal's, or the report's
 unfoldable pub mountedText : Done → List ℕ → List ℕ
-mountedText m v = pick (accepts (m .answer)) (reportText (reportOf (m .drive) v)) (refusalLine (m .answer))
+mountedText m v = pick (accepts (m .answer)) (reportedLine (reportOf (m .drive) v)) (refusalLine (m .answer))
 
 -- "It mounts"
 unfoldable pub mountedBy : List ℕ → Done

@@ -7,16 +7,16 @@ ghost use mathlib.Core.Path.{_≡_};
 ghost use Prim.Native.Nat.{_≤_};
 ghost use lib.ListN.{length, take};
 ghost use Rattle.line.specs.Lines.{Put};
-ghost use Rattle.sheets.specs.Sheet.{reportText, mountedText, mountedBy, sheetLine};
+ghost use Rattle.sheets.specs.Sheet.{reportedLine, mountedText, mountedBy, sheetLine};
 
 // The report's line, or its refusal's.
 fn put_report(out: &mut [u8], r: Report) -> usize
     requires { ⌜ 128 ≤ length (now out) ⌝ }
-    ensures { λ k. ⌜ Put (now (out .entry)) 0 (reportText r) k (now (out .exit)) ⌝ }
+    ensures { λ k. ⌜ Put (now (out .entry)) 0 (reportedLine r) k (now (out .exit)) ⌝ }
 {
     let answer = r.answer;
     if answers::accepted(answer) {
-        return line::report_line(out, r.n, r.moved, r.left, r.flakes, r.share);
+        return line::report_line(out, r.n, r.moved, r.left, r.flakes, r.share, r.done);
     }
     line::refusal_line(out, answer)
 }

@@ -1,73 +1,26 @@
-use Rattle.line.proofs.PutLaws.{put-then, field-le, share-le, put-as, report-text}
-use Rattle.line.specs.Texts.{t-nuggets, t-moved, t-left, t-flakes}
+use Rattle.line.proofs.PutLaws.{put-then, report-le}
 use native.Mathlib.Omega.{arith}
 use borrow.Author.Needs.{needs}
 use Rattle.line.proofs.report_line.Statement.{statement}
 use Rattle.line.proofs.report_line.Tie as tie
 
-slice-aggregate-put-field : tie.Need-slice-aggregate-put-field
-slice-aggregate-put-field c = search needs
-
-put-field-requires : tie.Need-put-field-requires
-put-field-requires c κs = search needs
-
-slice-aggregate-put-field-2 : tie.Need-slice-aggregate-put-field-2
-slice-aggregate-put-field-2 c = search needs
-
-put-field-requires-2 : tie.Need-put-field-requires-2
-put-field-requires-2 c κs = omega (arith, field-le t-nuggets (c .before .before .before .before .before .before .before .before .args .n) (c .before .before .before .before .put-field .ensures), c .before .before .before .before .put-field .kept .0, c .before .before .before .before .before .before .before .before .pre)
-
-slice-aggregate-put-field-3 : tie.Need-slice-aggregate-put-field-3
-slice-aggregate-put-field-3 c = search needs
-
-put-field-requires-3 : tie.Need-put-field-requires-3
-put-field-requires-3 c κs = omega (arith, field-le t-nuggets (c .before .before .before .before .before .before .before .before .before .before .before .before .before .args .n) (c .before .before .before .before .before .before .before .before .before .put-field .ensures), c .before .before .before .before .before .before .before .before .before .put-field .kept .0, field-le t-moved (c .before .before .before .before .before .before .before .before .before .before .before .before .before .args .moved) (c .before .before .before .before .put-field2 .ensures), c .before .before .before .before .put-field2 .kept .0, c .before .before .before .before .before .before .before .before .before .before .before .before .before .pre)
-
-slice-aggregate-put-field-4 : tie.Need-slice-aggregate-put-field-4
-slice-aggregate-put-field-4 c = search needs
-
-put-field-requires-4 : tie.Need-put-field-requires-4
-put-field-requires-4 c κs = omega (arith, field-le t-nuggets (c .before .before .before .before .before .before .before .before .before .before .before .before .before .before .before .before .before .before .args .n) (c .before .before .before .before .before .before .before .before .before .before .before .before .before .before .put-field .ensures), c .before .before .before .before .before .before .before .before .before .before .before .before .before .before .put-field .kept .0, field-le t-moved (c .before .before .before .before .before .before .before .before .before .before .before .before .before .before .before .before .before .before .args .moved) (c .before .before .before .before .before .before .before .before .before .put-field2 .ensures), c .before .before .before .before .before .before .before .before .before .put-field2 .kept .0, field-le t-left (c .before .before .before .before .before .before .before .before .before .before .before .before .before .before .before .before .before .before .args .left) (c .before .before .before .before .put-field3 .ensures), c .before .before .before .before .put-field3 .kept .0, c .before .before .before .before .before .before .before .before .before .before .before .before .before .before .before .before .before .before .pre)
+report-text-requires : tie.Need-report-text-requires
+report-text-requires c κs = search needs
 
 slice-aggregate-put : tie.Need-slice-aggregate-put
 slice-aggregate-put c = search needs
 
 put-requires : tie.Need-put-requires
-put-requires c κs = omega (arith, field-le t-nuggets (c .before .before .before .before .before .before .before .before .before .before .before .before .before .before .before .before .before .before .before .before .before .before .before .args .n) (c .before .before .before .before .before .before .before .before .before .before .before .before .before .before .before .before .before .before .before .put-field .ensures), c .before .before .before .before .before .before .before .before .before .before .before .before .before .before .before .before .before .before .before .put-field .kept .0, field-le t-moved (c .before .before .before .before .before .before .before .before .before .before .before .before .before .before .before .before .before .before .before .before .before .before .before .args .moved) (c .before .before .before .before .before .before .before .before .before .before .before .before .before .before .put-field2 .ensures), c .before .before .before .before .before .before .before .before .before .before .before .before .before .before .put-field2 .kept .0, field-le t-left (c .before .before .before .before .before .before .before .before .before .before .before .before .before .before .before .before .before .before .before .before .before .before .before .args .left) (c .before .before .before .before .before .before .before .before .before .put-field3 .ensures), c .before .before .before .before .before .before .before .before .before .put-field3 .kept .0, field-le t-flakes (c .before .before .before .before .before .before .before .before .before .before .before .before .before .before .before .before .before .before .before .before .before .before .before .args .flakes) (c .before .before .before .before .put-field4 .ensures), c .before .before .before .before .put-field4 .kept .0, c .before .before .before .before .before .before .before .before .before .before .before .before .before .before .before .before .before .before .before .before .before .before .before .pre)
-
-put-share-requires : tie.Need-put-share-requires
-put-share-requires c κs = omega (arith, field-le t-nuggets (c .before .before .before .before .before .before .before .before .before .before .before .before .before .before .before .before .before .before .before .before .before .before .before .before .before .before .before .args .n) (c .before .before .before .before .before .before .before .before .before .before .before .before .before .before .before .before .before .before .before .before .before .before .before .put-field .ensures), c .before .before .before .before .before .before .before .before .before .before .before .before .before .before .before .before .before .before .before .before .before .before .before .put-field .kept .0, field-le t-moved (c .before .before .before .before .before .before .before .before .before .before .before .before .before .before .before .before .before .before .before .before .before .before .before .before .before .before .before .args .moved) (c .before .before .before .before .before .before .before .before .before .before .before .before .before .before .before .before .before .before .put-field2 .ensures), c .before .before .before .before .before .before .before .before .before .before .before .before .before .before .before .before .before .before .put-field2 .kept .0, field-le t-left (c .before .before .before .before .before .before .before .before .before .before .before .before .before .before .before .before .before .before .before .before .before .before .before .before .before .before .before .args .left) (c .before .before .before .before .before .before .before .before .before .before .before .before .before .put-field3 .ensures), c .before .before .before .before .before .before .before .before .before .before .before .before .before .put-field3 .kept .0, field-le t-flakes (c .before .before .before .before .before .before .before .before .before .before .before .before .before .before .before .before .before .before .before .before .before .before .before .before .before .before .before .args .flakes) (c .before .before .before .before .before .before .before .before .put-field4 .ensures), c .before .before .before .before .before .before .before .before .put-field4 .kept .0, c .before .before .before .put .ensures .behind, c .before .before .before .put .kept .0, c .before .before .before .before .before .before .before .before .before .before .before .before .before .before .before .before .before .before .before .before .before .before .before .before .before .before .before .pre)
-
-slice-aggregate-put-2 : tie.Need-slice-aggregate-put-2
-slice-aggregate-put-2 c = search needs
-
-put-requires-2 : tie.Need-put-requires-2
-put-requires-2 c κs = omega (arith, field-le t-nuggets (c .before .before .before .before .before .before .before .before .before .before .before .before .before .before .before .before .before .before .before .before .before .before .before .before .before .before .before .before .before .before .before .before .args .n) (c .before .before .before .before .before .before .before .before .before .before .before .before .before .before .before .before .before .before .before .before .before .before .before .before .before .before .before .before .put-field .ensures), c .before .before .before .before .before .before .before .before .before .before .before .before .before .before .before .before .before .before .before .before .before .before .before .before .before .before .before .before .put-field .kept .0, field-le t-moved (c .before .before .before .before .before .before .before .before .before .before .before .before .before .before .before .before .before .before .before .before .before .before .before .before .before .before .before .before .before .before .before .before .args .moved) (c .before .before .before .before .before .before .before .before .before .before .before .before .before .before .before .before .before .before .before .before .before .before .before .put-field2 .ensures), c .before .before .before .before .before .before .before .before .before .before .before .before .before .before .before .before .before .before .before .before .before .before .before .put-field2 .kept .0, field-le t-left (c .before .before .before .before .before .before .before .before .before .before .before .before .before .before .before .before .before .before .before .before .before .before .before .before .before .before .before .before .before .before .before .before .args .left) (c .before .before .before .before .before .before .before .before .before .before .before .before .before .before .before .before .before .before .put-field3 .ensures), c .before .before .before .before .before .before .before .before .before .before .before .before .before .before .before .before .before .before .put-field3 .kept .0, field-le t-flakes (c .before .before .before .before .before .before .before .before .before .before .before .before .before .before .before .before .before .before .before .before .before .before .before .before .before .before .before .before .before .before .before .before .args .flakes) (c .before .before .before .before .before .before .before .before .before .before .before .before .before .put-field4 .ensures), c .before .before .before .before .before .before .before .before .before .before .before .before .before .put-field4 .kept .0, c .before .before .before .before .before .before .before .before .put .ensures .behind, c .before .before .before .before .before .before .before .before .put .kept .0, c .before .before .before .before .put-share .ensures .behind, c .before .before .before .before .put-share .kept .0, share-le (c .before .before .before .before .before .before .before .before .before .before .before .before .before .before .before .before .before .before .before .before .before .before .before .before .before .before .before .before .before .before .before .before .args .share), c .before .before .before .before .before .before .before .before .before .before .before .before .before .before .before .before .before .before .before .before .before .before .before .before .before .before .before .before .before .before .before .before .pre)
+put-requires c κs =
+    let x = c .before .before .before .before .before .before .before .args in
+    omega (arith, report-le (x .n) (x .moved) (x .left) (x .flakes) (x .share) (x .done), c .before .before .before .before .report-text .ensures .behind, c .before .before .before .before .report-text .kept .0, c .before .before .before .before .before .before .before .pre)
 
 same-length : tie.Need-same-length
 same-length c = search needs
 
 returns : tie.Need-returns
-returns c =
-    let all = put-then _ _ (put-then _ _ (put-then _ _ (put-then _ _ (put-then _ _ (put-then _ _ (c .before .before .before .before .before .before .before .before .before .before .before .before .before .before .before .before .before .before .before .before .before .before .before .before .before .before .before .before .before .before .before .put-field .ensures) (c .before .before .before .before .before .before .before .before .before .before .before .before .before .before .before .before .before .before .before .before .before .before .before .before .before .before .put-field2 .ensures)) (c .before .before .before .before .before .before .before .before .before .before .before .before .before .before .before .before .before .before .before .before .before .put-field3 .ensures)) (c .before .before .before .before .before .before .before .before .before .before .before .before .before .before .before .before .put-field4 .ensures)) (c .before .before .before .before .before .before .before .before .before .before .before .put .ensures)) (c .before .before .before .before .before .before .before .put-share .ensures)) (c .before .before .put2 .ensures) in
-    put-as _ _ (report-text (c .before .before .before .before .before .before .before .before .before .before .before .before .before .before .before .before .before .before .before .before .before .before .before .before .before .before .before .before .before .before .before .before .before .before .before .args .n) (c .before .before .before .before .before .before .before .before .before .before .before .before .before .before .before .before .before .before .before .before .before .before .before .before .before .before .before .before .before .before .before .before .before .before .before .args .moved) (c .before .before .before .before .before .before .before .before .before .before .before .before .before .before .before .before .before .before .before .before .before .before .before .before .before .before .before .before .before .before .before .before .before .before .before .args .left) (c .before .before .before .before .before .before .before .before .before .before .before .before .before .before .before .before .before .before .before .before .before .before .before .before .before .before .before .before .before .before .before .before .before .before .before .args .flakes) (c .before .before .before .before .before .before .before .before .before .before .before .before .before .before .before .before .before .before .before .before .before .before .before .before .before .before .before .before .before .before .before .before .before .before .before .args .share)) all
+returns c = put-then _ _ (c .before .before .before .before .before .before .before .report-text .ensures) (c .before .before .put .ensures)
 
 pub report-line-spec : {M : Type 1} → statement M
 report-line-spec =
-    tie.close
-    (tie.spec
-    slice-aggregate-put-field
-    put-field-requires
-    slice-aggregate-put-field-2
-    put-field-requires-2
-    slice-aggregate-put-field-3
-    put-field-requires-3
-    slice-aggregate-put-field-4
-    put-field-requires-4
-    slice-aggregate-put
-    put-requires
-    put-share-requires
-    slice-aggregate-put-2
-    put-requires-2
-    same-length
-    returns)
+    tie.close (tie.spec report-text-requires slice-aggregate-put put-requires same-length returns)

@@ -1,4 +1,4 @@
-use Rattle.sheets.specs.Sheet.{reportText, mountedText}
+use Rattle.sheets.specs.Sheet.{reportedLine, mountedText}
 use Rattle.line.proofs.PutLaws.{put-as}
 use Rattle.base.proofs.PickLaws.{yes, no}
 use mathlib.Core.Path.{refl, sym, ap, _∙_}
@@ -20,7 +20,7 @@ same-length c = search needs
 
 returns : tie.Need-returns
 unfolding mountedText
-returns c = put-as _ _ (ap reportText (c .before .before .before .before .report .ensures) ∙ sym (yes _ (sym (c .before .before .before .before .before .before .before .accepted .ensures) ∙ c .before .before .before .before .before .before .if1 .taken) refl)) (c .before .before .put-report .ensures)
+returns c = put-as _ _ (ap reportedLine (c .before .before .before .before .report .ensures) ∙ sym (yes _ (sym (c .before .before .before .before .before .before .before .accepted .ensures) ∙ c .before .before .before .before .before .before .if1 .taken) refl)) (c .before .before .put-report .ensures)
 
 refusal-line-requires : tie.Need-refusal-line-requires
 refusal-line-requires c κs = search needs

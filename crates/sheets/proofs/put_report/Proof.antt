@@ -1,4 +1,4 @@
-use Rattle.sheets.specs.Sheet.{reportText}
+use Rattle.sheets.specs.Sheet.{reportedLine}
 use Rattle.line.proofs.PutLaws.{put-as}
 use Rattle.base.proofs.PickLaws.{yes, no}
 use mathlib.Core.Path.{refl, sym, _∙_}
@@ -16,7 +16,7 @@ same-length : tie.Need-same-length
 same-length c = search needs
 
 returns : tie.Need-returns
-unfolding reportText
+unfolding reportedLine
 returns c = put-as _ _ (sym (yes _ (sym (c .before .before .before .before .before .accepted .ensures) ∙ c .before .before .before .before .if1 .taken) refl)) (c .before .before .report-line .ensures)
 
 refusal-line-requires : tie.Need-refusal-line-requires
@@ -26,7 +26,7 @@ same-length-2 : tie.Need-same-length-2
 same-length-2 c = search needs
 
 returns-2 : tie.Need-returns-2
-unfolding reportText
+unfolding reportedLine
 returns-2 c = put-as _ _ (sym (no _ (sym (c .before .before .before .before .before .accepted .ensures) ∙ c .before .before .before .before .if1 .left) refl)) (c .before .before .refusal-line .ensures)
 
 pub put-report-spec : {M : Type 1} → statement M

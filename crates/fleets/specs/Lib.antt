@@ -1,0 +1,4 @@
+pub mod Texts
+pub mod Fleet
+pub mod Lines
+pub mod Claims

@@ -1,0 +1,6 @@
+pub mod Taken
+pub mod Spread
+pub mod Over
+pub mod ByteLaws
+pub mod Given
+pub mod Shown

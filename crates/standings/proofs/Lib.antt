@@ -1,0 +1,4 @@
+pub mod ReadingLaws
+pub mod StandingLaws
+pub mod TakenLaws
+pub mod Outcomes
