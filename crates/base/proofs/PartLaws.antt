@@ -6,7 +6,7 @@ use native.Mathlib.Nat.{suc-add, zero-add, add-suc, add-zero, add-sub-cancel-lef
 use native.Mathlib.Numerals.{add-one}
 use native.Mathlib.Omega.{arith}
 use lib.ListN.{length, getD, take, drop, set, length-append, length-take, length-drop, drop-of-length-le, replicate}
-use lib.Seq.{sets, sets-eq, take-at, drop-at, drop-drop, length-take-le, take-take, set-comm, take-set-le, drop-set-lt, getD-take, getD-drop, take-nil, take-add, drop-cons, ext-getD}
+use lib.Seq.{sets, sets-eq, take-at, drop-at, drop-drop, length-take-le, take-take, set-comm, take-set-le, drop-set-lt, getD-take, getD-drop, take-nil, take-add, drop-cons}
 use Rattle.base.specs.Lists.{part}
 
 pub length-part : {A : Type 0} (at n : ℕ) (l : List A) → at + n ≤ length l → length (part at n l) ≡ n
@@ -101,15 +101,6 @@ grows p out vs k m e f g h =
       drop-drop (length vs) k out,
       g,
     )
-
--- equal bytes make equal parts
-pub part-equal : (at k : ℕ) (v w : List ℕ) → length w ≡ length v → at + k ≤ length v → ((j : ℕ) → at ≤ j → j < at + k → getD v j 0 ≡ getD w j 0)
-    → part at k v ≡ part at k w
-part-equal at k v w e h same =
-    let room : at + k ≤ length w = rw e h in
-    ext-getD 0 (part at k v) (part at k w) (length-part at k v h ∙ sym (length-part at k w room))
-    (λ i l. let m : i < k = rw (length-part at k v h) at l in
-    getD-part at k v i 0 m ∙ same (at + i) (omega arith) (omega arith) ∙ sym (getD-part at k w i 0 m))
 
 -- the part from `at` to `at + k`
 pub part-to : (at k : ℕ) (v : List ℕ) → part at (at + k - at) v ≡ part at k v

@@ -153,8 +153,7 @@ fn put_page(input: &[u8], out: &mut [u8]) -> usize
     at
 }
 
-// The page of the first `read` bytes of the buffer. It has one byte more than "72 + 61,440": an input that fills it is over
-// 61,512 bytes, wherever it ends.
+// The page of the first `read` bytes of the buffer, which is as long as the sheet's and for the same reason.
 fn put_read(buffer: &[u8], read: usize, out: &mut [u8]) -> usize
     requires { ⌜ (61513 ≤ length (now buffer)) × (114688 ≤ length (now out)) ⌝ }
     ensures { λ k. ⌜ Put (now (out .entry)) 0 (auditPage (take read (now (buffer .entry)))) k (now (out .exit)) ⌝ }

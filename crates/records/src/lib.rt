@@ -3,7 +3,7 @@
 use layout::Shape;
 ghost use mathlib.Core.Path.{_≡_};
 ghost use mathlib.Core.Bool.{false};
-ghost use Prim.Native.Nat.{_+_, _<_, _≤_};
+ghost use Prim.Native.Nat.{_+_, _<_, _≤_, _^_};
 ghost use lib.ListN.{length};
 ghost use lib.Seq.{sets};
 ghost use Rattle.layout.specs.Shape.{widthOf};
@@ -223,6 +223,14 @@ pub fn at_top(way: Way, r: Record) -> bool
     }
 }
 
+// "keycount plus 1"
+fn next(keycount: u64) -> u64
+    requires { ⌜ keycount + 1 < 2 ^ 64 ⌝ }
+    ensures { λ r. ⌜ r ≡ keycount + 1 ⌝ }
+{
+    keycount + 1
+}
+
 // The record afterwards; the flakes are enciphered under its keycount.
 pub fn turn(way: Way, epoch: u16, r: Record) -> Record
     requires { ⌜ atTop way r ≡ false ⌝ }
@@ -239,7 +247,7 @@ pub fn turn(way: Way, epoch: u16, r: Record) -> Record
         Way::Rekey(touched) => {
             let flakes = join(r.held, touched);
             Record {
-                keycount: r.keycount + 1,
+                keycount: next(r.keycount),
                 spent: flakes,
                 held: flakes,
                 epoch: epoch,

@@ -24,10 +24,10 @@ enum-known-way-2 c = search needs
 join-requires-3 : tie.Need-join-requires-3
 join-requires-3 c κs = search needs
 
-add-t10 : tie.Need-add-t10
-add-t10 c =
-    let s = c .before .before .before .before .before in
-    record { fits = room (s .args .way) (s .args .r) (ap rekeys (c .before .before .before .way2 .given .1)) (s .pre) (omega arith) }
+next-requires : tie.Need-next-requires
+next-requires c κs =
+    let s = c .before .before .before .before in
+    omega (arith, room (s .args .way) (s .args .r) (ap rekeys (c .before .before .way2 .given .1)) (s .pre) (omega arith))
 
 returns : tie.Need-returns
 returns c = let a = c .before .before .args in turned-idle (a .way) (a .epoch) (a .r) (c .enum-told .given .1)
@@ -40,7 +40,7 @@ returns-2 c =
 returns-3 : tie.Need-returns-3
 returns-3 c =
     let a = c .before .before .before .before .before .args in
-    turned-rekey (a .way) (a .epoch) (a .r) _ (c .before .before .before .way2 .given .1) (c .before .join3 .ensures)
+    rw (c .next .ensures) (turned-rekey (a .way) (a .epoch) (a .r) _ (c .before .before .before .way2 .given .1) (c .before .join3 .ensures))
 
 pub turn-spec : {M : Type 1} → statement M
 turn-spec =
@@ -52,7 +52,7 @@ turn-spec =
     join-requires-2
     enum-known-way-2
     join-requires-3
-    add-t10
+    next-requires
     returns
     returns-2
     returns-3)
