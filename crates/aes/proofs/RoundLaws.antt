@@ -13,7 +13,7 @@ use Rattle.field.specs.Field.{matrix}
 use Rattle.field.specs.Sbox.{sbox}
 use Rattle.field.proofs.TableLaws.{sbox-lt}
 use Rattle.aes.specs.Aes.{subBytes, shiftRows, byColumns, mixColumns, roundKey, addRoundKey, subWord, rounds, cipher}
-use Rattle.aes.specs.Code.{bytesOf, columnsOf, sumOf, keyColumns, lookedUp, rowsBy}
+use Rattle.aes.specs.Code.{stateBytes, stateColumns, sumOf, keyColumns, lookedUp, rowsBy}
 use Rattle.aes.specs.Tables.{roundTable}
 use Rattle.aes.specs.declared.Columns.{Columns}
 use Rattle.aes.proofs.WordLaws.{le-xor}
@@ -24,13 +24,13 @@ use Rattle.aes.proofs.StateLaws.{State, columns-back}
 abbrev app : List ℕ → List ℕ → List ℕ
 app x y = x ++ y
 
-pub sum-bytes : (s k : Columns) → bytesOf (sumOf s k) ≡ xorl (bytesOf s) (bytesOf k)
-unfolding bytesOf serialised xorl le
+pub sum-bytes : (s k : Columns) → stateBytes (sumOf s k) ≡ xorl (stateBytes s) (stateBytes k)
+unfolding stateBytes serialised xorl le
 sum-bytes s k =
     ap₂ app (le-xor 4 (s .a) (k .a)) (ap₂ app (le-xor 4 (s .b) (k .b)) (ap₂ app (le-xor 4 (s .c) (k .c)) (ap₂ app (le-xor 4 (s .d) (k .d)) refl)))
 
-pub key-bytes : (w : List ℕ) (n : ℕ) → bytesOf (keyColumns w n) ≡ serialised (roundKey w n)
-unfolding bytesOf roundKey
+pub key-bytes : (w : List ℕ) (n : ℕ) → stateBytes (keyColumns w n) ≡ serialised (roundKey w n)
+unfolding stateBytes roundKey
 key-bytes w n = refl
 
 module _ (t : List ℕ) (whole : t ≡ roundTable) where
@@ -47,9 +47,9 @@ module _ (t : List ℕ) (whole : t ≡ roundTable) where
   -- four columns are the round
   pub round-code : (s k : Columns) {p q r v : ℕ} → p ≡ lookedUp t (s .a) (s .b) (s .c) (s .d) → q ≡ lookedUp t (s .b) (s .c) (s .d) (s .a)
       → r ≡ lookedUp t (s .c) (s .d) (s .a) (s .b) → v ≡ lookedUp t (s .d) (s .a) (s .b) (s .c)
-      → bytesOf (record { a = bitXor p (k .a); b = bitXor q (k .b); c = bitXor r (k .c); d = bitXor v (k .d) })
-      ≡ xorl (mixColumns (shiftRows (subBytes (bytesOf s)))) (bytesOf k)
-  unfolding bytesOf serialised byColumns matrix shiftRows subBytes xorl tab le
+      → stateBytes (record { a = bitXor p (k .a); b = bitXor q (k .b); c = bitXor r (k .c); d = bitXor v (k .d) })
+      ≡ xorl (mixColumns (shiftRows (subBytes (stateBytes s)))) (stateBytes k)
+  unfolding stateBytes serialised byColumns matrix shiftRows subBytes xorl tab le
   round-code s k ep eq er ev =
       ap₂ app (column (s .a) (s .b) (s .c) (s .d) (k .a) ep)
       (ap₂ app (column (s .b) (s .c) (s .d) (s .a) (k .b) eq)
@@ -72,9 +72,9 @@ module _ (t : List ℕ) (whole : t ≡ roundTable) where
 
 pub last-round-code : (s k : Columns) {p q r v : ℕ} → p ≡ rowsBy sbox (s .a) (s .b) (s .c) (s .d) → q ≡ rowsBy sbox (s .b) (s .c) (s .d) (s .a)
     → r ≡ rowsBy sbox (s .c) (s .d) (s .a) (s .b) → v ≡ rowsBy sbox (s .d) (s .a) (s .b) (s .c)
-    → bytesOf (record { a = bitXor p (k .a); b = bitXor q (k .b); c = bitXor r (k .c); d = bitXor v (k .d) })
-    ≡ xorl (shiftRows (subBytes (bytesOf s))) (bytesOf k)
-unfolding bytesOf serialised shiftRows subBytes xorl tab le
+    → stateBytes (record { a = bitXor p (k .a); b = bitXor q (k .b); c = bitXor r (k .c); d = bitXor v (k .d) })
+    ≡ xorl (shiftRows (subBytes (stateBytes s))) (stateBytes k)
+unfolding stateBytes serialised shiftRows subBytes xorl tab le
 last-round-code s k ep eq er ev =
     ap₂ app (rows-keyed sbox sbox-lt (s .a) (s .b) (s .c) (s .d) (k .a) ep)
     (ap₂ app (rows-keyed sbox sbox-lt (s .b) (s .c) (s .d) (s .a) (k .b) eq)
@@ -87,20 +87,20 @@ sub-word-code x = refl
 
 -- one round more
 pub rounds-more : (w s : List ℕ) (n : ℕ) (x k : Columns) {r : List ℕ} → k ≡ keyColumns w (n + 1)
-    → r ≡ xorl (mixColumns (shiftRows (subBytes (bytesOf x)))) (bytesOf k) → bytesOf x ≡ rounds w n s → r ≡ rounds w (n + 1) s
+    → r ≡ xorl (mixColumns (shiftRows (subBytes (stateBytes x)))) (stateBytes k) → stateBytes x ≡ rounds w n s → r ≡ rounds w (n + 1) s
 unfolding rounds addRoundKey
 rounds-more w s n x k f e h =
     e
-    ∙ ap₂ (λ (y z : List ℕ). xorl (mixColumns (shiftRows (subBytes y))) z) h (ap bytesOf f ∙ key-bytes w (n + 1))
+    ∙ ap₂ (λ (y z : List ℕ). xorl (mixColumns (shiftRows (subBytes y))) z) h (ap stateBytes f ∙ key-bytes w (n + 1))
     ∙ ap (λ (m : ℕ). xorl (mixColumns (shiftRows (subBytes (rounds w n s)))) (serialised (roundKey w m))) (add-one n)
     ∙ ap (λ (m : ℕ). rounds w m s) (sym (add-one n))
 
 -- the whole cipher: key, rounds, last round
-pub cipher-code : (w b : List ℕ) (s k x y l z : Columns) → State b → s ≡ columnsOf b → k ≡ keyColumns w 0 → x ≡ sumOf s k
-    → bytesOf y ≡ rounds w 13 (bytesOf x) → l ≡ keyColumns w 14 → bytesOf z ≡ xorl (shiftRows (subBytes (bytesOf y))) (bytesOf l) → bytesOf z ≡ cipher w b
+pub cipher-code : (w b : List ℕ) (s k x y l z : Columns) → State b → s ≡ stateColumns b → k ≡ keyColumns w 0 → x ≡ sumOf s k
+    → stateBytes y ≡ rounds w 13 (stateBytes x) → l ≡ keyColumns w 14 → stateBytes z ≡ xorl (shiftRows (subBytes (stateBytes y))) (stateBytes l) → stateBytes z ≡ cipher w b
 unfolding cipher addRoundKey
 cipher-code w b s k x y l z good es ek ex ey el ez =
-    let first : xorl (bytesOf s) (bytesOf k) ≡ xorl b (serialised (roundKey w 0))
-    = ap₂ xorl (ap bytesOf es ∙ columns-back b good) (ap bytesOf ek ∙ key-bytes w 0) in
+    let first : xorl (stateBytes s) (stateBytes k) ≡ xorl b (serialised (roundKey w 0))
+    = ap₂ xorl (ap stateBytes es ∙ columns-back b good) (ap stateBytes ek ∙ key-bytes w 0) in
     ez
-    ∙ ap₂ (λ (p q : List ℕ). xorl (shiftRows (subBytes p)) q) (ey ∙ ap (rounds w 13) (ap bytesOf ex ∙ sum-bytes s k ∙ first)) (ap bytesOf el ∙ key-bytes w 14)
+    ∙ ap₂ (λ (p q : List ℕ). xorl (shiftRows (subBytes p)) q) (ey ∙ ap (rounds w 13) (ap stateBytes ex ∙ sum-bytes s k ∙ first)) (ap stateBytes el ∙ key-bytes w 14)

@@ -20,7 +20,7 @@ use Rattle.field.specs.Field.{matrix}
 use Rattle.field.specs.Sbox.{sbox}
 use Rattle.field.proofs.TableLaws.{sbox-lt}
 use Rattle.aes.specs.Aes.{at, subBytes, shiftRows, byColumns, mixColumns, roundKey, addRoundKey, rounds, cipher, aes256, keyExpansion}
-use Rattle.aes.specs.Code.{bytesOf, columnsOf}
+use Rattle.aes.specs.Code.{stateBytes, stateColumns}
 use Rattle.aes.specs.declared.Columns.{Columns}
 use Rattle.aes.proofs.WordLaws.{xorl-bytes}
 use Rattle.aes.proofs.LookLaws.{matrix-bytes}
@@ -103,8 +103,8 @@ unfolding aes256
 length-aes key s = length-cipher (keyExpansion key) s
 
 -- four columns hold a state, and a state is read back from its columns
-pub bytes-state : (s : Columns) → State (bytesOf s)
-unfolding bytesOf
+pub bytes-state : (s : Columns) → State (stateBytes s)
+unfolding stateBytes
 bytes-state s =
     let w : List ℕ = s .a ∷ s .b ∷ s .c ∷ s .d ∷ [] in
     record { long = length-serialised w; bytes = serialised-bytes w }
@@ -116,8 +116,8 @@ column-back : (s : List ℕ) (at : ℕ) → at + 4 ≤ length s → Bytes s → 
 column-back s at l h =
     ap (λ (n : ℕ). le n (num (part at 4 s))) (sym (length-part at 4 s l)) ∙ le-num (part at 4 s) (bytes-part at 4 s h)
 
-pub columns-back : (s : List ℕ) → State s → bytesOf (columnsOf s) ≡ s
-unfolding bytesOf serialised
+pub columns-back : (s : List ℕ) → State s → stateBytes (stateColumns s) ≡ s
+unfolding stateBytes serialised
 columns-back s h =
     let col : (at : ℕ) → at + 4 ≤ 16 → le 4 (num (part at 4 s)) ≡ part at 4 s = λ at l. column-back s at (rw (h .long) l) (h .bytes) in
     ap₂ app (col 0 (omega arith)) (ap₂ app (col 4 (omega arith)) (ap₂ app (col 8 (omega arith)) (ap₂ app (col 12 (omega arith)) refl)))
@@ -126,8 +126,8 @@ columns-back s h =
 
 -- four words stored one after the other
 pub stored : (z : List ℕ) (s : Columns) {d1 d2 d3 d4 : List ℕ} → length z ≡ 16 → d1 ≡ sets z 0 (le 4 (s .a)) → d2 ≡ sets d1 4 (le 4 (s .b))
-    → d3 ≡ sets d2 8 (le 4 (s .c)) → d4 ≡ sets d3 12 (le 4 (s .d)) → d4 ≡ bytesOf s
-unfolding bytesOf serialised
+    → d3 ≡ sets d2 8 (le 4 (s .c)) → d4 ≡ sets d3 12 (le 4 (s .d)) → d4 ≡ stateBytes s
+unfolding stateBytes serialised
 stored z s {d1} {d2} {d3} {d4} h e1 e2 e3 e4 =
     let p = le 4 (s .a) in
     let q = le 4 (s .b) in

@@ -10,12 +10,12 @@ use Rattle.field.specs.Field.{sum4}
 use Rattle.aes.specs.declared.Columns.{Columns}
 
 -- the sixteen bytes of four columns
-unfoldable pub bytesOf : Columns → List ℕ
-bytesOf s = serialised (s .a ∷ s .b ∷ s .c ∷ s .d ∷ [])
+unfoldable pub stateBytes : Columns → List ℕ
+stateBytes s = serialised (s .a ∷ s .b ∷ s .c ∷ s .d ∷ [])
 
 -- the four columns of sixteen bytes
-abbrev pub columnsOf : List ℕ → Columns
-columnsOf s = record { a = num (part 0 4 s); b = num (part 4 4 s); c = num (part 8 4 s); d = num (part 12 4 s) }
+abbrev pub stateColumns : List ℕ → Columns
+stateColumns s = record { a = num (part 0 4 s); b = num (part 4 4 s); c = num (part 8 4 s); d = num (part 12 4 s) }
 
 -- column by column
 abbrev pub sumOf : Columns → Columns → Columns

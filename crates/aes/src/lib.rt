@@ -10,7 +10,7 @@ ghost use Rattle.words.specs.Le.{wordsOf};
 ghost use Rattle.words.specs.Xor.{xorl};
 ghost use Rattle.field.specs.Sbox.{sbox};
 ghost use Rattle.aes.specs.Aes.{subBytes, shiftRows, mixColumns, subWord, tempAt, keyExpansion, rounds, cipher};
-ghost use Rattle.aes.specs.Code.{bytesOf, columnsOf, sumOf, keyColumns, lookedUp, rowsBy};
+ghost use Rattle.aes.specs.Code.{stateBytes, stateColumns, sumOf, keyColumns, lookedUp, rowsBy};
 ghost use Rattle.aes.specs.Tables.{roundTable};
 
 pub struct Columns {
@@ -22,7 +22,7 @@ pub struct Columns {
 
 // 3.4: the state of sixteen bytes.
 pub fn load(block: [u8; 16]) -> Columns
-    ensures { λ r. ⌜ r ≡ columnsOf block ⌝ }
+    ensures { λ r. ⌜ r ≡ stateColumns block ⌝ }
 {
     let p = words::load32(&block, 0);
     let q = words::load32(&block, 4);
@@ -38,7 +38,7 @@ pub fn load(block: [u8; 16]) -> Columns
 
 // 3.4: the sixteen bytes of a state.
 pub fn bytes(s: Columns) -> [u8; 16]
-    ensures { λ r. ⌜ r ≡ bytesOf s ⌝ }
+    ensures { λ r. ⌜ r ≡ stateBytes s ⌝ }
 {
     let mut r = [0u8; 16];
     words::store32(&mut r, 0, s.a);
@@ -94,7 +94,7 @@ pub fn looked_up(t: &[u32; 256], a: u32, b: u32, c: u32, d: u32) -> u32
 // SUBBYTES, SHIFTROWS, MIXCOLUMNS and ADDROUNDKEY.
 fn round(t: &[u32; 256], s: Columns, k: Columns) -> Columns
     requires { ⌜ now t ≡ roundTable ⌝ }
-    ensures { λ r. ⌜ bytesOf r ≡ xorl (mixColumns (shiftRows (subBytes (bytesOf s)))) (bytesOf k) ⌝ }
+    ensures { λ r. ⌜ stateBytes r ≡ xorl (mixColumns (shiftRows (subBytes (stateBytes s)))) (stateBytes k) ⌝ }
 {
     let p = looked_up(t, s.a, s.b, s.c, s.d);
     let q = looked_up(t, s.b, s.c, s.d, s.a);
@@ -123,7 +123,7 @@ fn rows(t: &[u32; 256], a: u32, b: u32, c: u32, d: u32) -> u32
 // The last round, which mixes no columns.
 fn last_round(t: &[u32; 256], s: Columns, k: Columns) -> Columns
     requires { ⌜ now t ≡ roundTable ⌝ }
-    ensures { λ r. ⌜ bytesOf r ≡ xorl (shiftRows (subBytes (bytesOf s))) (bytesOf k) ⌝ }
+    ensures { λ r. ⌜ stateBytes r ≡ xorl (shiftRows (subBytes (stateBytes s))) (stateBytes k) ⌝ }
 {
     let p = rows(t, s.a, s.b, s.c, s.d);
     let q = rows(t, s.b, s.c, s.d, s.a);
@@ -140,7 +140,7 @@ fn last_round(t: &[u32; 256], s: Columns, k: Columns) -> Columns
 // Rounds 1 to 13.
 fn middle(t: &[u32; 256], w: &[u32; 60], s: Columns) -> Columns
     requires { ⌜ now t ≡ roundTable ⌝ }
-    ensures { λ r. ⌜ bytesOf r ≡ rounds (now (w .entry)) 13 (bytesOf s) ⌝ }
+    ensures { λ r. ⌜ stateBytes r ≡ rounds (now (w .entry)) 13 (stateBytes s) ⌝ }
 {
     let mut x = s;
     let mut n = 0;

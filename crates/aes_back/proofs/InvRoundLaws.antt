@@ -17,7 +17,7 @@ use Rattle.field.specs.Sbox.{sbox, invSbox}
 use Rattle.field.specs.Tables.{invSboxTable}
 use Rattle.field.proofs.TableLaws.{sbox-lt, inv-sbox-at, inv-sbox-lt, sbox-back}
 use Rattle.aes.specs.Aes.{byColumns, roundKey, addRoundKey, subWord}
-use Rattle.aes.specs.Code.{bytesOf, columnsOf, sumOf, keyColumns, lookedUp, rowsBy}
+use Rattle.aes.specs.Code.{stateBytes, stateColumns, sumOf, keyColumns, lookedUp, rowsBy}
 use Rattle.aes.specs.declared.Columns.{Columns}
 use Rattle.aes.proofs.WordLaws.{four-bytes}
 use Rattle.aes.proofs.LookLaws.{entry, looked-up, column-keyed, rows-keyed}
@@ -42,9 +42,9 @@ module _ (t : List ℕ) (whole : t ≡ invRoundTable) where
   -- four columns are the round
   pub round-code : (s k : Columns) {p q r v : ℕ} → p ≡ lookedUp t (s .a) (s .d) (s .c) (s .b) → q ≡ lookedUp t (s .b) (s .a) (s .d) (s .c)
       → r ≡ lookedUp t (s .c) (s .b) (s .a) (s .d) → v ≡ lookedUp t (s .d) (s .c) (s .b) (s .a)
-      → bytesOf (record { a = bitXor p (k .a); b = bitXor q (k .b); c = bitXor r (k .c); d = bitXor v (k .d) })
-      ≡ xorl (invMixColumns (invShiftRows (invSubBytes (bytesOf s)))) (bytesOf k)
-  unfolding bytesOf serialised byColumns matrix invShiftRows invSubBytes xorl tab le
+      → stateBytes (record { a = bitXor p (k .a); b = bitXor q (k .b); c = bitXor r (k .c); d = bitXor v (k .d) })
+      ≡ xorl (invMixColumns (invShiftRows (invSubBytes (stateBytes s)))) (stateBytes k)
+  unfolding stateBytes serialised byColumns matrix invShiftRows invSubBytes xorl tab le
   round-code s k ep eq er ev =
       ap₂ app (column (s .a) (s .d) (s .c) (s .b) (k .a) ep)
       (ap₂ app (column (s .b) (s .a) (s .d) (s .c) (k .b) eq)
@@ -91,9 +91,9 @@ rows-code t whole a b c d =
 
 pub last-round-code : (s k : Columns) {p q r v : ℕ} → p ≡ rowsBy invSbox (s .a) (s .d) (s .c) (s .b) → q ≡ rowsBy invSbox (s .b) (s .a) (s .d) (s .c)
     → r ≡ rowsBy invSbox (s .c) (s .b) (s .a) (s .d) → v ≡ rowsBy invSbox (s .d) (s .c) (s .b) (s .a)
-    → bytesOf (record { a = bitXor p (k .a); b = bitXor q (k .b); c = bitXor r (k .c); d = bitXor v (k .d) })
-    ≡ xorl (invShiftRows (invSubBytes (bytesOf s))) (bytesOf k)
-unfolding bytesOf serialised invShiftRows invSubBytes xorl tab le
+    → stateBytes (record { a = bitXor p (k .a); b = bitXor q (k .b); c = bitXor r (k .c); d = bitXor v (k .d) })
+    ≡ xorl (invShiftRows (invSubBytes (stateBytes s))) (stateBytes k)
+unfolding stateBytes serialised invShiftRows invSubBytes xorl tab le
 last-round-code s k ep eq er ev =
     ap₂ app (rows-keyed invSbox inv-sbox-lt (s .a) (s .d) (s .c) (s .b) (k .a) ep)
     (ap₂ app (rows-keyed invSbox inv-sbox-lt (s .b) (s .a) (s .d) (s .c) (k .b) eq)
@@ -102,14 +102,14 @@ last-round-code s k ep eq er ev =
 
 -- a round done, and what is left gives what is asked
 pub rounds-less : (dw s : List ℕ) (n : ℕ) (x k y : Columns) → 0 < n → k ≡ keyColumns dw n
-    → bytesOf y ≡ xorl (invMixColumns (invShiftRows (invSubBytes (bytesOf x)))) (bytesOf k) → eqRounds dw n (bytesOf x) ≡ s → eqRounds dw (n - 1) (bytesOf y) ≡ s
+    → stateBytes y ≡ xorl (invMixColumns (invShiftRows (invSubBytes (stateBytes x)))) (stateBytes k) → eqRounds dw n (stateBytes x) ≡ s → eqRounds dw (n - 1) (stateBytes y) ≡ s
 unfolding eqRounds addRoundKey
 rounds-less dw s zero x k y h f e g = absurd (omega arith)
 rounds-less dw s (suc n) x k y h f e g =
     let less : suc n - 1 ≡ n = omega arith in
-    ap (λ (m : ℕ). eqRounds dw m (bytesOf y)) less
+    ap (λ (m : ℕ). eqRounds dw m (stateBytes y)) less
     ∙ ap (eqRounds dw n)
-    (e ∙ ap (λ (z : List ℕ). xorl (invMixColumns (invShiftRows (invSubBytes (bytesOf x)))) z) (ap bytesOf f ∙ key-bytes dw (suc n)))
+    (e ∙ ap (λ (z : List ℕ). xorl (invMixColumns (invShiftRows (invSubBytes (stateBytes x)))) z) (ap stateBytes f ∙ key-bytes dw (suc n)))
     ∙ g
 
 pub rounds-none : (dw u s : List ℕ) (n : ℕ) → n ≡ 0 → eqRounds dw n u ≡ s → u ≡ s
@@ -117,13 +117,13 @@ unfolding eqRounds
 rounds-none dw u s n e g = rw e at g
 
 -- the whole cipher: key, rounds, last round
-pub cipher-code : (dw b : List ℕ) (s k x y l z : Columns) → State b → s ≡ columnsOf b → k ≡ keyColumns dw 14 → x ≡ sumOf s k
-    → bytesOf y ≡ eqRounds dw 13 (bytesOf x) → l ≡ keyColumns dw 0 → bytesOf z ≡ xorl (invShiftRows (invSubBytes (bytesOf y))) (bytesOf l)
-    → bytesOf z ≡ eqInvCipher dw b
+pub cipher-code : (dw b : List ℕ) (s k x y l z : Columns) → State b → s ≡ stateColumns b → k ≡ keyColumns dw 14 → x ≡ sumOf s k
+    → stateBytes y ≡ eqRounds dw 13 (stateBytes x) → l ≡ keyColumns dw 0 → stateBytes z ≡ xorl (invShiftRows (invSubBytes (stateBytes y))) (stateBytes l)
+    → stateBytes z ≡ eqInvCipher dw b
 unfolding eqInvCipher addRoundKey
 cipher-code dw b s k x y l z good es ek ex ey el ez =
-    let first : xorl (bytesOf s) (bytesOf k) ≡ xorl b (serialised (roundKey dw 14))
-    = ap₂ xorl (ap bytesOf es ∙ columns-back b good) (ap bytesOf ek ∙ key-bytes dw 14) in
+    let first : xorl (stateBytes s) (stateBytes k) ≡ xorl b (serialised (roundKey dw 14))
+    = ap₂ xorl (ap stateBytes es ∙ columns-back b good) (ap stateBytes ek ∙ key-bytes dw 14) in
     ez
-    ∙ ap₂ (λ (p q : List ℕ). xorl (invShiftRows (invSubBytes p)) q) (ey ∙ ap (eqRounds dw 13) (ap bytesOf ex ∙ sum-bytes s k ∙ first))
-    (ap bytesOf el ∙ key-bytes dw 0)
+    ∙ ap₂ (λ (p q : List ℕ). xorl (invShiftRows (invSubBytes p)) q) (ey ∙ ap (eqRounds dw 13) (ap stateBytes ex ∙ sum-bytes s k ∙ first))
+    (ap stateBytes el ∙ key-bytes dw 0)

@@ -7,7 +7,7 @@ ghost use Prim.Native.Nat.{_<_};
 ghost use Rattle.words.specs.Xor.{xorl};
 ghost use Rattle.field.specs.Sbox.{invSbox};
 ghost use Rattle.field.specs.Tables.{invSboxTable};
-ghost use Rattle.aes.specs.Code.{bytesOf, rowsBy};
+ghost use Rattle.aes.specs.Code.{stateBytes, rowsBy};
 ghost use Rattle.aes.specs.Tables.{roundTable};
 ghost use Rattle.aes_back.specs.InvAes.{invSubBytes, invShiftRows, invMixColumns, modifiedAt, keyExpansionEic, eqRounds, eqInvCipher};
 ghost use Rattle.aes_back.specs.Tables.{invRoundTable};
@@ -29,7 +29,7 @@ pub fn inv_sbox() -> [u8; 256]
 // INVSUBBYTES, INVSHIFTROWS, INVMIXCOLUMNS and ADDROUNDKEY.
 fn round(t: &[u32; 256], s: aes::Columns, k: aes::Columns) -> aes::Columns
     requires { ⌜ now t ≡ invRoundTable ⌝ }
-    ensures { λ r. ⌜ bytesOf r ≡ xorl (invMixColumns (invShiftRows (invSubBytes (bytesOf s)))) (bytesOf k) ⌝ }
+    ensures { λ r. ⌜ stateBytes r ≡ xorl (invMixColumns (invShiftRows (invSubBytes (stateBytes s)))) (stateBytes k) ⌝ }
 {
     let p = aes::looked_up(t, s.a, s.d, s.c, s.b);
     let q = aes::looked_up(t, s.b, s.a, s.d, s.c);
@@ -60,7 +60,7 @@ fn rows(t: &[u8; 256], a: u32, b: u32, c: u32, d: u32) -> u32
 // The last round back, which mixes no columns.
 fn last_round(t: &[u8; 256], s: aes::Columns, k: aes::Columns) -> aes::Columns
     requires { ⌜ now t ≡ invSboxTable ⌝ }
-    ensures { λ r. ⌜ bytesOf r ≡ xorl (invShiftRows (invSubBytes (bytesOf s))) (bytesOf k) ⌝ }
+    ensures { λ r. ⌜ stateBytes r ≡ xorl (invShiftRows (invSubBytes (stateBytes s))) (stateBytes k) ⌝ }
 {
     let p = rows(t, s.a, s.d, s.c, s.b);
     let q = rows(t, s.b, s.a, s.d, s.c);
@@ -77,7 +77,7 @@ fn last_round(t: &[u8; 256], s: aes::Columns, k: aes::Columns) -> aes::Columns
 // Rounds 13 down to 1.
 fn middle(t: &[u32; 256], dw: &[u32; 60], s: aes::Columns) -> aes::Columns
     requires { ⌜ now t ≡ invRoundTable ⌝ }
-    ensures { λ r. ⌜ bytesOf r ≡ eqRounds (now (dw .entry)) 13 (bytesOf s) ⌝ }
+    ensures { λ r. ⌜ stateBytes r ≡ eqRounds (now (dw .entry)) 13 (stateBytes s) ⌝ }
 {
     let mut x = s;
     let mut n = 13;

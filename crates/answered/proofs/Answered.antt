@@ -16,7 +16,7 @@ use Rattle.records.proofs.RuleLaws.{formed-fits}
 use Rattle.drive.specs.Drive.{shapeOf, gaugeOf, isChanging}
 use Rattle.nuggets.specs.Nugget.{secretFor}
 use Rattle.pages.specs.Words.{t-old, t-needed, t-free}
-use Rattle.auditor.specs.Reading.{toldOf, times}
+use Rattle.auditor.specs.Reading.{toldOf, timesListed}
 use Rattle.auditor.specs.Question.{keyWord, secretNamed}
 use Rattle.auditor.proofs.KeyLaws.{old-word, secret-named}
 use Rattle.history.specs.World.{World}
@@ -27,7 +27,7 @@ use Rattle.history.proofs.Steps.{sound}
 use Rattle.history.proofs.Changed.{kept-changing}
 use Rattle.history.proofs.Demands.{under-last-pad}
 use Rattle.history.proofs.Old.{old-secret-free}
-use Rattle.answered.specs.Answered.{Fits, pageFor, secretBy, TellsPad, PageTellsPads, PageTellsNoOthers, PageTellsOld, FreeIsFree}
+use Rattle.answered.specs.Answered.{PageTakes, pageFor, secretBy, TellsPad, PageTellsPads, PageTellsNoOthers, PageTellsOld, FreeIsFree}
 use Rattle.answered.proofs.Input.{page-holds}
 
 module _ (w : World) (x : Sound w) where
@@ -44,7 +44,7 @@ module _ (w : World) (x : Sound w) where
       go (inl is) = rw is (sym (kept-changing (w .drive .state) (w .old) (old-word (w .drive) e fits is)) ∙ x .handed .kept)
       go (inr not) = rw not (sym (x .present))
 
-  tells : (any : List ℕ) (n f : ℕ) → Fits w any → n < w .drive .n → f < w .drive .p → bit (recordOf (shapeOf (w .drive)) (w .vol) n .held) f ≡ true → LastPad w n f
+  tells : (any : List ℕ) (n f : ℕ) → PageTakes w any → n < w .drive .n → f < w .drive .p → bit (recordOf (shapeOf (w .drive)) (w .vol) n .held) f ≡ true → LastPad w n f
       → TellsPad (pageFor w any) w n f
   tells any n f fits h g on l =
       let a = page-holds w x any fits in
@@ -57,7 +57,7 @@ module _ (w : World) (x : Sound w) where
         epoch = ap (secretFor (w .drive)) (a .epoch n h) ∙ sym (l .secret);
       }
 
-  module _ (any : List ℕ) (n f : ℕ) (fits : Fits w any) (h : n < w .drive .n) (shown : 0 < times f (toldOf (pageFor w any) n .flakes)) where
+  module _ (any : List ℕ) (n f : ℕ) (fits : PageTakes w any) (h : n < w .drive .n) (shown : 0 < timesListed f (toldOf (pageFor w any) n .flakes)) where
     inside : f < w .drive .p
     inside = go (told (leb (w .drive .p) f))
       where

@@ -19,7 +19,7 @@ use Rattle.records.proofs.RuleLaws.{formed-epoch}
 use Rattle.drive.specs.declared.Done.{Done}
 use Rattle.drive.specs.Drive.{shapeOf, gaugeOf, isChanging}
 use Rattle.records.specs.Record.{recordOf}
-use Rattle.sheets.specs.Sheet.{presentIn, oldIn, outsideIn, volumeIn, sized, mountedBy}
+use Rattle.sheets.specs.Sheet.{presentIn, oldIn, outsideIn, volumeIn, inputSized, mountedBy}
 use Rattle.pages.specs.Page.{mounts}
 use Rattle.auditor.specs.Question.{Answers}
 use Rattle.auditor.proofs.Theorem.{Narrow, page-answers}
@@ -30,7 +30,7 @@ use Rattle.history.proofs.Quiet.{untouched-lent, report-accepts}
 use Rattle.history.proofs.Sound.{Sound}
 use Rattle.history.proofs.Steps.{sound, mount-back}
 use Rattle.history.proofs.Demands.{shape-kept}
-use Rattle.answered.specs.Answered.{inputFor, Fits, pageFor}
+use Rattle.answered.specs.Answered.{inputFor, PageTakes, pageFor}
 
 -- four lists in a row, cut before the third and before the last
 cut-third : (a b c d : List ℕ) → a ++ (b ++ (c ++ d)) ≡ (a ++ b) ++ (c ++ d)
@@ -42,13 +42,13 @@ cut-last a b c d = cut-third a b c d ∙ sym (append-assoc (a ++ b) c d)
 -- a volume of a history is as long as its format's shape asks: the shape alone decides whether the page takes it
 pub fits-by-shape : (start : Start) (calls : List Call) (any : List ℕ)
     → let w = history start calls in
-    length (w .secret) ≡ 32 → length (oldFor w any) ≡ 32 → lengthOf (start .shape) ≤ 61440 → Fits w any
+    length (w .secret) ≡ 32 → length (oldFor w any) ≡ 32 → lengthOf (start .shape) ≤ 61440 → PageTakes w any
 fits-by-shape start calls any secret old small =
     let w = history start calls in
     let size = untouched-lent (w .drive) (w .vol) (sound start calls .untouched) .size in
     record { secret = secret; old = old; small = rw (size, shape-kept start calls .0) small }
 
-module _ (w : World) (x : Sound w) (any : List ℕ) (fits : Fits w any) where
+module _ (w : World) (x : Sound w) (any : List ℕ) (fits : PageTakes w any) where
   abbrev i : List ℕ
   i = inputFor w any
 
@@ -87,8 +87,8 @@ module _ (w : World) (x : Sound w) (any : List ℕ) (fits : Fits w any) where
       rw (cut-last (w .secret) (oldFor w any) (le 8 (w .outside)) (w .vol))
       (omega (arith, length-append ((w .secret ++ oldFor w any) ++ le 8 (w .outside)) (w .vol), front-long))
 
-  size : sized i ≡ true
-  unfolding sized
+  size : inputSized i ≡ true
+  unfolding inputSized
   size = both-on (le-leb 72 (length i) (omega (arith, long))) (le-leb (length i) 61512 (omega (arith, long, fits .small)))
 
   -- so it mounts, and gives the very drive

@@ -16,7 +16,7 @@ use Rattle.nuggets.specs.Nugget.{secretFor}
 use Rattle.opening.specs.Mount.{mountDone}
 use Rattle.pages.specs.Words.{t-old, t-needed, t-free}
 use Rattle.pages.specs.Page.{auditPage}
-use Rattle.auditor.specs.Reading.{toldOf, oldTold, times}
+use Rattle.auditor.specs.Reading.{toldOf, oldTold, timesListed}
 use Rattle.history.specs.World.{World, Call}
 use Rattle.history.specs.Step.{oldFor}
 use Rattle.history.specs.History.{Start, history}
@@ -27,7 +27,7 @@ unfoldable pub inputFor : World → List ℕ → List ℕ
 inputFor w any = w .secret ++ (oldFor w any ++ (le 8 (w .outside) ++ w .vol))
 
 -- The page takes it: secrets of 32 bytes and "a volume of at most 61,440 bytes".
-pub record Fits (w : World) (any : List ℕ) : Type 0 where
+pub record PageTakes (w : World) (any : List ℕ) : Type 0 where
   pub secret : length (w .secret) ≡ 32
   pub old : length (oldFor w any) ≡ 32
   pub small : length (w .vol) ≤ 61440
@@ -43,7 +43,7 @@ secretBy w word = pick (same word t-old) (w .old) (w .secret)
 -- pad's; the pad's secret is the one that the key's word names, and the one of the epoch.
 pub record TellsPad (page : List ℕ) (w : World) (n f : ℕ) : Type 0 where
   pub last : LastPad w n f
-  pub listed : times f (toldOf page n .flakes) ≡ 1
+  pub listed : timesListed f (toldOf page n .flakes) ≡ 1
   pub keycount : toldOf page n .keycount ≡ last .pad .keycount
   pub key : secretBy w (toldOf page n .key) ≡ last .pad .secret
   pub epoch : secretFor (w .drive) (toldOf page n .epoch) ≡ last .pad .secret
@@ -53,21 +53,21 @@ abbrev pub PageTellsPads : Type 0
 PageTellsPads =
     (start : Start) (calls : List Call) (any : List ℕ) (n f : ℕ)
     → let w = history start calls in
-    Fits w any → n < w .drive .n → f < w .drive .p → bit (recordOf (shapeOf (w .drive)) (w .vol) n .held) f ≡ true → TellsPad (pageFor w any) w n f
+    PageTakes w any → n < w .drive .n → f < w .drive .p → bit (recordOf (shapeOf (w .drive)) (w .vol) n .held) f ≡ true → TellsPad (pageFor w any) w n f
 
 -- And no other flake is told: one that the page lists is present.
 abbrev pub PageTellsNoOthers : Type 0
 PageTellsNoOthers =
     (start : Start) (calls : List Call) (any : List ℕ) (n f : ℕ)
     → let w = history start calls in
-    Fits w any → n < w .drive .n → 0 < times f (toldOf (pageFor w any) n .flakes) → (f < w .drive .p) × (bit (recordOf (shapeOf (w .drive)) (w .vol) n .held) f ≡ true)
+    PageTakes w any → n < w .drive .n → 0 < timesListed f (toldOf (pageFor w any) n .flakes) → (f < w .drive .p) × (bit (recordOf (shapeOf (w .drive)) (w .vol) n .held) f ≡ true)
 
 -- The page's last line goes by the state alone: while changing it is `old=needed`, with a share of 100.00 too.
 abbrev pub PageTellsOld : Type 0
 PageTellsOld =
     (start : Start) (calls : List Call) (any : List ℕ)
     → let w = history start calls in
-    Fits w any → oldTold (pageFor w any) (w .drive .n) ≡ pick (isChanging (w .drive .state)) t-needed t-free
+    PageTakes w any → oldTold (pageFor w any) (w .drive .n) ≡ pick (isChanging (w .drive .state)) t-needed t-free
 
 -- Nothing needs the old secret: each present flake is under the present one, and a mount with anything as the old one gives the very drive.
 pub record Free (w : World) : Type 0 where
@@ -79,4 +79,4 @@ abbrev pub FreeIsFree : Type 0
 FreeIsFree =
     (start : Start) (calls : List Call) (any : List ℕ)
     → let w = history start calls in
-    Fits w any → oldTold (pageFor w any) (w .drive .n) ≡ t-free → Free w
+    PageTakes w any → oldTold (pageFor w any) (w .drive .n) ≡ t-free → Free w

@@ -11,4 +11,4 @@ classOf n =
     pick (leb n 0) C.Nothing
     (pick (leb n 3) C.Form
     (pick (leb n 6) C.Key
-    (pick (leb n 7) C.Changed (pick (leb n 12) C.Request (pick (leb n 15) C.Spent C.Nothing)))))
+    (pick (leb n 7) C.Altered (pick (leb n 12) C.Request (pick (leb n 15) C.Spent C.Nothing)))))

@@ -44,7 +44,7 @@ pub enum Class {
     Nothing,
     Form,
     Key,
-    Changed,
+    Altered,
     Request,
     Spent,
 }
@@ -111,7 +111,7 @@ pub fn class_of(number: u32) -> Class
     match number {
         1..=3 => Class::Form,
         4..=6 => Class::Key,
-        7 => Class::Changed,
+        7 => Class::Altered,
         8..=12 => Class::Request,
         13..=15 => Class::Spent,
         _ => Class::Nothing,

@@ -17,7 +17,7 @@ use Rattle.answers.specs.declared.Place.the-variants as P
 use Rattle.answers.specs.Numbers.{accepts}
 use Rattle.layout.specs.declared.Shape.{Shape}
 use Rattle.layout.specs.Shape.{leaves, heightOf, widthOf}
-use Rattle.layout.specs.Lent.{Lent}
+use Rattle.layout.specs.Shaped.{Shaped}
 use Rattle.layout.specs.Parts.{flakesAt, recordAt, tagAt, nodeAt, flakeAt}
 use Rattle.layout.proofs.Places.{record-inside, tag-inside, node-inside, parts-inside}
 use Rattle.layout.proofs.Height.{leaves-some}
@@ -37,7 +37,7 @@ use Rattle.drive.specs.Drive.{shapeOf, zeros}
 use Rattle.drive.specs.Opening.{measureOf, headStands, openingOf}
 use Rattle.nuggets.specs.declared.Nugget.{Nugget}
 use Rattle.nuggets.specs.Nugget.{nuggetOf, contentsIn, contentsOf}
-use Rattle.nuggets.specs.Tests.{goodFlake, passes, flakesUp, flakesIn, pathFor, nuggetRead}
+use Rattle.nuggets.specs.Tests.{goodFlake, passes, flakesUp, flakesTested, pathFor, nuggetRead}
 use Rattle.changes.proofs.CellLaws.{part-apart, Other, flakes-apart}
 use Rattle.changes.proofs.Exact.{yes-same}
 use Rattle.assurances.specs.Unseen.{ButAbsent, AbsentUnseen, AbsentBytes}
@@ -77,7 +77,7 @@ module _ (d : Drive) (v w : List ℕ) (x : ButAbsent d v w) where
   climbed-same (suc k) j r h =
       rw (good-same j h (rises-some (suc k) j r (omega arith)), climbed-same k (j / 2) (rises-half k j r) (omega arith)) refl
 
-  path-same : Lent s v → (n : ℕ) → n < d .n → pathFor d w n ≡ pathFor d v n
+  path-same : Shaped s v → (n : ℕ) → n < d .n → pathFor d w n ≡ pathFor d v n
   unfolding pathOf goodRecord
   path-same l n h =
       let small = lent-small l in
@@ -94,8 +94,8 @@ module _ (d : Drive) (v w : List ℕ) (x : ButAbsent d v w) where
   unfolding goodFlake
   flake-same n f h l on = rw (x .tags n f h l on, x .flakes n f h l on) refl
 
-  tests : Lent s v → (n t : ℕ) → n < d .n → nuggetRead d w n t ≡ nuggetRead d v n t
-  unfolding nuggetRead flakesIn
+  tests : Shaped s v → (n t : ℕ) → n < d .n → nuggetRead d w n t ≡ nuggetRead d v n t
+  unfolding nuggetRead flakesTested
   tests l n t h =
       let mask = bitAnd (recordOf (shapeOf d) v n .held) t in
       rw (path-same l n h, nugget-same n h, x .records n h)

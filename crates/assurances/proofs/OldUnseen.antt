@@ -21,16 +21,16 @@ use Rattle.changes.specs.Write.{writeAnswer, writes, writtenDrive, writeDone, w
 use Rattle.changes.specs.Rekey.{beginTests, beginAnswer, begunDrive, beginDone, beginVolume, sweepAnswer, sweepDone, sweepVolume, sweepPads, finishTests, finishAnswer, finishedDrive, finishDone, finishVolume}
 use Rattle.changes.proofs.Exact.{yes-same}
 use Rattle.history.specs.World.{World, Call, mount, write, begin, sweep, finish, asks, read, report, stored}
-use Rattle.history.specs.Step.{answerTo, left, overlaid, mounted, step, changesBy}
+use Rattle.history.specs.Step.{answerTo, worldAfter, contentsAfter, mounted, step, changesBy}
 use Rattle.assurances.specs.Unseen.{withOld, swapped, AlikeButOld, OldUnseen, OldUnread}
 use Rattle.assurances.proofs.SameReads.{read-alike, buffer-alike}
 use Rattle.assurances.proofs.Steady.{opens, tests, bytes, write-same, written-same, stored-same}
 
 -- what is left where the drive changes in one of two ways, or comes back as given
 left-alike : (w : World) (any : List ℕ) (b : Bool) (new : Drive) (vol : List ℕ) (pads : List Entry) (secret old : List ℕ) (after : ℕ → ℕ)
-    → AlikeButOld (left (swapped w any) (pick b new (withOld (w .drive) any)) vol pads secret old after) (left w (pick b new (w .drive)) vol pads secret old after)
-    × (b ≡ true → left (swapped w any) (pick b new (withOld (w .drive) any)) vol pads secret old after ≡ left w (pick b new (w .drive)) vol pads secret old after)
-unfolding left
+    → AlikeButOld (worldAfter (swapped w any) (pick b new (withOld (w .drive) any)) vol pads secret old after) (worldAfter w (pick b new (w .drive)) vol pads secret old after)
+    × (b ≡ true → worldAfter (swapped w any) (pick b new (withOld (w .drive) any)) vol pads secret old after ≡ worldAfter w (pick b new (w .drive)) vol pads secret old after)
+unfolding worldAfter
 left-alike w any true new vol pads secret old after = (refl, λ e. refl)
 left-alike w any false new vol pads secret old after = (refl, λ e. absurd (clash e refl))
 
@@ -64,7 +64,7 @@ module _ (w : World) (any : List ℕ) (steady : isChanging (w .drive .state) ≡
 
   -- each step by the answer to the other drive
   write-steps : (o : ℕ) (given : List ℕ) → step u (write o given)
-      ≡ left u (pick (writes (writeAnswer d v o (length given)) given) (writtenDrive d v o given) e) (writeVolume d v o given) (writePads d v o given) (w .secret) (w .old) (overlaid w o given)
+      ≡ worldAfter u (pick (writes (writeAnswer d v o (length given)) given) (writtenDrive d v o given) e) (writeVolume d v o given) (writePads d v o given) (w .secret) (w .old) (contentsAfter w o given)
   unfolding step writeDone writeVolume writePads
   write-steps o given =
       let same = write-same d any v steady o (length given) in
@@ -73,12 +73,12 @@ module _ (w : World) (any : List ℕ) (steady : isChanging (w .drive .state) ≡
       let vols : writeVolume e v o given ≡ writeVolume d v o given =
       rw same (yes-same (writes (writeAnswer d v o (length given)) given) v (λ taken. stored-same d any v steady o given taken)) in
       let pads : writePads e v o given ≡ writePads d v o given = rw same refl in
-      λ i. left u (drives i) (vols i) (pads i) (w .secret) (w .old) (λ a. pick (accepts (same i)) (over o given a (w .contents a)) (w .contents a))
+      λ i. worldAfter u (drives i) (vols i) (pads i) (w .secret) (w .old) (λ a. pick (accepts (same i)) (over o given a (w .contents a)) (w .contents a))
 
   write-unseen : (o : ℕ) (given : List ℕ) → Same (write o given)
   unfolding step writeDone
   write-unseen o given =
-      let l = left-alike w any (writes (writeAnswer d v o (length given)) given) (writtenDrive d v o given) (writeVolume d v o given) (writePads d v o given) (w .secret) (w .old) (overlaid w o given) in
+      let l = left-alike w any (writes (writeAnswer d v o (length given)) given) (writtenDrive d v o given) (writeVolume d v o given) (writePads d v o given) (w .secret) (w .old) (contentsAfter w o given) in
       (write-same d any v steady o (length given), ap (λ (z : World). swapped z (step w (write o given) .drive .old)) (write-steps o given) ∙ l .0, λ q. write-steps o given ∙ l .1 q)
 
   begin-unseen : (secret : List ℕ) → Same (begin secret)

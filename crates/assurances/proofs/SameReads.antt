@@ -12,7 +12,7 @@ use borrow.Author.Tests.{eqb-false}
 use Rattle.base.proofs.TabLaws.{tab-ext}
 use Rattle.answers.specs.Numbers.{accepts}
 use Rattle.answers.proofs.StageLaws.{accepted-is}
-use Rattle.layout.specs.Lent.{Lent}
+use Rattle.layout.specs.Shaped.{Shaped}
 use Rattle.layout.specs.Spots.{spotAt, capacity}
 use Rattle.layout.proofs.Limits.{limits}
 use Rattle.layout.proofs.Places.{spot-inside}
@@ -36,17 +36,17 @@ read-paths : (d : Drive) (v : List ℕ) (o len : ℕ) → accepts (readAnswer d 
 read-paths d v o len e i h = ap accepts (read-tests d v o len (accepted-is (readAnswer d v o len) e) (o + i) (omega arith) (omega arith) .path)
 
 module _ (d : Drive) (any v w : List ℕ) (opens : openingOf (withOld d any) w ≡ openingOf d v)
-    (tests : Lent (shapeOf d) v → (n t : ℕ) → n < d .n → nuggetRead (withOld d any) w n t ≡ nuggetRead d v n t)
-    (bytes : Lent (shapeOf d) v → (n f : ℕ) → n < d .n → f < d .p → accepts (pathFor d v n) ≡ true → contentsOf (withOld d any) w n f ≡ contentsOf d v n f) where
+    (tests : Shaped (shapeOf d) v → (n t : ℕ) → n < d .n → nuggetRead (withOld d any) w n t ≡ nuggetRead d v n t)
+    (bytes : Shaped (shapeOf d) v → (n f : ℕ) → n < d .n → f < d .p → accepts (pathFor d v n) ≡ true → contentsOf (withOld d any) w n f ≡ contentsOf d v n f) where
   abbrev e : Drive
   e = withOld d any
 
-  up-alike : Lent (shapeOf d) v → (o len k n : ℕ) → n + k ≤ d .n → nuggetsUp e w o len k n ≡ nuggetsUp d v o len k n
+  up-alike : Shaped (shapeOf d) v → (o len k n : ℕ) → n + k ≤ d .n → nuggetsUp e w o len k n ≡ nuggetsUp d v o len k n
   unfolding nuggetsUp
   up-alike l o len zero n h = refl
   up-alike l o len (suc k) n h = rw (tests l n (touchedOf (shapeOf d) o len n) (omega arith), up-alike l o len k (suc n) (omega arith)) refl
 
-  span-alike : Lent (shapeOf d) v → (o len : ℕ) → o + len ≤ capacity (shapeOf d) → nuggetsOf e w o len ≡ nuggetsOf d v o len
+  span-alike : Shaped (shapeOf d) v → (o len : ℕ) → o + len ≤ capacity (shapeOf d) → nuggetsOf e w o len ≡ nuggetsOf d v o len
   unfolding nuggetsOf
   span-alike l o len room =
       let span = spanOf (shapeOf d) o len in

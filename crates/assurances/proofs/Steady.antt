@@ -15,7 +15,7 @@ use Rattle.answers.specs.declared.Answer.the-variants as A
 use Rattle.answers.specs.Numbers.{accepts}
 use Rattle.answers.specs.Stages.{andThen}
 use Rattle.answers.proofs.StageLaws.{both-stages, accepted-is, passed, spared}
-use Rattle.layout.specs.Lent.{Lent}
+use Rattle.layout.specs.Shaped.{Shaped}
 use Rattle.records.specs.declared.Record.{Record}
 use Rattle.records.specs.declared.Way.{Way}
 use Rattle.records.specs.declared.Way.the-variants.{Idle, Add, Rekey}
@@ -35,7 +35,7 @@ use Rattle.drive.specs.Opening.{inForm, measureOf, headStands, openingOf}
 use Rattle.drive.proofs.OpeningLaws.{opening-lent}
 use Rattle.nuggets.specs.declared.Nugget.{Nugget}
 use Rattle.nuggets.specs.Nugget.{secretFor, nuggetOf, contentsIn, contentsOf}
-use Rattle.nuggets.specs.Tests.{flakesIn, pathFor, nuggetRead}
+use Rattle.nuggets.specs.Tests.{flakesTested, pathFor, nuggetRead}
 use Rattle.nuggets.specs.Touched.{fitsIn}
 use Rattle.changes.specs.Laid.{written}
 use Rattle.changes.specs.Change.{idles, nuggetChange, testedTo, padsFor, markedTo, tendedTo, worked, advanced, settled}
@@ -71,7 +71,7 @@ module _ (d : Drive) (any v : List ℕ) (steady : isChanging (d .state) ≡ fals
   opens = rw head-same refl
 
   -- a nugget whose path passes is under the present secret
-  nugget-same : Lent (shapeOf d) v → (n : ℕ) → n < d .n → accepts (pathFor d v n) ≡ true → nuggetOf e v n ≡ nuggetOf d v n
+  nugget-same : Shaped (shapeOf d) v → (n : ℕ) → n < d .n → accepts (pathFor d v n) ≡ true → nuggetOf e v n ≡ nuggetOf d v n
   unfolding secretFor
   nugget-same l n h p =
       let b = path-belongs (shapeOf d) (gaugeOf d) v n l h (accepted-is (pathFor d v n) p) in
@@ -82,21 +82,21 @@ module _ (d : Drive) (any v : List ℕ) (steady : isChanging (d .state) ≡ fals
       go (inl z) = z
       go (inr z) = absurd (clash (z .0) steady)
 
-  pub tests : Lent (shapeOf d) v → (n t : ℕ) → n < d .n → nuggetRead (withOld d any) v n t ≡ nuggetRead d v n t
+  pub tests : Shaped (shapeOf d) v → (n t : ℕ) → n < d .n → nuggetRead (withOld d any) v n t ≡ nuggetRead d v n t
   unfolding nuggetRead
-  tests l n t h = yes-same (accepts (pathFor d v n)) _ (λ p. ap (λ (g : Nugget). flakesIn (shapeOf d) v g (bitAnd (recordOf (shapeOf d) v n .held) t)) (nugget-same l n h p))
+  tests l n t h = yes-same (accepts (pathFor d v n)) _ (λ p. ap (λ (g : Nugget). flakesTested (shapeOf d) v g (bitAnd (recordOf (shapeOf d) v n .held) t)) (nugget-same l n h p))
 
-  pub bytes : Lent (shapeOf d) v → (n f : ℕ) → n < d .n → f < d .p → accepts (pathFor d v n) ≡ true → contentsOf (withOld d any) v n f ≡ contentsOf d v n f
+  pub bytes : Shaped (shapeOf d) v → (n f : ℕ) → n < d .n → f < d .p → accepts (pathFor d v n) ≡ true → contentsOf (withOld d any) v n f ≡ contentsOf d v n f
   bytes l n f h k p = ap (λ (g : Nugget). contentsIn (shapeOf d) v g f) (nugget-same l n h p)
 
-  change-same : Lent (shapeOf d) v → (n : ℕ) (way : Way) → n < d .n → nuggetChange e v n way ≡ nuggetChange d v n way
+  change-same : Shaped (shapeOf d) v → (n : ℕ) (way : Way) → n < d .n → nuggetChange e v n way ≡ nuggetChange d v n way
   unfolding nuggetChange andThen
   change-same l n way h =
       no-same (idles way) _
       (λ busy. yes-same (accepts (pathFor d v n)) _
-      (λ p. ap (λ (g : Nugget). pick (atTop way (recordOf (shapeOf d) v n)) A.KeycountTop (pick (rekeys way) (flakesIn (shapeOf d) v g (recordOf (shapeOf d) v n .held)) A.Accepted)) (nugget-same l n h p)))
+      (λ p. ap (λ (g : Nugget). pick (atTop way (recordOf (shapeOf d) v n)) A.KeycountTop (pick (rekeys way) (flakesTested (shapeOf d) v g (recordOf (shapeOf d) v n .held)) A.Accepted)) (nugget-same l n h p)))
 
-  tested-same : Lent (shapeOf d) v → (way : ℕ → Way) (n : ℕ) → n ≤ d .n → testedTo e v way n ≡ testedTo d v way n
+  tested-same : Shaped (shapeOf d) v → (way : ℕ → Way) (n : ℕ) → n ≤ d .n → testedTo e v way n ≡ testedTo d v way n
   unfolding testedTo
   tested-same l way zero h = refl
   tested-same l way (suc n) h = ap₂ andThen (tested-same l way n (omega arith)) (change-same l n (way n) (omega arith))
@@ -114,7 +114,7 @@ module _ (d : Drive) (any v : List ℕ) (steady : isChanging (d .state) ≡ fals
     accepted : accepts (writeAnswer d v o (length given)) ≡ true
     accepted = both-left (accepts (writeAnswer d v o (length given))) _ taken
 
-    lent : Lent (shapeOf d) v
+    lent : Shaped (shapeOf d) v
     unfolding writeAnswer
     lent = opening-lent d v (both-stages (openingOf d v) _ accepted .0)
 

@@ -16,7 +16,7 @@ use Rattle.reports.specs.Stored.{storedFlake}
 use Rattle.history.specs.World.{World, Call, mount, write, begin, sweep, finish, asks, report, stored}
 use Rattle.history.specs.Step.{answerTo}
 use Rattle.history.specs.History.{Start, begun, history}
-use Rattle.history.specs.Answers.{nuggetsLeft, allAccepted, checkedText, Collision, reportOn}
+use Rattle.history.specs.Answers.{nuggetsLeft, allAccepted, checkedText, KeyCollision, reportOn}
 
 -- a secret of 32 equal bytes
 abbrev pub secretOf : ℕ → List ℕ
@@ -52,7 +52,7 @@ FullIsNotFree =
     × (let w = history start calls in
     (reportOn w .share ≡ 10000) × (nuggetsLeft w ≡ 0)
     × ((other : List ℕ) → (w .old ≡ other → ⊥)
-    → (mountAnswer (w .vol) (w .secret) other (w .outside) ≡ A.OldSecret) ⊎ Collision (w .old) other (checkedText w)))
+    → (mountAnswer (w .vol) (w .secret) other (w .outside) ≡ A.OldSecret) ⊎ KeyCollision (w .old) other (checkedText w)))
 
 -- "A refused format or mount returns the blank drive: every field zero, steady; every later call on it gives 1." A mount isn't made on a drive.
 abbrev pub takesDrive : Call → Bool

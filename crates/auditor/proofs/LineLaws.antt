@@ -11,7 +11,7 @@ use Rattle.records.specs.declared.Record.{Record}
 use Rattle.drive.specs.declared.Drive.{Drive}
 use Rattle.drive.specs.Drive.{isChanging}
 use Rattle.line.specs.Decimal.{decimal, longDecimal}
-use Rattle.line.specs.Reading.{fieldAt, value}
+use Rattle.line.specs.Reading.{fieldAt, decimalValue}
 use Rattle.line.proofs.ReadLaws.{free, free-append, decimal-free, long-free, far-newline, far-space, decimal-value, long-value}
 use Rattle.line.proofs.FieldLaws.{Named, fieldsText, valueAt, plain, without, field-last, fields-told, fields-free}
 use Rattle.pages.specs.Words.{t-new, t-old, t-present, t-counter, t-secret, t-needed, t-free}
@@ -70,18 +70,18 @@ line-told d r n hn he hk hp =
     let newlines : every (without 10) fs ≡ true = both-on (decimal-free 10 n far-newline) (both-on (key-free 10 d (r .epoch) refl refl refl) (both-on (decimal-free 10 (r .epoch) far-newline) (both-on (long-free 10 (r .keycount) far-newline) refl))) in
     record {
       newlines = fields-free 10 fs (last e) refl refl newlines (flakes-free 10 present far-newline refl refl);
-      nugget = ap value (field 0) ∙ decimal-value n hn;
+      nugget = ap decimalValue (field 0) ∙ decimal-value n hn;
       key = field 1;
-      epoch = ap value (field 2) ∙ decimal-value (r .epoch) he;
-      keycount = ap value (field 3) ∙ long-value (r .keycount) hk;
+      epoch = ap decimalValue (field 2) ∙ decimal-value (r .epoch) he;
+      keycount = ap decimalValue (field 3) ∙ long-value (r .keycount) hk;
       flakes = ap flakesRead (field 4) ∙ flakes-back present (short-flakes (d .p) (r .held) hp);
     }
 
 -- what the counter's line tells
-pub counter-told : (k : ℕ) → k < 10 ^ 20 → value (fieldAt 0 (counterText k)) ≡ k
+pub counter-told : (k : ℕ) → k < 10 ^ 20 → decimalValue (fieldAt 0 (counterText k)) ≡ k
 unfolding free
 counter-told k h =
-    ap value (field-last (99 ∷ 111 ∷ 117 ∷ 110 ∷ 116 ∷ 101 ∷ 114 ∷ []) (longDecimal k) refl (long-free 32 k far-space)) ∙ long-value k h
+    ap decimalValue (field-last (99 ∷ 111 ∷ 117 ∷ 110 ∷ 116 ∷ 101 ∷ 114 ∷ []) (longDecimal k) refl (long-free 32 k far-space)) ∙ long-value k h
 
 pub counter-free : (k : ℕ) → free 10 (counterText k) ≡ true
 unfolding free

@@ -12,17 +12,17 @@ use Rattle.base.specs.Lists.{every}
 use Rattle.base.proofs.PickLaws.{told, both-left, both-right, both-on}
 use Rattle.records.specs.Journal.{bit}
 use Rattle.pages.specs.Page.{presentFlakes}
-use Rattle.auditor.specs.Reading.{times}
+use Rattle.auditor.specs.Reading.{timesListed}
 use Rattle.auditor.proofs.ReadLaws.{short}
 
-times-append : (f : ℕ) (a b : List ℕ) → times f (a ++ b) ≡ times f a + times f b
-unfolding times
+times-append : (f : ℕ) (a b : List ℕ) → timesListed f (a ++ b) ≡ timesListed f a + timesListed f b
+unfolding timesListed
 times-append f [] b = omega arith
 times-append f (x ∷ a) b = rw (times-append f a b) (omega arith)
 
 -- of one flake more
-times-one : (f p : ℕ) (b : Bool) → times f (pick b (p ∷ []) []) ≡ pick (eqb f p) (pick b 1 0) 0
-unfolding times
+times-one : (f p : ℕ) (b : Bool) → timesListed f (pick b (p ∷ []) []) ≡ pick (eqb f p) (pick b 1 0) 0
+unfolding timesListed
 times-one f p true = go (eqb f p)
   where
     go : (x : Bool) → pick x 1 0 + 0 ≡ pick x 1 0
@@ -34,21 +34,21 @@ times-one f p false = go (eqb f p)
     go true = refl
     go false = refl
 
-pub times-above : (p j f : ℕ) → p ≤ f → times f (presentFlakes p j) ≡ 0
-unfolding presentFlakes times
+pub times-above : (p j f : ℕ) → p ≤ f → timesListed f (presentFlakes p j) ≡ 0
+unfolding presentFlakes timesListed
 times-above zero j f h = refl
 times-above (suc p) j f h =
     times-append f (presentFlakes p j) (pick (bit j p) (p ∷ []) [])
     ∙ rw (times-above p j f (omega arith), times-one f p (bit j p), ne-eqb f p (λ e. omega (arith, e)))
 
 -- "Bit f of a journal (lowest first) says that flake f is present": it is on the list once, or not at all
-pub times-present : (p j f : ℕ) → f < p → times f (presentFlakes p j) ≡ pick (bit j f) 1 0
+pub times-present : (p j f : ℕ) → f < p → timesListed f (presentFlakes p j) ≡ pick (bit j f) 1 0
 unfolding presentFlakes
 times-present zero j f h = absurd (omega arith)
 times-present (suc p) j f h = go (told (eqb f p)) (λ l. times-present p j f l)
   where
-    go : (eqb f p ≡ true) ⊎ (eqb f p ≡ false) → (f < p → times f (presentFlakes p j) ≡ pick (bit j f) 1 0)
-        → times f (presentFlakes p j ++ pick (bit j p) (p ∷ []) []) ≡ pick (bit j f) 1 0
+    go : (eqb f p ≡ true) ⊎ (eqb f p ≡ false) → (f < p → timesListed f (presentFlakes p j) ≡ pick (bit j f) 1 0)
+        → timesListed f (presentFlakes p j ++ pick (bit j p) (p ∷ []) []) ≡ pick (bit j f) 1 0
     go (inl e) again =
         let same : f ≡ p = eqb-true f p e in
         times-append f (presentFlakes p j) (pick (bit j p) (p ∷ []) [])

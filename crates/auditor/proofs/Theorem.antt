@@ -21,7 +21,7 @@ use Rattle.layout.proofs.Places.{record-inside, parts-inside}
 use Rattle.records.specs.Record.{epochFits, recordOf}
 use Rattle.records.proofs.RuleLaws.{formed-fits}
 use Rattle.records.proofs.RecordLaws.{read-codes}
-use Rattle.layout.specs.Lent.{Lent}
+use Rattle.layout.specs.Shaped.{Shaped}
 use Rattle.tree.proofs.WholeLaws.{whole-formed}
 use Rattle.keys.specs.Keys.{nuggetKey}
 use Rattle.drive.specs.declared.Drive.{Drive}
@@ -30,13 +30,13 @@ use Rattle.opening.specs.Mount.{wholeIn, openedDrive}
 use Rattle.opening.proofs.HeadBack.{Opened, opened}
 use Rattle.reports.specs.Report.{reportAnswer, reportOf}
 use Rattle.line.specs.Lines.{newline, reportLine}
-use Rattle.sheets.specs.Sheet.{presentIn, oldIn, outsideIn, volumeIn, sized, reportedLine, mountedText, mountedBy, sheetLine}
+use Rattle.sheets.specs.Sheet.{presentIn, oldIn, outsideIn, volumeIn, inputSized, reportedLine, mountedText, mountedBy, sheetLine}
 use Rattle.sheets.proofs.SheetLaws.{volume-taken}
 use Rattle.sheets.proofs.Follows.{report-follows}
 use Rattle.pages.specs.Page.{presentFlakes, nuggetText, nuggetLines, counterText, counterLine, oldText, oldLine, driveText, mounts, auditPage}
 use Rattle.pages.proofs.MountLaws.{mounted-drive, mounted-answer, opened-lent}
-use Rattle.line.specs.Reading.{upTo, past, linesFrom, lineAt, fieldAt, value}
-use Rattle.auditor.specs.Reading.{lineRead, toldOf, times}
+use Rattle.line.specs.Reading.{upTo, past, linesFrom, lineAt, fieldAt, decimalValue}
+use Rattle.auditor.specs.Reading.{lineRead, toldOf, timesListed}
 use Rattle.auditor.specs.Question.{keyWord, secretNamed, Answers}
 use Rattle.auditor.proofs.ListLaws.{times-present, times-above}
 use Rattle.auditor.proofs.LineLaws.{LineTold, line-told, counter-told, counter-free, old-told, old-line-free}
@@ -48,13 +48,13 @@ abbrev pub Narrow : Drive → List ℕ → Type 0
 Narrow d v = (n : ℕ) → n < d .n → (recordOf (shapeOf d) v n .keycount < 2 ^ 64) × (recordOf (shapeOf d) v n .epoch < 2 ^ 16)
 
 -- those of bytes are
-narrow-bytes : (d : Drive) (v : List ℕ) → Lent (shapeOf d) v → Bytes v → Narrow d v
+narrow-bytes : (d : Drive) (v : List ℕ) → Shaped (shapeOf d) v → Bytes v → Narrow d v
 narrow-bytes d v lent bytes n h =
     let w = read-codes (shapeOf d) v (recordAt (shapeOf d) n) bytes (omega (arith, lent .size, record-inside (shapeOf d) n h, parts-inside (shapeOf d))) in
     (w .keycountWidth, w .epochWidth)
 
 -- a drive whose volume is what it has to be
-module _ (d : Drive) (v : List ℕ) (lent : Lent (shapeOf d) v) (narrow : Narrow d v) (whole : wholeIn d v ≡ A.Accepted) where
+module _ (d : Drive) (v : List ℕ) (lent : Shaped (shapeOf d) v) (narrow : Narrow d v) (whole : wholeIn d v ≡ A.Accepted) where
   limited : Limits (shapeOf d)
   limited = limits (shapeOf d) (lent .limited)
 
@@ -114,11 +114,11 @@ module _ (d : Drive) (v : List ℕ) (lent : Lent (shapeOf d) v) (narrow : Narrow
           nugget = λ n h. ap (λ (l : List ℕ). lineRead l .nugget) (nugget-text n h) ∙ line n h .nugget;
           epoch = λ n h. ap (λ (l : List ℕ). lineRead l .epoch) (nugget-text n h) ∙ line n h .epoch;
           keycount = λ n h. ap (λ (l : List ℕ). lineRead l .keycount) (nugget-text n h) ∙ line n h .keycount;
-          flakes = λ n f h l. ap (times f) (flakes n h) ∙ times-present (d .p) (recordOf (shapeOf d) v n .held) f l;
-          noOthers = λ n f h l. ap (times f) (flakes n h) ∙ times-above (d .p) (recordOf (shapeOf d) v n .held) f l;
+          flakes = λ n f h l. ap (timesListed f) (flakes n h) ∙ times-present (d .p) (recordOf (shapeOf d) v n .held) f l;
+          noOthers = λ n f h l. ap (timesListed f) (flakes n h) ∙ times-above (d .p) (recordOf (shapeOf d) v n .held) f l;
           word = named;
           key = λ n h. ap (λ (s : List ℕ). nuggetKey s (d .salt) n) (secret-named d (recordOf (shapeOf d) v n .epoch) (fits n h) ∙ ap (secretNamed d) (sym (named n h)));
-          counter = ap (λ (l : List ℕ). value (fieldAt 0 l)) counter-line ∙ counter-told outside small;
+          counter = ap (λ (l : List ℕ). decimalValue (fieldAt 0 l)) counter-line ∙ counter-told outside small;
           held = counter;
           old = ap (fieldAt 0) old-line ∙ old-told d;
           ends = page-ends;
@@ -131,13 +131,13 @@ unfolding reportedLine reportOf
 report-line-is d v e = let accepted : accepts (reportOf d v .answer) ≡ true = rw e refl in yes _ accepted refl
 
 module _ (i : List ℕ) (mounted : mounts i ≡ true) where
-  size : sized i ≡ true
+  size : inputSized i ≡ true
   unfolding mounts
-  size = both-left (sized i) _ mounted
+  size = both-left (inputSized i) _ mounted
 
   accepted : accepts (mountedBy i .answer) ≡ true
   unfolding mounts
-  accepted = both-right (sized i) _ mounted
+  accepted = both-right (inputSized i) _ mounted
 
   abbrev drive : Drive
   drive = openedDrive (volumeIn i) (presentIn i) (oldIn i)
@@ -153,7 +153,7 @@ module _ (i : List ℕ) (mounted : mounts i ≡ true) where
   unfolding auditPage
   page-is = rw (mounted, mounted-drive i accepted)
 
-  lent : Lent (shapeOf drive) (volumeIn i)
+  lent : Shaped (shapeOf drive) (volumeIn i)
   lent = opened-lent (volumeIn i) (presentIn i) (oldIn i) (outsideIn i) told
 
   answers : Narrow drive (volumeIn i) → outsideIn i < 256 ^ 8 → reportAnswer drive (volumeIn i) ≡ A.Accepted
@@ -175,7 +175,7 @@ module _ (i : List ℕ) (mounted : mounts i ≡ true) where
 
   -- "Which flakes were under which key when the sheet was printed?"
   pub first-question : Bytes i → Answers (auditPage i) (mountedBy i .drive) (volumeIn i) (outsideIn i)
-  unfolding sized
+  unfolding inputSized
   first-question bytes =
       let v : Bytes (volumeIn i) = rw (volume-taken i) at (bytes-part 72 (length i - 72) i bytes) in
       let long : length (part 64 8 i) ≡ 8 = length-part 64 8 i (leb-true 72 (length i) (both-left (leb 72 (length i)) _ size)) in

@@ -14,7 +14,7 @@ use Rattle.reports.specs.Report.{reportOf}
 use Rattle.line.specs.Lines.{newline, reportLine}
 use Rattle.pages.specs.Words.{t-new, t-old, t-present, t-needed, t-free}
 use Rattle.line.specs.Reading.{linesFrom, lineAt}
-use Rattle.auditor.specs.Reading.{toldOf, counterTold, oldTold, times}
+use Rattle.auditor.specs.Reading.{toldOf, counterTold, oldTold, timesListed}
 use Rattle.records.specs.Record.{recordOf}
 
 -- "One less means: under the old secret": `old` exactly if the epoch is one less than the head's. Else it is `new`, in a steady drive `present`.
@@ -34,8 +34,8 @@ pub record Answers (page : List ℕ) (d : Drive) (v : List ℕ) (outside : ℕ) 
   pub epoch : (n : ℕ) → n < d .n → toldOf page n .epoch ≡ recordOf (shapeOf d) v n .epoch
   pub keycount : (n : ℕ) → n < d .n → toldOf page n .keycount ≡ recordOf (shapeOf d) v n .keycount
   -- "which flakes": a flake is listed exactly once if its bit is set, and else not at all
-  pub flakes : (n f : ℕ) → n < d .n → f < d .p → times f (toldOf page n .flakes) ≡ pick (bit (recordOf (shapeOf d) v n .held) f) 1 0
-  pub noOthers : (n f : ℕ) → n < d .n → d .p ≤ f → times f (toldOf page n .flakes) ≡ 0
+  pub flakes : (n f : ℕ) → n < d .n → f < d .p → timesListed f (toldOf page n .flakes) ≡ pick (bit (recordOf (shapeOf d) v n .held) f) 1 0
+  pub noOthers : (n f : ℕ) → n < d .n → d .p ≤ f → timesListed f (toldOf page n .flakes) ≡ 0
   -- "under which key": the word is that of the record's epoch, and the nugget's key is made from the secret that the word names
   pub word : (n : ℕ) → n < d .n → toldOf page n .key ≡ keyWord d (recordOf (shapeOf d) v n .epoch)
   pub key : (n : ℕ) → n < d .n → lockFor d v n .key ≡ nuggetKey (secretNamed d (toldOf page n .key)) (d .salt) n

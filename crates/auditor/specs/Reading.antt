@@ -4,7 +4,7 @@ use mathlib.Core.List.{List, [], _∷_}
 use lib.Dec.{eqb}
 use Rattle.base.specs.Pick.{pick}
 use Rattle.base.specs.Lists.{same}
-use Rattle.line.specs.Reading.{lineAt, fieldAt, value}
+use Rattle.line.specs.Reading.{lineAt, fieldAt, decimalValue}
 use Rattle.pages.specs.Words.{t-none}
 
 -- the numbers between commas
@@ -27,10 +27,10 @@ pub record Told : Type 0 where
 abbrev pub lineRead : List ℕ → Told
 lineRead l =
     record {
-      nugget = value (fieldAt 0 l);
+      nugget = decimalValue (fieldAt 0 l);
       key = fieldAt 1 l;
-      epoch = value (fieldAt 2 l);
-      keycount = value (fieldAt 3 l);
+      epoch = decimalValue (fieldAt 2 l);
+      keycount = decimalValue (fieldAt 3 l);
       flakes = flakesRead (fieldAt 4 l);
     }
 
@@ -40,13 +40,13 @@ toldOf page n = lineRead (lineAt (suc n) page)
 
 -- the counter's line comes behind those of all n nuggets
 abbrev pub counterTold : List ℕ → ℕ → ℕ
-counterTold page n = value (fieldAt 0 (lineAt (suc n) page))
+counterTold page n = decimalValue (fieldAt 0 (lineAt (suc n) page))
 
 -- the word of the last line, behind the counter's
 abbrev pub oldTold : List ℕ → ℕ → List ℕ
 oldTold page n = fieldAt 0 (lineAt (suc (suc n)) page)
 
 -- how often a flake is listed
-unfoldable pub times : ℕ → List ℕ → ℕ
-times f [] = 0
-times f (g ∷ l) = pick (eqb f g) 1 0 + times f l
+unfoldable pub timesListed : ℕ → List ℕ → ℕ
+timesListed f [] = 0
+timesListed f (g ∷ l) = pick (eqb f g) 1 0 + timesListed f l

@@ -16,7 +16,7 @@ use Rattle.base.proofs.FoldLaws.{fold-append}
 use Rattle.words.specs.Le.{Bytes, serialised, wordsOf}
 use Rattle.words.proofs.LeLaws.{length-serialised, serialised-bytes}
 use Rattle.blake2s.specs.Hash.{padded, keyBlock, block, initial, chained, final, hashed, blake2s}
-use Rattle.blake2s.specs.Stream.{emptied, laid, push, absorbed, finished, started, startedKeyed}
+use Rattle.blake2s.specs.Stream.{emptied, laidByte, push, absorbed, finished, started, startedKeyed}
 use Rattle.blake2s.specs.declared.State.{State}
 use Rattle.blake2s.proofs.ByteLaws.{length-padded, padded-full, count-mod, length-compress}
 use Rattle.blake2s.proofs.StreamLaws.{emptied-room}
@@ -51,8 +51,8 @@ module _ (h d : List ℕ) (s : State) (b : ℕ) (r : Read h d s) where
   longer = length-append d (b ∷ [])
 
   -- a byte that finds room
-  push-room : s .fill < 64 → Read h (d ++ (b ∷ [])) (laid s b)
-  unfolding laid
+  push-room : s .fill < 64 → Read h (d ++ (b ∷ [])) (laidByte s b)
+  unfolding laidByte
   push-room l =
       let same : final (d ++ (b ∷ [])) ≡ final d = rw longer (omega (arith, r .long)) in
       record {
@@ -78,7 +78,7 @@ module _ (h d : List ℕ) (s : State) (b : ℕ) (r : Read h d s) where
 
   -- a byte that finds the buffer full
   push-full : s .fill ≡ 64 → Read h (d ++ (b ∷ [])) (push s b)
-  unfolding push laid emptied chained
+  unfolding push laidByte emptied chained
   push-full e =
       let long : length d ≡ 64 * suc (final d) = omega (arith, r .long) in
       let next : final (d ++ (b ∷ [])) ≡ suc (final d) = rw longer (omega arith) in

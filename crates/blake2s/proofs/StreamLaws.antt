@@ -19,17 +19,17 @@ use Rattle.words.specs.Le.{serialised, wordsOf}
 use Rattle.blake2s.specs.Compress.{compress}
 use Rattle.blake2s.proofs.ByteLaws.{count-mod}
 use Rattle.blake2s.specs.Hash.{padded}
-use Rattle.blake2s.specs.Stream.{emptied, laid, push, filled, finished}
+use Rattle.blake2s.specs.Stream.{emptied, laidByte, push, filled, finished}
 use Rattle.blake2s.specs.declared.State.{State}
 
 -- a piece laid whole
-pub lay-is : (s : State) (m : List ℕ) → fold laid s m
+pub lay-is : (s : State) (m : List ℕ) → fold laidByte s m
     ≡ record { chain = s .chain; buffer = sets (s .buffer) (s .fill) m; fill = s .fill + length m; count = s .count }
-unfolding fold laid
+unfolding fold laidByte
 lay-is s [] = rw (add-zero (s .fill))
 lay-is s (a ∷ m) =
     let long : s .fill + 1 + length m ≡ s .fill + suc (length m) = omega arith in
-    lay-is (laid s a) m ∙ rw (long, add-one (s .fill))
+    lay-is (laidByte s a) m ∙ rw (long, add-one (s .fill))
 
 -- with room the state stays
 pub emptied-room : (s : State) → s .fill < 64 → emptied s ≡ s
@@ -52,10 +52,10 @@ emptied-fill s = go (told (ltb (s .fill) 64))
     go (inr e) = rw e (omega arith)
 
 -- a piece that fits is taken byte by byte as it is laid
-pub fits : (s : State) (m : List ℕ) → s .fill + length m ≤ 64 → fold push s m ≡ fold laid s m
-unfolding fold push laid
+pub fits : (s : State) (m : List ℕ) → s .fill + length m ≤ 64 → fold push s m ≡ fold laidByte s m
+unfolding fold push laidByte
 fits s [] h = refl
-fits s (a ∷ m) h = rw (emptied-room s (omega arith)) (fits (laid s a) m (omega arith))
+fits s (a ∷ m) h = rw (emptied-room s (omega arith)) (fits (laidByte s a) m (omega arith))
 
 -- the first byte finds room
 pub first : (s : State) (m : List ℕ) → 0 < length m → fold push s m ≡ fold push (emptied s) m

@@ -23,12 +23,12 @@ emptied s =
     })
 
 -- a byte is laid into the buffer at its fill
-unfoldable pub laid : State → ℕ → State
-laid s b = record { chain = s .chain; buffer = set (s .buffer) (s .fill) b; fill = s .fill + 1; count = s .count }
+unfoldable pub laidByte : State → ℕ → State
+laidByte s b = record { chain = s .chain; buffer = set (s .buffer) (s .fill) b; fill = s .fill + 1; count = s .count }
 
 -- one more byte of the message; so the last block waits in the buffer, full or not
 unfoldable pub push : State → ℕ → State
-push s b = laid (emptied s) b
+push s b = laidByte (emptied s) b
 
 unfoldable pub absorbed : State → List ℕ → State
 absorbed s m = fold push s m

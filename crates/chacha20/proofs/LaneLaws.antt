@@ -17,7 +17,7 @@ use Rattle.words.specs.Word.{add32}
 use Rattle.words.specs.Le.{wordsOf, serialised}
 use Rattle.words.proofs.LeLaws.{length-serialised}
 use Rattle.chacha20.specs.ChaCha20.{start, added, doubleRound, doubleRounds, twentyRounds, blockFrom, blockOf, keystream}
-use Rattle.chacha20.specs.Lanes.{lane, later, Put, Each, repeated, counters, Spread, laneBlocks, blocksFrom}
+use Rattle.chacha20.specs.Lanes.{lane, later, LanesPut, Each, repeated, counters, Spread, laneBlocks, blocksFrom}
 use Rattle.chacha20.proofs.RoundLaws.{listed}
 
 -- the first i words of s and t are laid into lanes l and 4 + l
@@ -65,7 +65,7 @@ part-more i l s t w v {x} {y} small less long p q now =
           λ j k h d. getD-set-other v₁ b (8 * k + j) y 0 (λ e. d (omega arith)) ∙ getD-set-other v a (8 * k + j) x 0 (λ e. d (omega arith)) ∙ now .others j k h d;
     }
 
-pub part-all : (i l : ℕ) (s t w v : List ℕ) → Part i l s t w v → i ≡ 16 → length s ≡ 16 → length t ≡ 16 → Put l s t w v
+pub part-all : (i l : ℕ) (s t w v : List ℕ) → Part i l s t w v → i ≡ 16 → length s ≡ 16 → length t ≡ 16 → LanesPut l s t w v
 unfolding lane
 part-all i l s t w v all e f g =
     record {
@@ -185,7 +185,7 @@ rounded-none w =
       left = λ j h b. refl;
     }
 
-pub rounded-more : (l : ℕ) (w v u : List ℕ) {s t : List ℕ} → l < 4 → s ≡ doubleRound (lane v l) → t ≡ doubleRound (lane v (4 + l)) → Put l s t v u
+pub rounded-more : (l : ℕ) (w v u : List ℕ) {s t : List ℕ} → l < 4 → s ≡ doubleRound (lane v l) → t ≡ doubleRound (lane v (4 + l)) → LanesPut l s t v u
     → Rounded l w v → Rounded (l + 1) w u
 rounded-more l w v u small p q put now =
     let low : lane u l ≡ doubleRound (lane w l) = put .low ∙ p ∙ ap doubleRound (now .left l (omega arith) (omega arith)) in

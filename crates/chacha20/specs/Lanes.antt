@@ -13,7 +13,7 @@ unfoldable pub lane : List ℕ → ℕ → List ℕ
 lane w j = tab 16 (λ k. getD w (8 * k + j) 0)
 
 -- v has s and t in lanes l and 4 + l, and in the others what w has
-pub record Put (l : ℕ) (s t w v : List ℕ) : Type 0 where
+pub record LanesPut (l : ℕ) (s t w v : List ℕ) : Type 0 where
   pub long : length v ≡ length w
   pub low : lane v l ≡ s
   pub high : lane v (4 + l) ≡ t

@@ -7,7 +7,7 @@ ghost use lib.ListN.{length};
 ghost use lib.Seq.{sets};
 ghost use Rattle.words.specs.Le.{serialised};
 ghost use Rattle.chacha20.specs.ChaCha20.{doubleRound, twentyRounds, added};
-ghost use Rattle.chacha20.specs.Lanes.{lane, Put, Each, repeated, counters, Spread, laneBlocks, blocksFrom};
+ghost use Rattle.chacha20.specs.Lanes.{lane, LanesPut, Each, repeated, counters, Spread, laneBlocks, blocksFrom};
 
 // Two states.
 struct Two {
@@ -34,7 +34,7 @@ fn pair(w: &[u32; 128], l: usize) -> Two
 // The two states laid into lanes l and 4 + l.
 fn put(w: &mut [u32; 128], l: usize, x: Two)
     requires { ⌜ (l < 4) × (length (now w) ≡ 128) ⌝ }
-    ensures { λ _. ⌜ Put l (x .s) (x .t) (now (w .entry)) (now (w .exit)) ⌝ }
+    ensures { λ _. ⌜ LanesPut l (x .s) (x .t) (now (w .entry)) (now (w .exit)) ⌝ }
 {
     let s = x.s;
     let t = x.t;

@@ -16,7 +16,7 @@ use Rattle.words.proofs.LeLaws.{num-lt, bytes-part}
 use Rattle.answers.specs.Numbers.{accepts}
 use Rattle.answers.proofs.StageLaws.{accepted-is}
 use Rattle.layout.specs.declared.Shape.{Shape}
-use Rattle.layout.specs.Lent.{Lent}
+use Rattle.layout.specs.Shaped.{Shaped}
 use Rattle.layout.proofs.Height.{leaves-some}
 use Rattle.layout.proofs.Limits.{limits}
 use Rattle.records.specs.declared.Way.{Way}
@@ -26,7 +26,7 @@ use Rattle.drive.specs.declared.Drive.{Drive}
 use Rattle.drive.specs.declared.State.{State}
 use Rattle.drive.specs.declared.State.the-variants.{Steady, Changing}
 use Rattle.drive.specs.Drive.{shapeOf, blankDrive, counterTop, keptOld}
-use Rattle.packed.specs.Image.{leftOf, driveIn, DriveFits}
+use Rattle.packed.specs.Image.{epochLeft, driveIn, DriveFits}
 use Rattle.packed.proofs.ImageLaws.{drive-back}
 use Rattle.opening.specs.Format.{freshDrive, formatAnswer, formatDone}
 use Rattle.opening.specs.Mount.{shapeIn, epochIn, stateIn, openedDrive, mountAnswer, mountDone}
@@ -40,9 +40,9 @@ use Rattle.changes.proofs.LaidLaws.{laid-lent}
 use Rattle.changes.proofs.MarkLaws.{marks-lent}
 use Rattle.changes.proofs.TendLaws.{tends-lent}
 use Rattle.drive.proofs.OpeningLaws.{opening-lent}
-use Rattle.chained.specs.Back.{Carried, ImageCarried, FormatCarried, MountCarried, WriteCarried, BeginCarried, SweepCarried, FinishCarried}
+use Rattle.chained.specs.Back.{ComesBack, ImageCarried, FormatCarried, MountCarried, WriteCarried, BeginCarried, SweepCarried, FinishCarried}
 
-carried : (d : Drive) → DriveFits d → Carried d
+carried : (d : Drive) → DriveFits d → ComesBack d
 carried d w = record { fits = w; back = drive-back d w }
 
 -- "every field zero, steady"
@@ -75,7 +75,7 @@ unless-blank false d f = f
 number-low : (at k : ℕ) (v : List ℕ) → Bytes v → at + k ≤ length v → num (part at k v) < 256 ^ k
 number-low at k v b h = rw (length-part at k v h) at (num-lt (part at k v) (bytes-part at k v b))
 
-left-low : (b : Bool) (x : ℕ) → x < 2 ^ 16 → leftOf (pick b Steady (Changing x)) < 2 ^ 16
+left-low : (b : Bool) (x : ℕ) → x < 2 ^ 16 → epochLeft (pick b Steady (Changing x)) < 2 ^ 16
 left-low true x h = omega arith
 left-low false x h = h
 
@@ -101,7 +101,7 @@ pub image-carried : ImageCarried
 image-carried image l b = carried (driveIn image) (image-fits image l b)
 
 -- node 1 of a volume as long as its shape asks
-node-long : {s : Shape} {v : List ℕ} → Lent s v → length (nodeIn s v 1) ≡ 32
+node-long : {s : Shape} {v : List ℕ} → Shaped s v → length (nodeIn s v 1) ≡ 32
 node-long {s} {v} l = length-part _ 32 v (node-fits 1 l (omega (arith, leaves-some (s .n))))
 
 pub format-fits : (s : Shape) (salt secret v : List ℕ) (outside : ℕ) → length salt ≡ 16 → length secret ≡ 32 → outside < 2 ^ 64
@@ -141,7 +141,7 @@ mount-fits v present old outside bytes wide old-wide = picked (accepts (mountAns
     on e =
         let accepted = accepted-is (mountAnswer v present old outside) e in
         let long = opened v present old outside accepted .head-long in
-        let lent : Lent (shapeIn v) v = opening-lent (openedDrive v present old) v (ap accepts (mount-opens v present old outside bytes accepted)) in
+        let lent : Shaped (shapeIn v) v = opening-lent (openedDrive v present old) v (ap accepts (mount-opens v present old outside bytes accepted)) in
         let epoch : epochIn v < 256 ^ 2 = number-low 6 2 v bytes (omega (arith, long)) in
         record {
           nWidth = number-low 8 4 v bytes (omega (arith, long));
@@ -160,12 +160,12 @@ pub mount-carried : MountCarried
 mount-carried v present old outside bytes wide old-wide = carried _ (mount-fits v present old outside bytes wide old-wide)
 
 -- a change keeps the volume's length
-worked-lent : (d : Drive) (v : List ℕ) (way : ℕ → Way) (new : ℕ → ℕ → List ℕ) → Lent (shapeOf d) v → Lent (shapeOf d) (worked d v way new)
+worked-lent : (d : Drive) (v : List ℕ) (way : ℕ → Way) (new : ℕ → ℕ → List ℕ) → Shaped (shapeOf d) v → Shaped (shapeOf d) (worked d v way new)
 unfolding worked
 worked-lent d v way new l =
     tends-lent (shapeOf d) way (d .n) _ (marks-lent (shapeOf d) (d .epoch) way v (d .n) _ (laid-lent (shapeOf d) (d .salt) new (padsFor d v way) v l)) (omega arith)
 
-advanced-fits : (d : Drive) (v : List ℕ) (way : ℕ → Way) (new : ℕ → ℕ → List ℕ) → Lent (shapeOf d) v → (d .counter ≡ counterTop → ⊥) → DriveFits d
+advanced-fits : (d : Drive) (v : List ℕ) (way : ℕ → Way) (new : ℕ → ℕ → List ℕ) → Shaped (shapeOf d) v → (d .counter ≡ counterTop → ⊥) → DriveFits d
     → DriveFits (advanced d (worked d v way new))
 unfolding advanced
 advanced-fits d v way new lent room w =

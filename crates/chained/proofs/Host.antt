@@ -17,7 +17,7 @@ use Rattle.changes.specs.Write.{writtenDrive, writeDone}
 use Rattle.changes.specs.Rekey.{begunDrive, beginDone, sweptDrive, sweepDone, finishedDrive, finishDone}
 use Rattle.ngt.specs.Calls.{Tells, imageAfter, Changed}
 use Rattle.history.specs.World.{World, Call, mount, write, begin, sweep, finish, asks, read, report, stored}
-use Rattle.history.specs.Step.{answerTo, left, step}
+use Rattle.history.specs.Step.{answerTo, worldAfter, step}
 use Rattle.history.specs.History.{Start, begun, run, history}
 use Rattle.history.proofs.Sound.{Sound}
 use Rattle.history.proofs.Steps.{start-sound, step-sound, run-sound, mount-back, mount-same}
@@ -43,7 +43,7 @@ after-image false new d = refl
 
 module _ (w : World) (x : Sound w) where
   step-fits : (c : Call) → TypedCall c → DriveFits (w .drive) → DriveFits (step w c .drive)
-  unfolding step left
+  unfolding step worldAfter
   step-fits (mount any) t f = rw (mount-same w x any) f
   step-fits (write o bytes) t f = write-fits (w .drive) (w .vol) o bytes f
   step-fits (begin secret) t f = begin-fits (w .drive) (w .vol) secret t f
@@ -62,7 +62,7 @@ module _ (w : World) (x : Sound w) where
 
     -- what a function promises on what the host carries for a world is what it carries for the next one
     made : (c : Call) (g : Got) (k : Host) → Makes w (hostOf w) c g k → k ≡ hostOf (step w c)
-    unfolding step left writeDone beginDone sweepDone finishDone
+    unfolding step worldAfter writeDone beginDone sweepDone finishDone
     made (mount any) g k p =
         rw (mount-same w x any) (host-is (p .0 .drive ∙ ap (λ (z : Done). driveImage (z .drive)) (mount-back w x any)) (p .1))
     made (write o bytes) g k p = changed (writtenDrive (w .drive) (w .vol) o bytes) refl (rw back at p)

@@ -14,31 +14,31 @@ use Rattle.changes.specs.Write.{writeDone}
 use Rattle.changes.specs.Rekey.{beginDone, sweepDone, finishDone}
 
 -- each field is within its type, and so the drive comes back from its image
-pub record Carried (d : Drive) : Type 0 where
+pub record ComesBack (d : Drive) : Type 0 where
   pub fits : DriveFits d
   pub back : driveIn (driveImage d) ≡ d
 
 -- a drive in whatever image a host brings
 abbrev pub ImageCarried : Type 0
-ImageCarried = (image : List ℕ) → length image ≡ 144 → Bytes image → Carried (driveIn image)
+ImageCarried = (image : List ℕ) → length image ≡ 144 → Bytes image → ComesBack (driveIn image)
 
 abbrev pub FormatCarried : Type 0
 FormatCarried =
     (s : Shape) (salt secret v : List ℕ) (outside : ℕ) → length salt ≡ 16 → length secret ≡ 32 → outside < 2 ^ 64
-    → Carried (formatDone s salt secret outside v .drive)
+    → ComesBack (formatDone s salt secret outside v .drive)
 
 abbrev pub MountCarried : Type 0
 MountCarried =
-    (v present old : List ℕ) (outside : ℕ) → Bytes v → length present ≡ 32 → length old ≡ 32 → Carried (mountDone v present old outside .drive)
+    (v present old : List ℕ) (outside : ℕ) → Bytes v → length present ≡ 32 → length old ≡ 32 → ComesBack (mountDone v present old outside .drive)
 
 abbrev pub WriteCarried : Type 0
-WriteCarried = (d : Drive) (v : List ℕ) (o : ℕ) (bytes : List ℕ) → DriveFits d → Carried (writeDone d v o bytes .drive)
+WriteCarried = (d : Drive) (v : List ℕ) (o : ℕ) (bytes : List ℕ) → DriveFits d → ComesBack (writeDone d v o bytes .drive)
 
 abbrev pub BeginCarried : Type 0
-BeginCarried = (d : Drive) (v secret : List ℕ) → length secret ≡ 32 → DriveFits d → Carried (beginDone d v secret .drive)
+BeginCarried = (d : Drive) (v secret : List ℕ) → length secret ≡ 32 → DriveFits d → ComesBack (beginDone d v secret .drive)
 
 abbrev pub SweepCarried : Type 0
-SweepCarried = (d : Drive) (v : List ℕ) (n : ℕ) → DriveFits d → Carried (sweepDone d v n .drive)
+SweepCarried = (d : Drive) (v : List ℕ) (n : ℕ) → DriveFits d → ComesBack (sweepDone d v n .drive)
 
 abbrev pub FinishCarried : Type 0
-FinishCarried = (d : Drive) (v : List ℕ) → DriveFits d → Carried (finishDone d v .drive)
+FinishCarried = (d : Drive) (v : List ℕ) → DriveFits d → ComesBack (finishDone d v .drive)

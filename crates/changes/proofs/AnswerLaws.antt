@@ -8,7 +8,7 @@ use lib.Dec.{eqb, ltb}
 use borrow.Author.Tests.{ne-eqb, eqb-false, ltb-true, ltb-false}
 use Rattle.base.specs.Lists.{same}
 use Rattle.base.proofs.PickLaws.{no}
-use Rattle.layout.specs.Lent.{Lent}
+use Rattle.layout.specs.Shaped.{Shaped}
 use Rattle.layout.specs.Spots.{capacity}
 use Rattle.answers.specs.declared.Answer.the-variants as A
 use Rattle.answers.specs.Numbers.{accepts}
@@ -33,7 +33,7 @@ use Rattle.changes.proofs.SpanLaws.{tested-each, change-room}
 
 pub record Begins (d : Drive) (v : List ℕ) : Type 0 where
   pub opens : openingOf d v ≡ A.Accepted
-  pub lent : Lent (shapeOf d) v
+  pub lent : Shaped (shapeOf d) v
   pub steady : isChanging (d .state) ≡ false
   pub epochRoom : d .epoch ≡ epochTop → ⊥
   pub counterRoom : d .counter ≡ counterTop → ⊥
@@ -57,7 +57,7 @@ begin-told d v secret e =
 -- "7 path, [..] 7 flakes": all of J
 pub record Moves (d : Drive) (v : List ℕ) (n : ℕ) : Type 0 where
   pub opens : openingOf d v ≡ A.Accepted
-  pub lent : Lent (shapeOf d) v
+  pub lent : Shaped (shapeOf d) v
   pub changing : isChanging (d .state) ≡ true
   pub inside : n < d .n
   pub path : pathFor d v n ≡ A.Accepted
@@ -88,7 +88,7 @@ sweep-told d v n e =
 
 pub record Finishes (d : Drive) (v : List ℕ) : Type 0 where
   pub opens : openingOf d v ≡ A.Accepted
-  pub lent : Lent (shapeOf d) v
+  pub lent : Shaped (shapeOf d) v
   pub changing : isChanging (d .state) ≡ true
   pub whole : wholeOf (shapeOf d) (gaugeOf d) v ≡ A.Accepted
   pub counterRoom : d .counter ≡ counterTop → ⊥
@@ -131,7 +131,7 @@ write-opens d v o len e = accepted-is (openingOf d v) (both-stages (openingOf d 
 
 -- what an accepted write of at least one byte says
 pub record Granted (d : Drive) (v : List ℕ) (o len : ℕ) : Type 0 where
-  pub lent : Lent (shapeOf d) v
+  pub lent : Shaped (shapeOf d) v
   pub inRange : o + len ≤ capacity (shapeOf d)
   pub room : (n : ℕ) → n < d .n → atTop (writeWay d v o len n) (recordOf (shapeOf d) v n) ≡ false
   pub counterRoom : d .counter ≡ counterTop → ⊥

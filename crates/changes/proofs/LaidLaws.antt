@@ -11,7 +11,7 @@ use Rattle.base.proofs.PartLaws.{part-sets}
 use Rattle.words.proofs.XorLaws.{length-xorl}
 use Rattle.layout.specs.declared.Shape.{Shape}
 use Rattle.layout.specs.Shape.{leaves}
-use Rattle.layout.specs.Lent.{Lent}
+use Rattle.layout.specs.Shaped.{Shaped}
 use Rattle.layout.specs.Parts.{tagsAt, tagAt, flakeAt, nodeAt}
 use Rattle.layout.proofs.Places.{tag-inside, node-inside, flake-inside, parts-inside}
 use Rattle.records.specs.Listing.{Entry}
@@ -53,7 +53,7 @@ module _ (s : Shape) (lock : Lock) (f : ℕ) (c v : List ℕ) where
       part-apart at m (sets v (flakeAt s n f) x) (tagAt s n f) 16 (tagOf lock f x) (length-tag lock f x) a
       ∙ part-apart at m v (flakeAt s n f) (s .f) x (length-under lock f (s .f) c e) b
 
-  pub flake-put : Lent s v → n < s .n → f < s .p → length c ≡ s .f → storedIn s (laidFlake s lock f c v) n f ≡ under lock f (s .f) c
+  pub flake-put : Shaped s v → n < s .n → f < s .p → length c ≡ s .f → storedIn s (laidFlake s lock f c v) n f ≡ under lock f (s .f) c
   unfolding laidFlake
   flake-put l a b e =
       let x = under lock f (s .f) c in
@@ -61,7 +61,7 @@ module _ (s : Shape) (lock : Lock) (f : ℕ) (c v : List ℕ) where
       part-apart (flakeAt s n f) (s .f) (sets v (flakeAt s n f) x) (tagAt s n f) 16 (tagOf lock f x) (length-tag lock f x) far
       ∙ part-sets v (flakeAt s n f) (s .f) x (length-under lock f (s .f) c e) (rw (l .size) (flake-inside s n f a b))
 
-  pub tag-put : Lent s v → n < s .n → f < s .p → part (tagAt s n f) 16 (laidFlake s lock f c v) ≡ tagOf lock f (under lock f (s .f) c)
+  pub tag-put : Shaped s v → n < s .n → f < s .p → part (tagAt s n f) 16 (laidFlake s lock f c v) ≡ tagOf lock f (under lock f (s .f) c)
   unfolding laidFlake
   tag-put l a b =
       let x = under lock f (s .f) c in
@@ -88,7 +88,7 @@ module _ (s : Shape) (salt : List ℕ) (new : ℕ → ℕ → List ℕ) where
       let c = new (e .nugget) (e .flake) in
       length-laid es (laidFlake s lock (e .flake) c v) ∙ length-flake s lock (e .flake) c v
 
-  pub laid-lent : (es : List Entry) (v : List ℕ) → Lent s v → Lent s (laid s salt new es v)
+  pub laid-lent : (es : List Entry) (v : List ℕ) → Shaped s v → Shaped s (laid s salt new es v)
   laid-lent es v l = record { limited = l .limited; size = length-laid es v ∙ l .size }
 
   -- what no entry meets stays

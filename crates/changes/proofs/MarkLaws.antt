@@ -11,7 +11,7 @@ use Rattle.base.specs.Lists.{part}
 use Rattle.base.proofs.PickLaws.{yes, no, told, clash}
 use Rattle.layout.specs.Shape.{widthOf}
 use Rattle.layout.specs.declared.Shape.{Shape}
-use Rattle.layout.specs.Lent.{Lent}
+use Rattle.layout.specs.Shaped.{Shaped}
 use Rattle.layout.specs.Parts.{recordAt, tagsAt}
 use Rattle.layout.proofs.Places.{record-inside, records-above}
 use Rattle.records.specs.declared.Record.{Record}
@@ -68,7 +68,7 @@ module _ (s : Shape) (head : ℕ) (way : ℕ → Way) (v : List ℕ) where
   length-marks zero w = refl
   length-marks (suc m) w = length-mark s head (way m) (recordOf s v m) m (markedTo s head way v m w) ∙ length-marks m w
 
-  pub marks-lent : (m : ℕ) (w : List ℕ) → Lent s w → Lent s (markedTo s head way v m w)
+  pub marks-lent : (m : ℕ) (w : List ℕ) → Shaped s w → Shaped s (markedTo s head way v m w)
   marks-lent m w l = record { limited = l .limited; size = length-marks m w ∙ l .size }
 
   pub marks-leave : (at k m : ℕ) (w : List ℕ) → ((n : ℕ) → n < m → idles (way n) ≡ false → Apart at k (recordAt s n) (widthOf s)) → part at k (markedTo s head way v m w) ≡ part at k w

@@ -9,7 +9,7 @@ use Rattle.base.specs.Pick.{pick}
 use Rattle.base.specs.Lists.{part}
 use Rattle.base.proofs.PickLaws.{clash}
 use Rattle.layout.specs.declared.Shape.{Shape}
-use Rattle.layout.specs.Lent.{Lent}
+use Rattle.layout.specs.Shaped.{Shaped}
 use Rattle.layout.specs.Parts.{tagAt}
 use Rattle.records.specs.declared.Record.{Record}
 use Rattle.records.specs.declared.Way.{Way}
@@ -58,7 +58,7 @@ module _ (s : Shape) (salt : List ℕ) (new : ℕ → ℕ → List ℕ) (long : 
       (each-pads n k x g p))
 
   -- its own entry lays it, another's doesn't touch it
-  laid-one : (k : ℕ) (x w : List ℕ) → Lent s w → (on : Bool) (q : ℕ) → f ≡ q → on ≡ true
+  laid-one : (k : ℕ) (x w : List ℕ) → Shaped s w → (on : Bool) (q : ℕ) → f ≡ q → on ≡ true
       → Under s f (lockBy s salt x n k) (new n f) (laid s salt new (pick on (entry n k q x ∷ []) []) w)
   unfolding laid laidEntry
   laid-one k x w l on q e t =
@@ -73,7 +73,7 @@ module _ (s : Shape) (salt : List ℕ) (new : ℕ → ℕ → List ℕ) (long : 
   one-far k x false q h low = tt
 
   -- a flake in the set is laid
-  pub pads-put : (k : ℕ) (x : List ℕ) (g : ℕ → Bool) (p : ℕ) (v : List ℕ) → Lent s v → p ≤ s .p → f < p → g f ≡ true
+  pub pads-put : (k : ℕ) (x : List ℕ) (g : ℕ → Bool) (p : ℕ) (v : List ℕ) → Shaped s v → p ≤ s .p → f < p → g f ≡ true
       → Under s f (lockBy s salt x n k) (new n f) (laid s salt new (padsOf n k x g p) v)
   unfolding padsOf
   pads-put k x g zero v l h c on = absurd (omega (arith, c))
@@ -112,7 +112,7 @@ module _ (s : Shape) (salt : List ℕ) (new : ℕ → ℕ → List ℕ) (long : 
           → Same s n f w (laid s salt new (padsOf q (keycountAfter (way q) (records q)) x (bit (enciphered (way q) (records q))) (s .p)) w)
       mine q w e o = rw (← e) (pads-kept (keycountAfter (way n) (records n)) x (bit (enciphered (way n) (records n))) (s .p) w (omega arith) o)
 
-  pub to-put : (way : ℕ → Way) (records : ℕ → Record) (x : List ℕ) (m : ℕ) (v : List ℕ) → Lent s v → m ≤ s .n → n < m → bit (enciphered (way n) (records n)) f ≡ true
+  pub to-put : (way : ℕ → Way) (records : ℕ → Record) (x : List ℕ) (m : ℕ) (v : List ℕ) → Shaped s v → m ≤ s .n → n < m → bit (enciphered (way n) (records n)) f ≡ true
       → Under s f (lockBy s salt x n (keycountAfter (way n) (records n))) (new n f) (laid s salt new (padsTo (s .p) way records x m) v)
   unfolding padsTo padsBy
   to-put way records x zero v l h c on = absurd (omega (arith, c))
@@ -129,6 +129,6 @@ module _ (s : Shape) (salt : List ℕ) (new : ℕ → ℕ → List ℕ) (long : 
       (λ high. mine m w (laid-lent s salt new es v l) (omega (arith, high, c)))
       (ordered n m))
     where
-      mine : (q : ℕ) (w : List ℕ) → Lent s w → n ≡ q
+      mine : (q : ℕ) (w : List ℕ) → Shaped s w → n ≡ q
           → Under s f (lockBy s salt x n (keycountAfter (way n) (records n))) (new n f) (laid s salt new (padsOf q (keycountAfter (way q) (records q)) x (bit (enciphered (way q) (records q))) (s .p)) w)
       mine q w lw e = rw (← e) (pads-put (keycountAfter (way n) (records n)) x (bit (enciphered (way n) (records n))) (s .p) w lw (omega arith) b on)

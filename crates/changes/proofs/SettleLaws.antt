@@ -11,7 +11,7 @@ use Rattle.base.specs.Lists.{part}
 use Rattle.base.proofs.PartLaws.{part-sets, part-sets-above}
 use Rattle.layout.specs.Shape.{widthOf}
 use Rattle.layout.specs.declared.Shape.{Shape}
-use Rattle.layout.specs.Lent.{Lent}
+use Rattle.layout.specs.Shaped.{Shaped}
 use Rattle.layout.specs.Parts.{recordAt, tagAt, flakeAt, nodeAt}
 use Rattle.layout.proofs.Places.{parts-inside}
 use Rattle.nodes.specs.Nodes.{nodeIn}
@@ -25,11 +25,11 @@ use Rattle.changes.proofs.PutLaws.{Same}
 use Rattle.records.specs.Record.{recordOf}
 
 module _ (s : Shape) (d : Drive) (w : List ℕ) (long : length (headOf d) ≡ 104) where
-  pub settled-lent : Lent s w → Lent s (settled d w)
+  pub settled-lent : Shaped s w → Shaped s (settled d w)
   unfolding settled
   settled-lent l = record { limited = l .limited; size = length-sets w 0 (headOf d) ∙ l .size }
 
-  pub settled-head : Lent s w → part 0 104 (settled d w) ≡ headOf d
+  pub settled-head : Shaped s w → part 0 104 (settled d w) ≡ headOf d
   unfolding settled
   settled-head l = part-sets w 0 104 (headOf d) long (rw (l .size) (omega arith))
 

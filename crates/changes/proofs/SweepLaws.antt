@@ -12,7 +12,7 @@ use Rattle.base.specs.Pick.{pick, both}
 use Rattle.base.proofs.PickLaws.{yes, no}
 use Rattle.base.proofs.TabLaws.{length-tab, getD-tab}
 use Rattle.layout.specs.declared.Shape.{Shape}
-use Rattle.layout.specs.Lent.{Lent}
+use Rattle.layout.specs.Shaped.{Shaped}
 use Rattle.layout.specs.Spots.{offsetAt}
 use Rattle.records.specs.declared.Record.{Record}
 use Rattle.records.specs.declared.Way.the-variants.{Idle}
@@ -76,7 +76,7 @@ none-written s n f was e =
     ext-getD 0 (written s 0 [] n f was) was (length-tab (s .f) _ ∙ sym e) (λ i q.
     getD-tab (s .f) _ i 0 (omega (arith, q, length-tab (s .f) (λ b. over 0 [] (offsetAt s n f b) (getD was b 0)))) ∙ none-over (offsetAt s n f i) (getD was i 0))
 
-pub kept-contents : (d : Drive) (v : List ℕ) → Lent (shapeOf d) v → (n f : ℕ) → n < d .n → f < d .p → newContents d v 0 [] n f ≡ contentsOf d v n f
+pub kept-contents : (d : Drive) (v : List ℕ) → Shaped (shapeOf d) v → (n f : ℕ) → n < d .n → f < d .p → newContents d v 0 [] n f ≡ contentsOf d v n f
 kept-contents d v l n f a b = none-written (shapeOf d) n f (contentsOf d v n f) (length-contents (shapeOf d) v (nuggetOf d v n) f l a b)
 
 -- the same new contents of each entry are laid alike
@@ -86,7 +86,7 @@ unfolding laid laidEntry
 laid-alike s salt a b [] v x = refl
 laid-alike s salt a b (e ∷ es) v x = rw (x .0) (laid-alike s salt a b es _ (x .1))
 
-module _ (d : Drive) (v : List ℕ) (n : ℕ) (l : Lent (shapeOf d) v) (h : n < d .n) where
+module _ (d : Drive) (v : List ℕ) (n : ℕ) (l : Shaped (shapeOf d) v) (h : n < d .n) where
   -- the nugget's own flakes and tags, laid as a write of no bytes lays them
   pub sweep-lays : laid (shapeOf d) (d .salt) (newContents d v 0 []) (padsBy (d .p) sweepWay n (recordOf (shapeOf d) v n) (d .present)) v
       ≡ laid (shapeOf d) (d .salt) (contentsOf d v) (padsFor d v (sweepWays n)) v

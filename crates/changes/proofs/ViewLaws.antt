@@ -13,7 +13,7 @@ use Rattle.base.proofs.PickLaws.{told, clash}
 use Rattle.base.proofs.PartLaws.{part-below}
 use Rattle.layout.specs.Shape.{widthOf}
 use Rattle.layout.specs.declared.Shape.{Shape}
-use Rattle.layout.specs.Lent.{Lent}
+use Rattle.layout.specs.Shaped.{Shaped}
 use Rattle.layout.specs.Parts.{recordAt, treeAt, flakesAt, tagAt, flakeAt, nodeAt}
 use Rattle.layout.proofs.Places.{apart, record-inside, tag-inside, node-inside, parts-inside}
 use Rattle.records.specs.declared.Record.{Record}
@@ -65,7 +65,7 @@ idle-none Idle r f e = bit-empty f
 idle-none (Add t) r f e = absurd (clash e refl)
 idle-none (Rekey t) r f e = absurd (clash e refl)
 
-module _ (d : Drive) (v : List ℕ) (way : ℕ → Way) (new : ℕ → ℕ → List ℕ) (l : Lent (shapeOf d) v) (long : Long (shapeOf d) new) where
+module _ (d : Drive) (v : List ℕ) (way : ℕ → Way) (new : ℕ → ℕ → List ℕ) (l : Shaped (shapeOf d) v) (long : Long (shapeOf d) new) where
   abbrev s : Shape
   s = shapeOf d
 
@@ -75,17 +75,17 @@ module _ (d : Drive) (v : List ℕ) (way : ℕ → Way) (new : ℕ → ℕ → L
   abbrev two : List ℕ
   two = markedTo s (d .epoch) way v (d .n) one
 
-  one-lent : Lent s one
+  one-lent : Shaped s one
   one-lent = laid-lent s (d .salt) new (padsFor d v way) v l
 
-  two-lent : Lent s two
+  two-lent : Shaped s two
   two-lent = marks-lent s (d .epoch) way v (d .n) one one-lent
 
   three-outside : Outside s two (worked d v way new)
   unfolding worked
   three-outside = tends-outside s way (d .n) two two-lent (omega arith)
 
-  pub worked-lent : Lent s (worked d v way new)
+  pub worked-lent : Shaped s (worked d v way new)
   unfolding worked
   worked-lent = tends-lent s way (d .n) two two-lent (omega arith)
 

@@ -9,7 +9,7 @@ use lib.Dec.{lit<}
 use lib.ListN.{length, getD, drop, take}
 use Rattle.words.specs.Le.{num, le, Bytes, serialised}
 use Rattle.words.proofs.LeLaws.{le-num, bytes-append}
-use Rattle.aes.specs.Code.{bytesOf}
+use Rattle.aes.specs.Code.{stateBytes}
 use Rattle.aes.proofs.WordLaws.{four-bytes}
 use Rattle.aes.proofs.StateLaws.{State}
 use Rattle.ctr.specs.Ctr.{be, counterBlock}
@@ -55,8 +55,8 @@ abbrev app : List ℕ → List ℕ → List ℕ
 app x y = x ++ y
 
 pub counter-is : (k n a b c d : ℕ) → le 4 a ≡ be 4 (k / 4294967296) → le 4 b ≡ be 4 (k % 4294967296) → le 4 c ≡ be 4 (n / 4294967296)
-    → le 4 d ≡ be 4 (n % 4294967296) → bytesOf (record { a = a; b = b; c = c; d = d }) ≡ counterBlock k n
-unfolding bytesOf serialised counterBlock be le
+    → le 4 d ≡ be 4 (n % 4294967296) → stateBytes (record { a = a; b = b; c = c; d = d }) ≡ counterBlock k n
+unfolding stateBytes serialised counterBlock be le
 counter-is k n a b c d ea eb ec ed = ap₂ app ea (ap₂ app eb (ap₂ app ec (ap₂ app ed refl))) ∙ ap₂ app (halves k) (halves n)
 
 counter-long : (k n : ℕ) → length (be 8 k ++ be 8 n) ≡ 16

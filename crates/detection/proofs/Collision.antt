@@ -26,7 +26,7 @@ use Rattle.drive.proofs.OpeningLaws.{opening-lent}
 use Rattle.nuggets.specs.Nugget.{storedIn, contentsIn, byteOf}
 use Rattle.reading.specs.Read.{readAnswer, readBuffer}
 use Rattle.reading.proofs.TestedLaws.{read-tests}
-use Rattle.detection.specs.Right.{Present}
+use Rattle.detection.specs.Right.{SaysPresent}
 use Rattle.detection.specs.Collision.{Collision, Forgery, OneDriveOneTree, OneDriveOneTag, OneDriveOneRead}
 use Rattle.detection.proofs.RightLaws.{head-right}
 use Rattle.detection.proofs.TouchedLaws.{spot-within}
@@ -66,7 +66,7 @@ one-drive-one-tag d v w o len a ev ew h k x p =
     let n = spotAt s a .nugget in
     let f = spotAt s a .flake in
     let r = one-record d v w n x in
-    let there : Present d w n f = rw r at p in
+    let there : SaysPresent d w n f = rw r at p in
     sym (read-detected d v o len a ev h k .1 p)
     ∙ one-tag d v w n x f (spot-read d v o len a ev h k .flake-is)
     ∙ read-detected d w o len a ew h k .1 there
@@ -101,7 +101,7 @@ module _ (d : Drive) (v w : List ℕ) (o len a : ℕ) (ev : readAnswer d v o len
       let at = spotAt s a in
       (byteOf d v a ≡ byteOf d w a) ⊎ (Collision s v w (at .nugget) ⊎ Forgery d v w (at .nugget) (at .flake))
 
-  by-stored : (let s = shapeOf d in let at = spotAt s a in Alike s v w (at .nugget) → Present d v (at .nugget) (at .flake)
+  by-stored : (let s = shapeOf d in let at = spotAt s a in Alike s v w (at .nugget) → SaysPresent d v (at .nugget) (at .flake)
       → (storedIn s v (at .nugget) (at .flake) ≡ storedIn s w (at .nugget) (at .flake)) ⊎ (storedIn s v (at .nugget) (at .flake) ≡ storedIn s w (at .nugget) (at .flake) → ⊥) → Told)
   by-stored x p (inl e) = inl (stored-byte d v w a x e)
   by-stored x p (inr differ) = inr (inr (record { differ = differ; alike = one-drive-one-tag d v w o len a ev ew h k x p }))

@@ -13,7 +13,7 @@ use Rattle.base.proofs.FoldLaws.{same-true}
 use Rattle.layout.specs.Shape.{inLimits}
 use Rattle.layout.specs.Parts.{lengthOf}
 use Rattle.layout.specs.Spots.{spotAt}
-use Rattle.layout.specs.Lent.{Lent}
+use Rattle.layout.specs.Shaped.{Shaped}
 use Rattle.layout.proofs.Limits.{Limits, limits}
 use Rattle.layout.proofs.Places.{Inside}
 use Rattle.answers.specs.declared.Answer.the-variants as A
@@ -37,12 +37,12 @@ use Rattle.opening.proofs.HeadBack.{opened}
 use Rattle.changes.specs.Write.{writeWay, writeAnswer}
 use Rattle.changes.proofs.SpanLaws.{idles-way}
 use Rattle.changes.proofs.AnswerLaws.{Tests, Granted, begin-told, sweep-told, finish-told, write-opens, write-told}
-use Rattle.detection.specs.Right.{PathGood, Present, TagsRight}
+use Rattle.detection.specs.Right.{PathGood, SaysPresent, TagsRight}
 use Rattle.detection.specs.Detection.{read, write, begin, sweep, finish, report, HeadDetected, ReadDetected, WriteDetected, RekeyDetected, SweepDetected, FinishDetected, ReportDetected, MountDetected}
 use Rattle.detection.proofs.RightLaws.{head-right, path-good, whole-right, tag-right}
 use Rattle.detection.proofs.TouchedLaws.{spot-within, touched-bit, touched-some, way-rekeys}
 
-lent-by : (d : Drive) (v : List ℕ) → openingOf d v ≡ A.Accepted → Lent (shapeOf d) v
+lent-by : (d : Drive) (v : List ℕ) → openingOf d v ≡ A.Accepted → Shaped (shapeOf d) v
 lent-by d v e = opening-lent d v (ap accepts e)
 
 -- a report's two stages
@@ -96,7 +96,7 @@ module _ (d : Drive) (v : List ℕ) (o len a : ℕ) (e : writeAnswer d v o len �
   written-path : PathGood d v (spotAt (shapeOf d) a .nugget)
   written-path = path-good d v (spotAt (shapeOf d) a .nugget) (told .lent) (spot .nugget-is) (tested .path)
 
-  rekeyed-tags : Present d v (spotAt (shapeOf d) a .nugget) (spotAt (shapeOf d) a .flake) ⊎ (recordOf (shapeOf d) v (spotAt (shapeOf d) a .nugget) .epoch ≡ d .epoch → ⊥)
+  rekeyed-tags : SaysPresent d v (spotAt (shapeOf d) a .nugget) (spotAt (shapeOf d) a .flake) ⊎ (recordOf (shapeOf d) v (spotAt (shapeOf d) a .nugget) .epoch ≡ d .epoch → ⊥)
       → TagsRight d v (spotAt (shapeOf d) a .nugget)
   rekeyed-tags why f l p =
       let n = spotAt (shapeOf d) a .nugget in

@@ -19,7 +19,7 @@ use Rattle.words.specs.Le.{le}
 use Rattle.layout.specs.declared.Shape.{Shape}
 use Rattle.layout.specs.Shape.{heightOf, leaves, widthOf}
 use Rattle.layout.specs.Parts.{recordAt, nodeAt}
-use Rattle.layout.specs.Lent.{Lent}
+use Rattle.layout.specs.Shaped.{Shaped}
 use Rattle.layout.proofs.Limits.{Small, lent-small}
 use Rattle.layout.proofs.Places.{node-inside, record-inside, parts-inside}
 use Rattle.nodes.specs.Nodes.{nodeIn, recordPart, tagsPart}
@@ -44,10 +44,10 @@ pieces n a b c d la lc e = (
   sym (drop-at a b n la) ∙ ap (λ (x : List ℕ). drop n x) e ∙ drop-at c d n lc,
 )
 
-node-long : (s : Shape) (v : List ℕ) (i : ℕ) → Lent s v → 1 ≤ i → i < 2 * leaves (s .n) → length (nodeIn s v i) ≡ 32
+node-long : (s : Shape) (v : List ℕ) (i : ℕ) → Shaped s v → 1 ≤ i → i < 2 * leaves (s .n) → length (nodeIn s v i) ≡ 32
 node-long s v i l a b = length-part (nodeAt s i) 32 v (omega (arith, node-inside s i a b .1, parts-inside s .2, l .size))
 
-record-long : (s : Shape) (v : List ℕ) (n : ℕ) → Lent s v → n < s .n → length (recordPart s v n) ≡ widthOf s
+record-long : (s : Shape) (v : List ℕ) (n : ℕ) → Shaped s v → n < s .n → length (recordPart s v n) ≡ widthOf s
 record-long s v n l h = length-part (recordAt s n) (widthOf s) v (omega (arith, record-inside s n h, parts-inside s .0, parts-inside s .1, parts-inside s .2, l .size))
 
 -- where the steps lead
@@ -67,7 +67,7 @@ module _ (s : Shape) (n : ℕ) (q : Small s) (h : n < s .n) where
         omega (arith, one-up k, div-le-self (leaves (s .n) + n) (2 ^ k), q .enough-leaves),
       )
 
-module _ (d : Drive) (v w : List ℕ) (n : ℕ) (lv : Lent (shapeOf d) v) (lw : Lent (shapeOf d) w) (h : n < d .n) (pv : PathGood d v n) (pw : PathGood d w n) where
+module _ (d : Drive) (v w : List ℕ) (n : ℕ) (lv : Shaped (shapeOf d) v) (lw : Shaped (shapeOf d) w) (h : n < d .n) (pv : PathGood d v n) (pw : PathGood d w n) where
   leaf-told : nodeIn (shapeOf d) v (leaves (d .n) + n) ≡ nodeIn (shapeOf d) w (leaves (d .n) + n) → Alike (shapeOf d) v w n ⊎ Collision (shapeOf d) v w n
   unfolding messageAt
   leaf-told e = go (decided (messageAt (shapeOf d) v n 0) (messageAt (shapeOf d) w n 0))

@@ -14,7 +14,7 @@ use Rattle.base.proofs.FoldLaws.{same-true}
 use Rattle.layout.specs.declared.Shape.{Shape}
 use Rattle.layout.specs.Shape.{heightOf, leaves}
 use Rattle.layout.specs.Parts.{nodeAt}
-use Rattle.layout.specs.Lent.{Lent}
+use Rattle.layout.specs.Shaped.{Shaped}
 use Rattle.layout.proofs.Limits.{lent-small}
 use Rattle.answers.specs.declared.Answer.the-variants as A
 use Rattle.answers.specs.declared.Place.the-variants as P
@@ -38,7 +38,7 @@ use Rattle.drive.specs.Opening.{headStands, openingOf}
 use Rattle.drive.proofs.OpeningLaws.{opening-told}
 use Rattle.nuggets.specs.declared.Nugget.{Nugget}
 use Rattle.nuggets.specs.Nugget.{nuggetOf}
-use Rattle.nuggets.specs.Tests.{goodFlake, passes, flakesUp, flakesIn, flakesOf, pathFor}
+use Rattle.nuggets.specs.Tests.{goodFlake, passes, flakesUp, flakesTested, flakesOf, pathFor}
 use Rattle.detection.specs.Right.{HeadRight, Formed, stepsUp, PathGood, TagRight, WholeGood}
 
 pub head-right : (d : Drive) (v : List ℕ) → openingOf d v ≡ A.Accepted → HeadRight d v
@@ -71,7 +71,7 @@ upward-steps (suc h) j zero l = either-left _ (eq-eqb j (j / 2 ^ 0) (omega arith
 upward-steps (suc h) j (suc k) l = either-right (eqb j (j / 2 ^ suc k)) (rw (half-steps j k) (upward-steps h (j / 2) k (omega arith)))
 
 module _ (d : Drive) (v : List ℕ) where
-  pub path-good : (n : ℕ) → Lent (shapeOf d) v → n < d .n → pathFor d v n ≡ A.Accepted → PathGood d v n
+  pub path-good : (n : ℕ) → Shaped (shapeOf d) v → n < d .n → pathFor d v n ≡ A.Accepted → PathGood d v n
   unfolding leafOf innerOf
   path-good n l h e =
       let s = shapeOf d in
@@ -86,7 +86,7 @@ module _ (d : Drive) (v : List ℕ) where
       on zero p q = absurd (omega arith)
       on (suc k) p q = rw (half-steps (leaves (d .n) + n) k) (upward-steps (heightOf (d .n)) ((leaves (d .n) + n) / 2) k (omega arith))
 
-  pub whole-right : wholeOf (shapeOf d) (gaugeOf d) v ≡ A.Accepted → Lent (shapeOf d) v → WholeGood d v
+  pub whole-right : wholeOf (shapeOf d) (gaugeOf d) v ≡ A.Accepted → Shaped (shapeOf d) v → WholeGood d v
   unfolding leafOf innerOf zeroLeaf
   whole-right e l =
       let s = shapeOf d in
@@ -114,5 +114,5 @@ flakes-each s v g mask (suc k) f e i a b on =
 
 -- the tag of each flake of the set
 pub tag-right : (d : Drive) (v : List ℕ) (n mask f : ℕ) → flakesOf d v n mask ≡ A.Accepted → f < d .p → bit mask f ≡ true → TagRight d v n f
-unfolding flakesIn goodFlake tagOf covered
+unfolding flakesTested goodFlake tagOf covered
 tag-right d v n mask f e h on = same-true _ _ (flakes-each (shapeOf d) v (nuggetOf d v n) mask (d .p) 0 e f (omega arith) (omega (arith, h)) on)

@@ -16,7 +16,7 @@ use Rattle.drive.specs.declared.Drive.{Drive}
 use Rattle.drive.specs.Drive.{shapeOf}
 use Rattle.nuggets.specs.Nugget.{storedIn}
 use Rattle.reading.specs.Read.{readAnswer, readBuffer}
-use Rattle.detection.specs.Right.{Present, stepsUp, tagFor}
+use Rattle.detection.specs.Right.{SaysPresent, stepsUp, tagFor}
 
 -- what is hashed for the node k steps above the leaf of nugget n
 unfoldable pub messageAt : Shape → List ℕ → ℕ → ℕ → List ℕ
@@ -44,7 +44,7 @@ OneDriveOneTag =
     → let s = shapeOf d in
     let at = spotAt s a in
     let tagged = tagFor d v (at .nugget) (at .flake) in
-    Alike s v w (at .nugget) → Present d v (at .nugget) (at .flake)
+    Alike s v w (at .nugget) → SaysPresent d v (at .nugget) (at .flake)
     → tagged (storedIn s v (at .nugget) (at .flake)) ≡ tagged (storedIn s w (at .nugget) (at .flake))
 
 -- two different stored flakes with the same Poly1305 tag under the same key

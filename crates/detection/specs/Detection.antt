@@ -20,7 +20,7 @@ use Rattle.reports.specs.Report.{reportAnswer}
 use Rattle.opening.specs.Mount.{shapeIn, openedDrive, mountAnswer}
 use Rattle.changes.specs.Write.{writeAnswer}
 use Rattle.changes.specs.Rekey.{beginAnswer, sweepAnswer, finishAnswer}
-use Rattle.detection.specs.Right.{HeadRight, PathGood, Present, TagRight, TagsRight, WholeGood}
+use Rattle.detection.specs.Right.{HeadRight, PathGood, SaysPresent, TagRight, TagsRight, WholeGood}
 
 -- the calls on an open drive, but stored flake, with what they answer
 pub data Answered (d : Drive) (v : List ℕ) : Answer → Type 0 where
@@ -41,7 +41,7 @@ abbrev pub ReadDetected : Type 0
 ReadDetected =
     (d : Drive) (v : List ℕ) (o len a : ℕ) → readAnswer d v o len ≡ A.Accepted → o ≤ a → a < o + len
     → let at = spotAt (shapeOf d) a in
-    PathGood d v (at .nugget) × (Present d v (at .nugget) (at .flake) → TagRight d v (at .nugget) (at .flake))
+    PathGood d v (at .nugget) × (SaysPresent d v (at .nugget) (at .flake) → TagRight d v (at .nugget) (at .flake))
 
 -- An accepted write: of each byte that it lays down, the nugget's path is good
 abbrev pub WriteDetected : Type 0
@@ -54,7 +54,7 @@ abbrev pub RekeyDetected : Type 0
 RekeyDetected =
     (d : Drive) (v : List ℕ) (o len a : ℕ) → writeAnswer d v o len ≡ A.Accepted → o ≤ a → a < o + len
     → let at = spotAt (shapeOf d) a in
-    Present d v (at .nugget) (at .flake) ⊎ (recordOf (shapeOf d) v (at .nugget) .epoch ≡ d .epoch → ⊥)
+    SaysPresent d v (at .nugget) (at .flake) ⊎ (recordOf (shapeOf d) v (at .nugget) .epoch ≡ d .epoch → ⊥)
     → TagsRight d v (at .nugget)
 
 -- "Sweep: 9, 8, 7 path, 12, 13, 14, 7 flakes."

@@ -55,8 +55,8 @@ pub record PathGood (d : Drive) (v : List ℕ) (n : ℕ) : Type 0 where
   pub above : (k : ℕ) → 1 ≤ k → k ≤ heightOf (d .n) → InnerRight d v (stepsUp (shapeOf d) n k)
 
 -- "Bit f of a journal (lowest first) says that flake f is present."
-abbrev pub Present : Drive → List ℕ → ℕ → ℕ → Type 0
-Present d v n f = bit (recordOf (shapeOf d) v n .held) f ≡ true
+abbrev pub SaysPresent : Drive → List ℕ → ℕ → ℕ → Type 0
+SaysPresent d v n f = bit (recordOf (shapeOf d) v n .held) f ≡ true
 
 -- "Tag = Poly1305 under the tag key over the stored flake.": the tag of these bytes as flake f of nugget n
 abbrev pub tagFor : Drive → List ℕ → ℕ → ℕ → List ℕ → List ℕ
@@ -67,7 +67,7 @@ TagRight d v n f = part (tagAt (shapeOf d) n f) 16 v ≡ tagFor d v n f (storedI
 
 -- "all of J": the tag of each present flake of nugget n
 abbrev pub TagsRight : Drive → List ℕ → ℕ → Type 0
-TagsRight d v n = (f : ℕ) → f < d .p → Present d v n f → TagRight d v n f
+TagsRight d v n = (f : ℕ) → f < d .p → SaysPresent d v n f → TagRight d v n f
 
 -- *Whole*: all records and all nodes
 pub record WholeGood (d : Drive) (v : List ℕ) : Type 0 where

@@ -12,7 +12,7 @@ use Rattle.drive.specs.declared.Drive.{Drive}
 use Rattle.drive.specs.Drive.{shapeOf}
 use Rattle.drive.specs.Head.{stateByte, numbersOf, checkIn, frontRow, frontIn, frontFrom}
 use Rattle.codec.specs.Row.{starts}
-use Rattle.drive.specs.Opening.{inForm, epochFits}
+use Rattle.drive.specs.Opening.{inForm, stateFits}
 use native.Mathlib.Omega.{arith}
 use lib.ListN.{length, length-append, take, drop}
 use native.Mathlib.Nat.{add-sub-cancel-left}
@@ -44,7 +44,7 @@ left-test left epoch h = go (told (eqb left (epoch - 1)))
 -- a drive that passes test 1 has a shape in limits
 pub form-limits : (d : Drive) → inForm d ≡ true → inLimits (shapeOf d) ≡ true
 unfolding inForm
-form-limits d e = both-left (inLimits (shapeOf d)) (epochFits (d .state) (d .epoch)) e
+form-limits d e = both-left (inLimits (shapeOf d)) (stateFits (d .state) (d .epoch)) e
 
 -- the 32 bytes that the code compares are the node's
 pub node-part : (v node : List ℕ) (at k : ℕ) → at ≡ k → same (take (at + 32 - at) (drop at v)) node ≡ same (part k 32 v) node

@@ -16,7 +16,7 @@ use Rattle.drive.specs.declared.Drive.{Drive}
 use Rattle.drive.specs.Drive.{shapeOf, blankDrive}
 use Rattle.drive.specs.Opening.{inForm, measureOf, openingOf, headStands}
 use Rattle.drive.proofs.HeadLaws.{form-limits}
-use Rattle.layout.specs.Lent.{Lent}
+use Rattle.layout.specs.Shaped.{Shaped}
 use Rattle.answers.proofs.StageLaws.{goes-on, stops, both-stages, passed}
 
 -- what tests 1 and 2 tell
@@ -31,7 +31,7 @@ measure-told d v e =
     let t₂ = passed (eqb (length v) (lengthOf (shapeOf d))) _ A.Length refl (t₁ .1) in
     record { form = t₁ .0; long = eqb-true (length v) (lengthOf (shapeOf d)) (t₂ .0) }
 
-pub measure-lent : (d : Drive) (v : List ℕ) → accepts (measureOf d v) ≡ true → Lent (shapeOf d) v
+pub measure-lent : (d : Drive) (v : List ℕ) → accepts (measureOf d v) ≡ true → Shaped (shapeOf d) v
 measure-lent d v e =
     let t = measure-told d v e in
     record { limited = form-limits d (t .form); size = t .long }
@@ -60,7 +60,7 @@ opening-by d v form long stands =
     goes-on _ _ (ap accepts (yes A.Limits form (yes A.Length (eq-eqb (length v) (lengthOf (shapeOf d)) long) refl))) ∙ yes _ stands refl
 
 -- its drive is in limits, and its volume is as long as the shape asks
-pub opening-lent : (d : Drive) (v : List ℕ) → accepts (openingOf d v) ≡ true → Lent (shapeOf d) v
+pub opening-lent : (d : Drive) (v : List ℕ) → accepts (openingOf d v) ≡ true → Shaped (shapeOf d) v
 opening-lent d v e = measure-lent d v (opening-measured d v e)
 
 -- "every later call on it gives 1": the blank drive is out of limits, and each call starts with that test

@@ -34,8 +34,8 @@ front κs a x y u v p q = (agree p q, refl)
 pub head : OneOutcome fn.head.ended fn.head.Reads.Post
 head κs a x y u v p q = (agree p q, refl)
 
-pub epoch-fits : OneOutcome fn.epoch_fits.ended fn.epoch_fits.Reads.Post
-epoch-fits κs a x y u v p q = (agree p q, refl)
+pub state-fits : OneOutcome fn.state_fits.ended fn.state_fits.Reads.Post
+state-fits κs a x y u v p q = (agree p q, refl)
 
 pub in-form : OneOutcome fn.in_form.ended fn.in_form.Reads.Post
 in-form κs a x y u v p q = (agree p q, refl)

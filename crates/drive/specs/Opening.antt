@@ -20,13 +20,13 @@ use Rattle.drive.specs.Head.{headOf}
 
 -- "Epoch: 1 to 65,535; at least 2 while changing." "That epoch is one below the drive's, or the answer is 1."
 -- An epoch has two bytes, so none is above 65,535.
-abbrev pub epochFits : State → ℕ → Bool
-epochFits Steady e = leb 1 e
-epochFits (Changing left) e = both (leb 2 e) (eqb (left + 1) e)
+abbrev pub stateFits : State → ℕ → Bool
+stateFits Steady e = leb 1 e
+stateFits (Changing left) e = both (leb 2 e) (eqb (left + 1) e)
 
 -- 1: "N, P, F, state or epoch out of limits"
 unfoldable pub inForm : Drive → Bool
-inForm d = both (inLimits (shapeOf d)) (epochFits (d .state) (d .epoch))
+inForm d = both (inLimits (shapeOf d)) (stateFits (d .state) (d .epoch))
 
 -- 1, 2: the drive in form, and the volume as long as its shape asks
 unfoldable pub measureOf : Drive → List ℕ → Answer

@@ -11,7 +11,7 @@ ghost use Rattle.layout.specs.Shape.{inLimits};
 ghost use Rattle.layout.specs.Parts.{lengthOf};
 ghost use Rattle.drive.specs.Drive.{shapeOf, isChanging, gaugeOf, headed, keptOld, blankDrive};
 ghost use Rattle.drive.specs.Head.{stateByte, numbersOf, checkIn, frontIn, frontFrom, headOf};
-ghost use Rattle.drive.specs.Opening.{epochFits, inForm, measureOf, headStands, openingOf};
+ghost use Rattle.drive.specs.Opening.{stateFits, inForm, measureOf, headStands, openingOf};
 
 // "State is either steady or changing, and changing carries the epoch being left."
 pub enum State {
@@ -204,8 +204,8 @@ pub fn head(d: Drive) -> [u8; 104]
 }
 
 // "Epoch: 1 to 65,535; at least 2 while changing." "That epoch is one below the drive's, or the answer is 1."
-pub fn epoch_fits(state: State, epoch: u16) -> bool
-    ensures { λ r. ⌜ r ≡ epochFits state epoch ⌝ }
+pub fn state_fits(state: State, epoch: u16) -> bool
+    ensures { λ r. ⌜ r ≡ stateFits state epoch ⌝ }
 {
     match state {
         State::Steady => 1 <= epoch,
@@ -224,7 +224,7 @@ pub fn in_form(d: Drive) -> bool
 {
     if layout::in_limits(shape_of(d)) {
         let state = d.state;
-        epoch_fits(state, d.epoch)
+        state_fits(state, d.epoch)
     } else {
         false
     }

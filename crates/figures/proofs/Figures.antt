@@ -9,7 +9,7 @@ use Rattle.layout.specs.declared.Shape.{Shape}
 use Rattle.line.specs.Decimal.{digits, widthIn, decimal}
 use Rattle.line.specs.Lines.{shareText}
 use Rattle.records.specs.declared.Record.{Record}
-use Rattle.records.specs.Journal.{bit, shareNone, flakesWith, many, present}
+use Rattle.records.specs.Journal.{bit, shareNone, flakesWith, many, flakeCount}
 use Rattle.records.specs.Rule.{wayOf, enciphered, keycountAfter, spentAfter, heldAfter}
 use Rattle.drive.specs.Drive.{shapeOf}
 use Rattle.drive.specs.Drive.{zeros}
@@ -19,17 +19,17 @@ use Rattle.history.specs.World.{World, write}
 use Rattle.history.specs.Step.{step}
 use Rattle.history.specs.History.{Start, begun, run}
 use Rattle.reports.specs.Counts.{exactOf, shareOf}
-use Rattle.figures.specs.Figures.{Fresh, countsOf, Figures}
+use Rattle.figures.specs.Figures.{FreshSmall, countsOf, Figures}
 use Rattle.figures.proofs.Writes.{Holds, starts-so, holds-on, one-present}
 
 -- what the table shows of a drive of that shape
-shows : {w : World} {k j listed retired counter : ℕ} → Holds w k j listed retired counter → countsOf w ≡ listed ∷ present 2 j ∷ retired ∷ []
+shows : {w : World} {k j listed retired counter : ℕ} → Holds w k j listed retired counter → countsOf w ≡ listed ∷ flakeCount 2 j ∷ retired ∷ []
 shows {w} h =
     rw (h .entries, h .gone, one-present (w .drive .n) (w .drive .p) (ap (λ (s : Shape). s .n) (h .shaped)) (ap (λ (s : Shape). s .p) (h .shaped)) (shapeOf (w .drive)) (w .vol) (h .nugget))
     refl
 
 -- "write 64 bytes at 0": none present, so flake 0 under keycount 0; "64 at 64": flake 1 under keycount 0; "1 at 0": both flakes under keycount 1
-after-ten : (x : Start) (a b c : List ℕ) → Fresh 3 x → length a ≡ 64 → length b ≡ 64 → length c ≡ 1
+after-ten : (x : Start) (a b c : List ℕ) → FreshSmall 3 x → length a ≡ 64 → length b ≡ 64 → length c ≡ 1
     → Holds (step (step (step (begun x) (write 0 a)) (write 64 b)) (write 0 c)) 1 3 4 2 (x .outside + 1 + 1 + 1 + 1)
 unfolding touchedOf flakesWith meets wayOf shareNone enciphered keycountAfter spentAfter heldAfter many bit
 after-ten x a b c fresh la lb lc =
@@ -38,12 +38,12 @@ after-ten x a b c fresh la lb lc =
     holds-on (step (step (begun x) (write 0 a)) (write 64 b)) two 0 1 c lc (omega arith) (omega arith) (omega (arith, fresh .room))
 
 -- both flakes under keycount 0
-after-eleven : (x : Start) (a : List ℕ) → Fresh 1 x → length a ≡ 10 → Holds (step (begun x) (write 60 a)) 0 3 2 0 (x .outside + 1 + 1)
+after-eleven : (x : Start) (a : List ℕ) → FreshSmall 1 x → length a ≡ 10 → Holds (step (begun x) (write 60 a)) 0 3 2 0 (x .outside + 1 + 1)
 unfolding touchedOf flakesWith meets wayOf shareNone enciphered keycountAfter spentAfter heldAfter many bit
 after-eleven x a fresh la = holds-on (begun x) (starts-so x (fresh .shaped)) 60 10 a la (omega arith) (omega arith) (omega (arith, fresh .room))
 
 -- there are such drives
-pub some : (x : Start) × Fresh 3 x
+pub some : (x : Start) × FreshSmall 3 x
 unfolding one-nugget
 some = (one-nugget (zeros 32), record { shaped = refl; room = omega arith })
 

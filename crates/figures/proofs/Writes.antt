@@ -9,7 +9,7 @@ use Rattle.layout.specs.declared.Shape.{Shape}
 use Rattle.records.specs.declared.Record.{Record}
 use Rattle.records.specs.declared.Way.{Way}
 use Rattle.records.specs.declared.Way.the-variants.{Idle, Add, Rekey}
-use Rattle.records.specs.Journal.{present}
+use Rattle.records.specs.Journal.{flakeCount}
 use Rattle.records.specs.Rule.{wayOf, enciphered, keycountAfter, spentAfter, heldAfter, epochAfter, turned}
 use Rattle.records.specs.Listing.{padsTo}
 use Rattle.records.proofs.ListingLaws.{length-padsBy}
@@ -23,7 +23,7 @@ use Rattle.changes.specs.Change.{advanced}
 use Rattle.changes.specs.Write.{writeWay, writtenDrive}
 use Rattle.ledger.specs.Totals.{sum, retiredOf, risen}
 use Rattle.history.specs.World.{World, write}
-use Rattle.history.specs.Step.{left, step}
+use Rattle.history.specs.Step.{worldAfter, step}
 use Rattle.history.specs.History.{Start, begun}
 use Rattle.history.proofs.Sound.{Sound}
 use Rattle.history.proofs.Steps.{start-sound, step-sound, begun-drive, begun-record}
@@ -75,7 +75,7 @@ masks-agree (Rekey t) k j = refl
 -- of one nugget with two flakes: how many pads its way lists, how many flakes are retired, how many are present
 module _ (n p : ℕ) (one : n ≡ 1) (two : p ≡ 2) where
   one-listed : (way : ℕ → Way) (records : ℕ → Record) (secret : List ℕ) {t : Way} {r : Record} → way 0 ≡ t → records 0 ≡ r
-      → length (padsTo p way records secret n) ≡ present 2 (enciphered t r)
+      → length (padsTo p way records secret n) ≡ flakeCount 2 (enciphered t r)
   unfolding padsTo
   one-listed way records secret e q = rw (one, two, ← e, ← q) (length-padsBy 2 (way 0) 0 (records 0) secret)
 
@@ -83,7 +83,7 @@ module _ (n p : ℕ) (one : n ≡ 1) (two : p ≡ 2) where
   unfolding sum
   one-gone before after e q = rw (one, two, e, q) (zero-add _)
 
-  pub one-present : (s : Shape) (v : List ℕ) {r : Record} → recordOf s v 0 ≡ r → flakesIn s p v n ≡ present 2 (r .held)
+  pub one-present : (s : Shape) (v : List ℕ) {r : Record} → recordOf s v 0 ≡ r → flakesIn s p v n ≡ flakeCount 2 (r .held)
   unfolding flakesIn
   one-present s v e = rw (one, two, e) (zero-add _)
 
@@ -129,7 +129,7 @@ module _ (w : World) {k j listed retired counter : ℕ} (h : Holds w k j listed 
   nugget-is : recordOf (shapeOf (u .drive)) (u .vol) 0 ≡ turned way 1 r
   nugget-is = written-record w (h .sound) low-now o bytes fits-now some-now 0 (rw n-is (omega arith)) ∙ rw (way-is, h .nugget, h .epoch) refl
 
-  entries-are : length (u .listing) ≡ listed + present 2 (enciphered way r)
+  entries-are : length (u .listing) ≡ listed + flakeCount 2 (enciphered way r)
   entries-are =
       ap length (written-listing w (h .sound) low-now o bytes fits-now some-now)
       ∙ length-append (w .listing) _
@@ -137,11 +137,11 @@ module _ (w : World) {k j listed retired counter : ℕ} (h : Holds w k j listed 
       (one-listed (w .drive .n) (w .drive .p) n-is p-is (writeWay (w .drive) (w .vol) o (length bytes)) (recordOf (shapeOf (w .drive)) (w .vol)) (w .drive .present) way-is (h .nugget))
 
   gone-are : u .retired ≡ retired + retiredOf 2 r (turned way 1 r)
-  unfolding step left
+  unfolding step worldAfter
   gone-are = ap₂ (λ (a b : ℕ). a + b) (h .gone) (one-gone (w .drive .n) (w .drive .p) n-is p-is (recordOf (shapeOf (w .drive)) (w .vol)) (recordOf (shapeOf (u .drive)) (u .vol)) (h .nugget) nugget-is)
 
   pub holds-on : Holds (step w (write o bytes)) (keycountAfter (wayAt k j o len) (first k j)) (heldAfter (wayAt k j o len) (first k j))
-      (listed + present 2 (enciphered (wayAt k j o len) (first k j))) (retired + retiredOf 2 (first k j) (turned (wayAt k j o len) 1 (first k j))) (counter + 1)
+      (listed + flakeCount 2 (enciphered (wayAt k j o len) (first k j))) (retired + retiredOf 2 (first k j) (turned (wayAt k j o len) 1 (first k j))) (counter + 1)
   unfolding advanced
   holds-on =
       record {

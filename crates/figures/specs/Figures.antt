@@ -28,7 +28,7 @@ abbrev pub small : Shape
 small = shape 1 2 64
 
 -- "N 1, P 2, F 64, fresh", with an outside counter that leaves room for so many changes
-pub record Fresh (changes : ℕ) (x : Start) : Type 0 where
+pub record FreshSmall (changes : ℕ) (x : Start) : Type 0 where
   pub shaped : x .shape ≡ small
   pub room : x .outside + changes < counterTop
 
@@ -65,11 +65,11 @@ pub record Figures : Type 0 where
   -- "0 of 1: 0.00."
   pub nine : oneEach 0 1 ≡ 48 ∷ 46 ∷ 48 ∷ 48 ∷ []
   -- "N 1, P 2, F 64, fresh; write 64 bytes at 0, 64 at 64, 1 at 0: keycount 1, journal 3, four pads listed, two present, two retired."
-  pub ten : (x : Start) (a b c : List ℕ) → Fresh 3 x → length a ≡ 64 → length b ≡ 64 → length c ≡ 1
+  pub ten : (x : Start) (a b c : List ℕ) → FreshSmall 3 x → length a ≡ 64 → length b ≡ 64 → length c ≡ 1
       → let w = history x (write 0 a ∷ write 64 b ∷ write 0 c ∷ []) in
       (keycountIn w ≡ 1) × (journalIn w ≡ 3) × (countsOf w ≡ 4 ∷ 2 ∷ 2 ∷ [])
   -- "Fresh, same shape, 10 bytes at 60: keycount 0, journal 3."
-  pub eleven : (x : Start) (a : List ℕ) → Fresh 1 x → length a ≡ 10
+  pub eleven : (x : Start) (a : List ℕ) → FreshSmall 1 x → length a ≡ 10
       → let w = history x (write 60 a ∷ []) in
       (keycountIn w ≡ 0) × (journalIn w ≡ 3)
   -- Document 02, Item 1: "document 01's sheet line, one of its flakes moved, says 50.00": three nuggets, one moved, two flakes

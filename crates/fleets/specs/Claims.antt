@@ -31,9 +31,9 @@ pub record FirstBad (most : ℕ) (ls : List (List ℕ)) (k : ℕ) : Type 0 where
   pub bad : (taken (getD ls k []) ≡ false) ⊎ (k ≡ most)
 
 -- a column's total
-unfoldable pub sumOf : (Standing → ℕ) → List Standing → ℕ
-sumOf g [] = 0
-sumOf g (t ∷ ts) = g t + sumOf g ts
+unfoldable pub totalOf : (Standing → ℕ) → List Standing → ℕ
+totalOf g [] = 0
+totalOf g (t ∷ ts) = g t + totalOf g ts
 
 -- drive k is "the drive furthest behind": no fraction is smaller, and "the earliest line wins a tie": all before it are greater
 pub record Furthest (ts : List Standing) (k : ℕ) : Type 0 where

@@ -11,7 +11,7 @@ use Rattle.base.proofs.PickLaws.{yes, told}
 use Rattle.base.proofs.FoldLaws.{same-refl}
 use borrow.Author.Tests.{eq-eqb}
 use Rattle.layout.specs.declared.Shape.{Shape}
-use Rattle.layout.specs.Lent.{Lent}
+use Rattle.layout.specs.Shaped.{Shaped}
 use Rattle.layout.proofs.Limits.{limits}
 use Rattle.records.specs.declared.Record.{Record}
 use Rattle.records.specs.declared.Way.{Way}
@@ -25,7 +25,7 @@ use Rattle.drive.specs.Drive.{shapeOf, gaugeOf, keptOld}
 use Rattle.drive.specs.Head.{headOf}
 use Rattle.drive.specs.Opening.{inForm}
 use Rattle.nuggets.specs.Nugget.{secretFor, lockBy, lockFor}
-use Rattle.nuggets.specs.Tests.{goodFlake, flakeGood}
+use Rattle.nuggets.specs.Tests.{goodFlake, goodFlakeOf}
 use Rattle.opening.proofs.Reopens.{length-head}
 use Rattle.changes.specs.Change.{worked, advanced, settled}
 use Rattle.changes.proofs.Each.{chosen}
@@ -33,14 +33,14 @@ use Rattle.changes.proofs.LaidLaws.{Long}
 use Rattle.changes.proofs.PutLaws.{Same, Under, same-trans, under-same}
 use Rattle.changes.proofs.ViewLaws.{worked-lent, worked-record, worked-put, worked-kept, worked-good}
 use Rattle.changes.proofs.SettleLaws.{settled-record, settled-same, settled-good}
-use Rattle.ledger.specs.Step.{Fits}
+use Rattle.ledger.specs.Step.{WayFits}
 use Rattle.ledger.proofs.TurnLaws.{Adds, Rekeyed, turn-told, new-epoch, old-stays, touched-lt}
 use Rattle.history.proofs.Quiet.{Untouched, untouched-lent}
 use Rattle.history.proofs.Heads.{settled-opens, tag-kept}
 use Rattle.drive.proofs.OpeningLaws.{opening-told}
 
 -- a flake laid under its nugget's lock has the right tag
-tag-laid : (e : Drive) (z : List ℕ) (n f : ℕ) (lock : Lock) (c : List ℕ) → Under (shapeOf e) f lock c z → lockFor e z n ≡ lock → flakeGood e z n f ≡ true
+tag-laid : (e : Drive) (z : List ℕ) (n f : ℕ) (lock : Lock) (c : List ℕ) → Under (shapeOf e) f lock c z → lockFor e z n ≡ lock → goodFlakeOf e z n f ≡ true
 unfolding goodFlake
 tag-laid e z n f lock c x locks =
     ap (λ (l : Lock). goodFlake (shapeOf e) z (record { lock = l; held = recordOf (shapeOf e) z n .held }) f) locks ∙ rw (x .tag, x .stored) (same-refl _)
@@ -51,7 +51,7 @@ pub record Due (d : Drive) (v : List ℕ) (way : ℕ → Way) (new : ℕ → ℕ
   pub salted : length (d .salt) ≡ 16
   pub epoch-low : d .epoch < 2 ^ 16
   pub kept : keptOld (d .state) (d .old) ≡ d .old
-  pub fits : (n : ℕ) → n < d .n → Fits (d .p) (d .epoch) (recordOf (shapeOf d) v n) (way n)
+  pub fits : (n : ℕ) → n < d .n → WayFits (d .p) (d .epoch) (recordOf (shapeOf d) v n) (way n)
   pub codes : (n : ℕ) → n < d .n → Codes (shapeOf d) (recordOf (shapeOf d) v n)
   pub room : (n : ℕ) → n < d .n → atTop (way n) (recordOf (shapeOf d) v n) ≡ false
   pub long : Long (shapeOf d) new
@@ -69,7 +69,7 @@ module _ (d : Drive) (v : List ℕ) (way : ℕ → Way) (new : ℕ → ℕ → L
   abbrev z : List ℕ
   z = settled e u
 
-  lent : Lent s v
+  lent : Shaped s v
   lent = untouched-lent d v (x .was)
 
   head-long : length (headOf e) ≡ 104
@@ -123,11 +123,11 @@ module _ (d : Drive) (v : List ℕ) (way : ℕ → Way) (new : ℕ → ℕ → L
   unfolding advanced
   lock-after n f h on = rw (epoch-after n f h on, secret-head, keycount-after n h) refl
 
-  tag-after : (n f : ℕ) → n < d .n → f < d .p → bit (recordOf (shapeOf d) z n .held) f ≡ true → flakeGood e z n f ≡ true
+  tag-after : (n f : ℕ) → n < d .n → f < d .p → bit (recordOf (shapeOf d) z n .held) f ≡ true → goodFlakeOf e z n f ≡ true
   unfolding advanced
   tag-after n f h l on = go (told (chosen way (recordOf (shapeOf d) v) n f))
     where
-      go : (chosen way (recordOf (shapeOf d) v) n f ≡ true) ⊎ (chosen way (recordOf (shapeOf d) v) n f ≡ false) → flakeGood e z n f ≡ true
+      go : (chosen way (recordOf (shapeOf d) v) n f ≡ true) ⊎ (chosen way (recordOf (shapeOf d) v) n f ≡ false) → goodFlakeOf e z n f ≡ true
       go (inl put) =
           tag-laid e z n f (lockAfter n) (new n f) (put-after n f h l put) (lock-after n f h put)
       go (inr off) =

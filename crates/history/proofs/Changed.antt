@@ -23,11 +23,11 @@ use Rattle.drive.specs.Drive.{shapeOf, gaugeOf, isChanging, keptOld, counterTop
 use Rattle.changes.specs.Change.{padsFor, worked, advanced, settled}
 use Rattle.ledger.specs.Totals.{risen}
 use Rattle.ledger.specs.Ledger.{Ledger}
-use Rattle.ledger.specs.Step.{Fits, Step}
+use Rattle.ledger.specs.Step.{WayFits, Step}
 use Rattle.ledger.proofs.StepLaws.{keeps}
 use Rattle.ledger.proofs.OnwardLaws.{onward-step}
 use Rattle.history.specs.World.{World}
-use Rattle.history.specs.Step.{left}
+use Rattle.history.specs.Step.{worldAfter}
 use Rattle.history.specs.Demands.{plainIn}
 use Rattle.history.proofs.Quiet.{untouched-lent}
 use Rattle.history.proofs.View.{kitOf, viewOf, ledgerOf}
@@ -56,7 +56,7 @@ module _ (w : World) (x : Sound w) (way : ℕ → Way) (new : ℕ → ℕ → Li
 
   -- what the ways and the new contents have to be
   pub record Ready : Type 0 where
-    pub fits : (n : ℕ) → n < w .drive .n → Fits (w .drive .p) (w .drive .epoch) (recordOf (shapeOf (w .drive)) (w .vol) n) (way n)
+    pub fits : (n : ℕ) → n < w .drive .n → WayFits (w .drive .p) (w .drive .epoch) (recordOf (shapeOf (w .drive)) (w .vol) n) (way n)
     pub room : (n : ℕ) → n < w .drive .n → atTop (way n) (recordOf (shapeOf (w .drive)) (w .vol) n) ≡ false
     pub low : w .drive .counter ≡ counterTop → ⊥
     pub news : (n f : ℕ) → n < w .drive .n → f < w .drive .p → new n f ≡ plainIn (shapeOf (w .drive)) after n f
@@ -131,8 +131,8 @@ module _ (w : World) (x : Sound w) (way : ℕ → Way) (new : ℕ → ℕ → Li
           untouched = r .rest;
         }
 
-    pub worked-keeps : Keeps w (left w (advanced d (worked d v way new)) (settled (advanced d (worked d v way new)) (worked d v way new)) (padsFor d v way) (w .secret) (w .old) after)
-    unfolding left after-work advanced
+    pub worked-keeps : Keeps w (worldAfter w (advanced d (worked d v way new)) (settled (advanced d (worked d v way new)) (worked d v way new)) (padsFor d v way) (w .secret) (w .old) after)
+    unfolding worldAfter after-work advanced
     worked-keeps =
         record {
           sound = record {

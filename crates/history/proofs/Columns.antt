@@ -19,7 +19,7 @@ use Rattle.changes.specs.Change.{advanced}
 use Rattle.changes.specs.Write.{writeAnswer, writeDone}
 use Rattle.changes.specs.Rekey.{beginAnswer, begunDrive, beginDone, sweepAnswer, sweepDone, finishAnswer, finishedDrive, finishDone}
 use Rattle.history.specs.World.{World, Call, mount, write, begin, sweep, finish, asks}
-use Rattle.history.specs.Step.{answerTo, left, step}
+use Rattle.history.specs.Step.{answerTo, worldAfter, step}
 use Rattle.history.specs.History.{begun, history}
 use Rattle.history.specs.Answers.{changing, isLeft, Columns, columns, columnsOf, columnsAfter, ColumnsStart, ColumnsFollow, BeginLeavesAll}
 use Rattle.history.proofs.Counts.{many-full}
@@ -37,7 +37,7 @@ module _ (w : World) where
 
   write-follows : (o : ℕ) (bytes : List ℕ) → columnsOf (step w (write o bytes))
       ≡ pick (accepts (answerTo w (write o bytes))) (columnsAfter (columnsOf w) (write o bytes)) (columnsOf w)
-  unfolding step left writeDone advanced
+  unfolding step worldAfter writeDone advanced
   write-follows o bytes = go (told (accepts (writeAnswer (w .drive) (w .vol) o (length bytes)))) (told (eqb (length bytes) 0))
     where
       go : (accepts (writeAnswer (w .drive) (w .vol) o (length bytes)) ≡ true) ⊎ (accepts (writeAnswer (w .drive) (w .vol) o (length bytes)) ≡ false)
@@ -49,7 +49,7 @@ module _ (w : World) where
 
   begin-follows : (secret : List ℕ) → columnsOf (step w (begin secret))
       ≡ pick (accepts (answerTo w (begin secret))) (columnsAfter (columnsOf w) (begin secret)) (columnsOf w)
-  unfolding step left beginDone begunDrive
+  unfolding step worldAfter beginDone begunDrive
   begin-follows secret = go (told (accepts (beginAnswer (w .drive) (w .vol) secret)))
     where
       go : (accepts (beginAnswer (w .drive) (w .vol) secret) ≡ true) ⊎ (accepts (beginAnswer (w .drive) (w .vol) secret) ≡ false)
@@ -58,7 +58,7 @@ module _ (w : World) where
       go (inr e) = rw e refl
 
   sweep-follows : (n : ℕ) → columnsOf (step w (sweep n)) ≡ pick (accepts (answerTo w (sweep n))) (columnsAfter (columnsOf w) (sweep n)) (columnsOf w)
-  unfolding step left sweepDone advanced
+  unfolding step worldAfter sweepDone advanced
   sweep-follows n = go (told (accepts (sweepAnswer (w .drive) (w .vol) n)))
     where
       go : (accepts (sweepAnswer (w .drive) (w .vol) n) ≡ true) ⊎ (accepts (sweepAnswer (w .drive) (w .vol) n) ≡ false)
@@ -67,7 +67,7 @@ module _ (w : World) where
       go (inr e) = rw e refl
 
   finish-follows : columnsOf (step w finish) ≡ pick (accepts (answerTo w finish)) (columnsAfter (columnsOf w) finish) (columnsOf w)
-  unfolding step left finishDone finishedDrive
+  unfolding step worldAfter finishDone finishedDrive
   finish-follows = go (told (accepts (finishAnswer (w .drive) (w .vol))))
     where
       go : (accepts (finishAnswer (w .drive) (w .vol)) ≡ true) ⊎ (accepts (finishAnswer (w .drive) (w .vol)) ≡ false)

@@ -18,7 +18,7 @@ use Rattle.changes.specs.Change.{advanced}
 use Rattle.changes.specs.Write.{writeDone}
 use Rattle.changes.specs.Rekey.{begunDrive, beginDone, sweepDone, finishedDrive, finishDone}
 use Rattle.history.specs.World.{World, Call, mount, write, begin, sweep, finish, asks}
-use Rattle.history.specs.Step.{left, mounted, step, changesBy}
+use Rattle.history.specs.Step.{worldAfter, mounted, step, changesBy}
 use Rattle.history.specs.History.{run, among}
 use Rattle.history.proofs.Sound.{Sound}
 use Rattle.history.proofs.Steps.{step-sound, mount-same}
@@ -32,7 +32,7 @@ either-base true new old e = e
 either-base false new old e = refl
 
 pub step-base : (w : World) (c : Call) → Sound w → baseOf (step w c .drive) ≡ baseOf (w .drive)
-unfolding step left writeDone beginDone sweepDone finishDone advanced begunDrive finishedDrive
+unfolding step worldAfter writeDone beginDone sweepDone finishDone advanced begunDrive finishedDrive
 step-base w (mount any) x = ap (λ (u : World). baseOf (u .drive)) (mount-same w x any)
 step-base w (write o bytes) x = either-base (changesBy w (write o bytes)) _ (w .drive) refl
 step-base w (begin secret) x = either-base (changesBy w (begin secret)) _ (w .drive) refl
@@ -52,7 +52,7 @@ raised false new old e = omega arith
 
 -- "Each accepted format, nonempty write, begin, sweep and finish adds 1 to the counter"; "Reads, reports, mounts and empty writes add nothing."
 step-counter : (w : World) (c : Call) → w .drive .counter ≡ w .outside → step w c .outside ≡ w .outside + pick (changesBy w c) 1 0
-unfolding step left mounted writeDone beginDone sweepDone finishDone advanced begunDrive finishedDrive
+unfolding step worldAfter mounted writeDone beginDone sweepDone finishDone advanced begunDrive finishedDrive
 step-counter w (mount any) e = omega arith
 step-counter w (write o bytes) e = rw (← e) (raised (changesBy w (write o bytes)) _ (w .drive) refl)
 step-counter w (begin secret) e = rw (← e) (raised (changesBy w (begin secret)) _ (w .drive) refl)

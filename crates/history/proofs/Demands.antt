@@ -15,7 +15,7 @@ use Rattle.layout.specs.Parts.{tagAt}
 use Rattle.layout.specs.Spots.{spotAt, offsetAt, capacity}
 use Rattle.layout.proofs.Limits.{limits}
 use Rattle.layout.proofs.Places.{offset-spot, spot-inside}
-use Rattle.records.specs.Journal.{bit, present}
+use Rattle.records.specs.Journal.{bit, flakeCount}
 use Rattle.poly1305.specs.Poly1305.{poly1305}
 use Rattle.keys.specs.Keys.{tagKey}
 use Rattle.keys.specs.Tags.{covered, tagOf}
@@ -92,7 +92,7 @@ pub no-entry-twice : NoEntryTwice
 no-entry-twice x calls = let w = history x calls in none-twice-in (kitOf (w .drive)) (ledgerOf w) (sound x calls .inv)
 
 -- the report's count of flakes, nugget by nugget
-pub flakes-sum : (s : Shape) (p : ℕ) (v : List ℕ) (n : ℕ) → sum n (λ i. present p (recordOf s v i .held)) ≡ flakesIn s p v n
+pub flakes-sum : (s : Shape) (p : ℕ) (v : List ℕ) (n : ℕ) → sum n (λ i. flakeCount p (recordOf s v i .held)) ≡ flakesIn s p v n
 unfolding flakesIn sum
 flakes-sum s p v zero = refl
 flakes-sum s p v (suc n) = rw (flakes-sum s p v n)
@@ -121,10 +121,10 @@ under-last-pad x calls n f a b on =
     }
 
 pub stale-never-mounts : StaleNeverMounts
-stale-never-mounts x calls later present old changed e =
+stale-never-mounts x calls later flakeCount old changed e =
     let w = history x calls in
     let q : history x (calls ++ later) .outside ≡ run w later .outside = ap (λ (u : World). u .outside) (run-append (begun x) calls later) in
-    omega (arith, q, head-counter w (sound x calls) present old (history x (calls ++ later) .outside) e, run-raised w later (sound x calls) changed)
+    omega (arith, q, head-counter w (sound x calls) flakeCount old (history x (calls ++ later) .outside) e, run-raised w later (sound x calls) changed)
 
 pub mounts-back : MountsBack
 mounts-back x calls any = mount-back (history x calls) (sound x calls) any

@@ -12,7 +12,7 @@ use Rattle.base.proofs.PickLaws.{both-left, both-right, both-on, clash}
 use Rattle.base.proofs.FoldLaws.{same-true, same-refl}
 use Rattle.answers.specs.declared.Answer.the-variants as A
 use Rattle.layout.specs.Shape.{inLimits}
-use Rattle.layout.specs.Lent.{Lent}
+use Rattle.layout.specs.Shaped.{Shaped}
 use Rattle.layout.specs.Parts.{lengthOf, nodeAt}
 use Rattle.records.specs.declared.Record.{Record}
 use Rattle.records.specs.Record.{against, wellFormed, recordOf}
@@ -22,10 +22,10 @@ use Rattle.drive.specs.declared.State.{State}
 use Rattle.drive.specs.declared.State.the-variants.{Steady, Changing}
 use Rattle.drive.specs.Drive.{shapeOf, isChanging, headed}
 use Rattle.drive.specs.Head.{headOf}
-use Rattle.drive.specs.Opening.{epochFits as driveFits, inForm, headStands, openingOf}
+use Rattle.drive.specs.Opening.{stateFits as driveFits, inForm, headStands, openingOf}
 use Rattle.drive.proofs.HeadLaws.{form-limits}
 use Rattle.nuggets.specs.Nugget.{secretFor, storedIn}
-use Rattle.nuggets.specs.Tests.{goodFlake, flakeGood}
+use Rattle.nuggets.specs.Tests.{goodFlake, goodFlakeOf}
 use Rattle.opening.proofs.Reopens.{length-head}
 use Rattle.changes.specs.Change.{settled}
 use Rattle.changes.proofs.PutLaws.{Same}
@@ -39,7 +39,7 @@ pub settled-opens : (d : Drive) (w : List ℕ) → length (d .salt) ≡ 16 → i
 unfolding headStands
 settled-opens d w salted form size node =
     let long = length-head d salted in
-    let lent : Lent (shapeOf d) w = record { limited = form-limits d form; size = size } in
+    let lent : Shaped (shapeOf d) w = record { limited = form-limits d form; size = size } in
     let u = settled d w in
     let head : same (part 0 104 u) (headOf d) ≡ true = ap (λ (l : List ℕ). same l (headOf d)) (settled-head (shapeOf d) d w long lent) ∙ same-refl (headOf d) in
     let top : same (part (nodeAt (shapeOf d) 1) 32 u) (d .node) ≡ true =
@@ -58,7 +58,7 @@ untouched-node {d} {v} x =
 -- a flake whose bytes, tag, key and keycount are as they were has a right tag if it had one
 pub tag-kept : (d e : Drive) (v w : List ℕ) (n f : ℕ) → shapeOf e ≡ shapeOf d → e .salt ≡ d .salt → Same (shapeOf d) n f v w
     → recordOf (shapeOf d) w n .keycount ≡ recordOf (shapeOf d) v n .keycount → secretFor e (recordOf (shapeOf d) w n .epoch) ≡ secretFor d (recordOf (shapeOf d) v n .epoch)
-    → flakeGood d v n f ≡ true → flakeGood e w n f ≡ true
+    → goodFlakeOf d v n f ≡ true → goodFlakeOf e w n f ≡ true
 unfolding goodFlake
 tag-kept d e v w n f shaped salted kept keycounts secrets h = rw (shaped, kept .tag, kept .stored, keycounts, secrets, salted) h
 

@@ -22,7 +22,7 @@ use Rattle.changes.proofs.AnswerLaws.{Moves, begin-told, sweep-told}
 use Rattle.changes.proofs.SettleLaws.{settled-record}
 use Rattle.changes.proofs.SweepLaws.{way-own, way-other}
 use Rattle.history.specs.World.{World, begin, sweep, finish}
-use Rattle.history.specs.Step.{answerTo, left, step}
+use Rattle.history.specs.Step.{answerTo, worldAfter, step}
 use Rattle.history.specs.Answers.{changing, hasMoved, nuggetsLeft}
 use Rattle.history.proofs.Sound.{Sound}
 use Rattle.history.proofs.Ways.{swept-turns}
@@ -48,7 +48,7 @@ module _ (w : World) (x : Sound w) where
         (no _ (le-ltb 0 (nuggetsLeft w) (omega (arith, none))) (no _ (ne-eqb (w .drive .counter) counterTop (λ e. omega (arith, e, low))) refl))
 
   pub begin-leaves : (secret : List ℕ) → answerTo w (begin secret) ≡ A.Accepted → step w (begin secret) .drive ≡ begunDrive (w .drive) secret
-  unfolding step left beginDone
+  unfolding step worldAfter beginDone
   begin-leaves secret e = yes _ (ap accepts e) refl
 
   -- in a steady drive each record's epoch is the head's
@@ -62,7 +62,7 @@ module _ (w : World) (x : Sound w) where
 
   -- so after a begin none has moved
   pub begin-moves-none : (secret : List ℕ) → answerTo w (begin secret) ≡ A.Accepted → (n : ℕ) → n < w .drive .n → hasMoved (step w (begin secret)) n ≡ false
-  unfolding step left beginVolume beginDone begunDrive
+  unfolding step worldAfter beginVolume beginDone begunDrive
   begin-moves-none secret e n h =
       let taken : accepts (beginAnswer (w .drive) (w .vol) secret) ≡ true = ap accepts e in
       let was = steady-epoch (begin-told (w .drive) (w .vol) secret taken .steady) n h in
@@ -70,12 +70,12 @@ module _ (w : World) (x : Sound w) where
       rw (taken, kept) (ne-eqb (recordOf (shapeOf (w .drive)) (w .vol) n .epoch) (w .drive .epoch + 1) (λ z. omega (arith, z, was)))
 
   pub finish-leaves : answerTo w finish ≡ A.Accepted → step w finish .drive ≡ finishedDrive (w .drive)
-  unfolding step left finishDone
+  unfolding step worldAfter finishDone
   finish-leaves e = yes _ (ap accepts e) refl
 
   module _ (n : ℕ) (e : answerTo w (sweep n) ≡ A.Accepted) where
     pub sweep-leaves : step w (sweep n) .drive ≡ sweptDrive (w .drive) (w .vol) n
-    unfolding step left sweepDone
+    unfolding step worldAfter sweepDone
     sweep-leaves = yes _ (ap accepts e) refl
 
     taken : accepts (sweepAnswer (w .drive) (w .vol) n) ≡ true
@@ -86,7 +86,7 @@ module _ (w : World) (x : Sound w) where
 
     -- each record is the one turned in its nugget's way
     swept-record : (m : ℕ) → m < w .drive .n → recordOf (shapeOf (step w (sweep n) .drive)) (step w (sweep n) .vol) m ≡ turned (sweepWays n m) (w .drive .epoch) (recordOf (shapeOf (w .drive)) (w .vol) m)
-    unfolding step left sweepVolume sweepDone advanced
+    unfolding step worldAfter sweepVolume sweepDone advanced
     swept-record m h = rw taken (swept-turns w x n sweep-tells m h)
 
     pub swept-own : recordOf (shapeOf (step w (sweep n) .drive)) (step w (sweep n) .vol) n .epoch ≡ w .drive .epoch

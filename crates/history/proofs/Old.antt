@@ -33,7 +33,7 @@ use Rattle.ledger.specs.Listing.{lastOf}
 use Rattle.history.specs.World.{World}
 use Rattle.history.specs.Step.{oldFor}
 use Rattle.history.specs.History.{history}
-use Rattle.history.specs.Answers.{changing, sealedText, checkedText, agreeOn, mountDue, OldSecretFree, MountsExactly, Collision, OldSecretNeeded}
+use Rattle.history.specs.Answers.{changing, sealedText, checkedText, agreeOn, mountDue, OldSecretFree, MountsExactly, KeyCollision, OldSecretNeeded}
 use Rattle.history.proofs.View.{ledgerOf}
 use Rattle.history.proofs.Sound.{Sound}
 use Rattle.history.proofs.Steps.{kept-any, sound, mount-back}
@@ -123,7 +123,7 @@ old-secret-needed start calls other begun far = go (told (agreeOn (checkedText w
     w = history start calls
 
     go : (agreeOn (checkedText w) (w .old) other ≡ true) ⊎ (agreeOn (checkedText w) (w .old) other ≡ false)
-        → (mountAnswer (w .vol) (w .secret) other (w .outside) ≡ A.OldSecret) ⊎ Collision (w .old) other (checkedText w)
+        → (mountAnswer (w .vol) (w .secret) other (w .outside) ≡ A.OldSecret) ⊎ KeyCollision (w .old) other (checkedText w)
     go (inl e) = inr (record { differ = far; agree = same-true (blake2s (w .old) (checkedText w)) (blake2s other (checkedText w)) e })
     go (inr e) =
         let off : either (not (changing w)) (agreeOn (checkedText w) (w .old) other) ≡ false = rw (begun, e) refl in

@@ -19,7 +19,7 @@ use Rattle.messages.proofs.ReadBack.{nugget-told, tag-told}
 use Rattle.layout.specs.declared.Shape.{Shape}
 use Rattle.layout.specs.Shape.{leaves, widthOf}
 use Rattle.layout.specs.Parts.{recordAt}
-use Rattle.layout.specs.Lent.{Lent}
+use Rattle.layout.specs.Shaped.{Shaped}
 use Rattle.layout.proofs.Limits.{limits, lent-small, by-numbers}
 use Rattle.records.specs.Listing.{Entry}
 use Rattle.keys.specs.Keys.{nuggetKey, tagKey, checkOf, sealOf}
@@ -39,7 +39,7 @@ use Rattle.opening.proofs.HeadBack.{Opened, opened}
 use Rattle.opening.proofs.Reopens.{drive-back, reopens}
 use Rattle.records.specs.Record.{recordOf}
 use Rattle.nuggets.specs.Nugget.{lockOf, storedIn}
-use Rattle.ledger.specs.Listing.{Alike, NoneTwice}
+use Rattle.ledger.specs.Listing.{SameEntry, NoneTwice}
 use Rattle.ledger.specs.Ledger.{Kit}
 use Rattle.ledger.specs.Onward.{Onward}
 use Rattle.ledger.proofs.Theorems.{entry-lies, entry-below}
@@ -103,7 +103,7 @@ module _ (x : Start) where
 
   -- a stretch's source tells its entry and place, and a tag key's its entry
   same-stretch : (e g : Entry) (a b : ℕ) → Within e → Within g → a < x .shape .f / 64 → b < x .shape .f / 64
-      → stretchSource x e a ≡ stretchSource x g b → Alike e g × (a ≡ b)
+      → stretchSource x e a ≡ stretchSource x g b → SameEntry e g × (a ≡ b)
   same-stretch e g a b l m ha hb same =
       let inputs : inputOf (x .shape .f) (stretchOf e a) ≡ inputOf (x .shape .f) (stretchOf g b) = λ k. record { nonce = same k .nonce; block = same k .block } in
       let one : stretchOf e a ≡ stretchOf g b = stretches-apart (x .shape .f) size (stretchOf e a) (stretchOf g b) (lies e a l ha) (lies g b m hb) inputs in (
@@ -115,7 +115,7 @@ module _ (x : Start) where
         ap (λ (s : Stretch). s .place) one,
       )
 
-  same-tag-key : (e g : Entry) → Within e → Within g → tagSource x e ≡ tagSource x g → Alike e g
+  same-tag-key : (e g : Entry) → Within e → Within g → tagSource x e ≡ tagSource x g → SameEntry e g
   same-tag-key e g l m same =
       let told = tag-told (e .flake) (g .flake) (e .keycount) (g .keycount) (omega (arith, l .flake)) (omega (arith, m .flake)) (l .count) (m .count)
       (ap (λ (s : TagSource). s .message) same) in
@@ -172,7 +172,7 @@ one-pad-one-contents x calls later n f y same =
 
 -- spent flakes under entries alike are one flake, as it was
 one-flake : (x : Start) (calls later : List Call) (n f m g : ℕ) → Spent (x .shape) (history x calls .vol) n f
-    → Alike (liesUnder (history x calls) n f) (liesUnder (history x (calls ++ later)) m g)
+    → SameEntry (liesUnder (history x calls) n f) (liesUnder (history x (calls ++ later)) m g)
     → storedIn (x .shape) (history x (calls ++ later) .vol) m g ≡ storedIn (x .shape) (history x calls .vol) n f
 one-flake x calls later n f m g y alike =
     let u = history x (calls ++ later) .vol in
@@ -196,7 +196,7 @@ check-for Steady old salt epoch e = absurd (clash e refl)
 check-for (Changing left) old salt epoch e = refl
 
 -- "the 18 record bytes"
-record-long : {s : Shape} {v : List ℕ} (n : ℕ) → Lent s v → n < s .n → length (part (recordAt s n) (widthOf s) v) ≡ 18
+record-long : {s : Shape} {v : List ℕ} (n : ℕ) → Shaped s v → n < s .n → length (part (recordAt s n) (widthOf s) v) ≡ 18
 unfolding widthOf
 record-long {s} {v} n l h = length-part (recordAt s n) (widthOf s) v (record-room n l h) ∙ by-numbers (λ (x : Shape). widthOf x ≡ 18) s (l .limited) refl
 
@@ -210,7 +210,7 @@ module _ (w : World) (x : Sound w) where
       subst (λ (e : Drive). Opened (w .vol) e (d .counter)) (drive-back d (w .vol) (w .old) (x .handed) (x .untouched .opens))
       (opened (w .vol) (d .present) (w .old) (d .counter) (reopens d (w .vol) (w .old) (x .handed) (x .untouched .opens) ∙ whole-quiet d (w .vol) (x .untouched)))
 
-  lent : Lent (shapeOf d) (w .vol)
+  lent : Shaped (shapeOf d) (w .vol)
   lent = untouched-lent d (w .vol) (x .untouched)
 
   good : (i : ℕ) → 1 ≤ i → i < 2 * leaves (d .n) → nodeIn (shapeOf d) (w .vol) i ≡ madeOf (shapeOf d) (w .vol) i

@@ -10,7 +10,7 @@ use Rattle.base.proofs.PickLaws.{yes, no, told, both-left}
 use Rattle.answers.specs.declared.Answer.the-variants as A
 use Rattle.answers.specs.Numbers.{accepts}
 use Rattle.layout.specs.declared.Shape.{Shape}
-use Rattle.layout.specs.Lent.{Lent}
+use Rattle.layout.specs.Shaped.{Shaped}
 use Rattle.records.specs.Journal.{bit}
 use Rattle.records.proofs.BitLaws.{bit-and}
 use Rattle.tree.specs.Path.{formed}
@@ -25,7 +25,7 @@ use Rattle.drive.specs.Opening.{openingOf}
 use Rattle.drive.proofs.OpeningLaws.{opening-lent}
 use Rattle.nuggets.specs.declared.Nugget.{Nugget}
 use Rattle.nuggets.specs.Nugget.{nuggetOf}
-use Rattle.nuggets.specs.Tests.{goodFlake, flakeGood, passes, flakesUp, flakesIn, flakesOf, pathFor, nuggetRead}
+use Rattle.nuggets.specs.Tests.{goodFlake, goodFlakeOf, passes, flakesUp, flakesTested, flakesOf, pathFor, nuggetRead}
 use Rattle.reports.specs.Report.{reportAnswer}
 
 -- drive and volume as the calls leave them: the head is the drive's, every node and every record as it has to be, the tag of each present flake right
@@ -33,7 +33,7 @@ pub record Untouched (d : Drive) (v : List ℕ) : Type 0 where
   pub opens : openingOf d v ≡ A.Accepted
   pub good : AllGood (shapeOf d) v
   pub well : (n : ℕ) → n < d .n → formed (shapeOf d) (gaugeOf d) v n ≡ true
-  pub tags : (n f : ℕ) → n < d .n → f < d .p → bit (recordOf (shapeOf d) v n .held) f ≡ true → flakeGood d v n f ≡ true
+  pub tags : (n f : ℕ) → n < d .n → f < d .p → bit (recordOf (shapeOf d) v n .held) f ≡ true → goodFlakeOf d v n f ≡ true
 
 -- flakes that pass one by one
 flakes-pass : (s : Shape) (v : List ℕ) (g : Nugget) (mask k f : ℕ) → ((i : ℕ) → f ≤ i → i < f + k → bit mask i ≡ true → goodFlake s v g i ≡ true)
@@ -47,7 +47,7 @@ flakes-pass s v g mask (suc k) f h = yes _ (go (told (bit mask f))) (flakes-pass
     go (inr e) = no _ e refl
 
 module _ (d : Drive) (v : List ℕ) (x : Untouched d v) where
-  pub untouched-lent : Lent (shapeOf d) v
+  pub untouched-lent : Shaped (shapeOf d) v
   untouched-lent = opening-lent d v (ap accepts (x .opens))
 
   pub path-quiet : (n : ℕ) → n < d .n → pathFor d v n ≡ A.Accepted
@@ -58,7 +58,7 @@ module _ (d : Drive) (v : List ℕ) (x : Untouched d v) where
 
   -- flakes of a set within those held
   pub flakes-quiet : (n mask : ℕ) → n < d .n → ((f : ℕ) → bit mask f ≡ true → bit (recordOf (shapeOf d) v n .held) f ≡ true) → flakesOf d v n mask ≡ A.Accepted
-  unfolding flakesIn
+  unfolding flakesTested
   flakes-quiet n mask h within = flakes-pass (shapeOf d) v (nuggetOf d v n) mask (d .p) 0 (λ f a b e. x .tags n f h (omega arith) (within f e))
 
   pub nugget-read : (n t : ℕ) → n < d .n → nuggetRead d v n t ≡ A.Accepted

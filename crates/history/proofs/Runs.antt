@@ -12,7 +12,7 @@ use Rattle.base.proofs.PickLaws.{yes, both-on, either-off}
 use Rattle.answers.specs.declared.Answer.the-variants as A
 use Rattle.answers.specs.Numbers.{accepts}
 use Rattle.history.specs.World.{World, Call, mount, write, begin, sweep, finish, asks}
-use Rattle.history.specs.Step.{answerTo, left, mounted, step, writesAt}
+use Rattle.history.specs.Step.{answerTo, worldAfter, mounted, step, writesAt}
 use Rattle.history.specs.History.{run, among}
 
 -- calls after calls
@@ -28,7 +28,7 @@ kept true false x y e = refl
 kept false inside x y e = refl
 
 step-kept : (a : ℕ) (w : World) (c : Call) → writesAt a w c ≡ false → step w c .contents a ≡ w .contents a
-unfolding step left mounted
+unfolding step worldAfter mounted
 step-kept a w (mount any) e = refl
 step-kept a w (write o bytes) e =
     kept (accepts (answerTo w (write o bytes))) (both (leb o a) (ltb a (o + length bytes))) (getD bytes (a - o) 0) (w .contents a) e
@@ -47,7 +47,7 @@ run-kept a w (c ∷ calls) e =
 -- an accepted write lays its bytes
 pub step-writes : (w : World) (o : ℕ) (bytes : List ℕ) (i : ℕ) → i < length bytes → answerTo w (write o bytes) ≡ A.Accepted
     → step w (write o bytes) .contents (o + i) ≡ getD bytes i 0
-unfolding step left
+unfolding step worldAfter
 step-writes w o bytes i h e =
     let back : o + i - o ≡ i = omega arith in
     yes _ (ap accepts e)

@@ -13,7 +13,7 @@ use Rattle.drive.specs.declared.Drive.{Drive}
 use Rattle.drive.specs.declared.State.{State}
 use Rattle.drive.specs.declared.State.the-variants.{Steady, Changing}
 use Rattle.drive.specs.Drive.{shapeOf, isChanging, headed, zeros, counterTop}
-use Rattle.drive.specs.Opening.{epochFits}
+use Rattle.drive.specs.Opening.{stateFits}
 use Rattle.nuggets.specs.Nugget.{secretFor}
 use Rattle.opening.proofs.Reopens.{Handed}
 use Rattle.reports.specs.Counts.{isMoved}
@@ -23,13 +23,13 @@ use Rattle.changes.proofs.AnswerLaws.{Begins, Finishes}
 use Rattle.ledger.specs.Totals.{risen}
 use Rattle.ledger.specs.Ledger.{Ledger, secretAt}
 use Rattle.ledger.specs.Invariant.{Inv}
-use Rattle.ledger.specs.Step.{Kept, Calm, Begun, Finished}
+use Rattle.ledger.specs.Step.{Kept, Calm, HeadBegun, HeadFinished}
 use Rattle.ledger.specs.Onward.{Onward}
 use Rattle.ledger.proofs.TotalLaws.{risen-none}
 use Rattle.ledger.proofs.CalmLaws.{calms, begin-calm, finish-calm}
 use Rattle.ledger.proofs.OnwardLaws.{onward-kept}
 use Rattle.history.specs.World.{World}
-use Rattle.history.specs.Step.{left}
+use Rattle.history.specs.Step.{worldAfter}
 use Rattle.history.specs.Demands.{plainIn}
 use Rattle.history.proofs.Counts.{many-all}
 use Rattle.history.proofs.Quiet.{Untouched}
@@ -87,8 +87,8 @@ module _ (w : World) (x : Sound w) where
           counterUp = omega arith;
         }
 
-    pub same-keeps : Keeps w (left w (w .drive) (w .vol) [] (w .secret) (w .old) after)
-    unfolding left secretAt
+    pub same-keeps : Keeps w (worldAfter w (w .drive) (w .vol) [] (w .secret) (w .old) after)
+    unfolding worldAfter secretAt
     same-keeps =
         record {
           sound = record {
@@ -132,21 +132,21 @@ module _ (w : World) (x : Sound w) where
           counterUp = up;
         }
 
-    pub head-untouched : epochFits state epoch ≡ true → Calm (kitOf d) (ledgerOf w) after-head → Untouched e z
+    pub head-untouched : stateFits state epoch ≡ true → Calm (kitOf d) (ledgerOf w) after-head → Untouched e z
     unfolding after-head secretAt secretFor
     head-untouched fits calm =
         headed-untouched d (w .vol) (x .untouched) (x .handed .salt-long) state epoch counter present old fits (calm .stillFormed) (calm .sameSecrets)
 
   -- an accepted begin
   pub begun-keeps : (secret : List ℕ) → Begins (w .drive) (w .vol)
-      → Keeps w (left w (begunDrive (w .drive) secret) (settled (begunDrive (w .drive) secret) (w .vol)) [] secret (w .secret) (w .contents))
-  unfolding left begunDrive after-head
+      → Keeps w (worldAfter w (begunDrive (w .drive) secret) (settled (begunDrive (w .drive) secret) (w .vol)) [] secret (w .secret) (w .contents))
+  unfolding worldAfter begunDrive after-head
   begun-keeps secret b =
       let d = w .drive in
       let l = ledgerOf w in
       let up : d .counter ≤ d .counter + 1 = omega arith in
       let m = after-head (Changing (d .epoch)) (d .epoch + 1) (d .counter + 1) secret (d .present) up in
-      let turn : Begun l m = record { wasSteady = b .steady; isChanging = refl; epochUp = refl; oldKept = refl } in
+      let turn : HeadBegun l m = record { wasSteady = b .steady; isChanging = refl; epochUp = refl; oldKept = refl } in
       let calm = begin-calm (kitOf d) l m (x .inv) (head-kept (Changing (d .epoch)) (d .epoch + 1) (d .counter + 1) secret (d .present) up) turn in
       record {
         sound = record {
@@ -166,14 +166,14 @@ module _ (w : World) (x : Sound w) where
 
   -- an accepted finish
   pub finished-keeps : Finishes (w .drive) (w .vol)
-      → Keeps w (left w (finishedDrive (w .drive)) (settled (finishedDrive (w .drive)) (w .vol)) [] (w .secret) (w .old) (w .contents))
-  unfolding left finishedDrive after-head
+      → Keeps w (worldAfter w (finishedDrive (w .drive)) (settled (finishedDrive (w .drive)) (w .vol)) [] (w .secret) (w .old) (w .contents))
+  unfolding worldAfter finishedDrive after-head
   finished-keeps b =
       let d = w .drive in
       let l = ledgerOf w in
       let up : d .counter ≤ d .counter + 1 = omega arith in
       let m = after-head Steady (d .epoch) (d .counter + 1) (d .present) (zeros 32) up in
-      let turn : Finished (kitOf d) l m = record { noneLeft = all-moved d (w .vol) b; epochKept = refl; presentKept = refl } in
+      let turn : HeadFinished (kitOf d) l m = record { noneLeft = all-moved d (w .vol) b; epochKept = refl; presentKept = refl } in
       let calm = finish-calm (kitOf d) l m (x .inv) (head-kept Steady (d .epoch) (d .counter + 1) (d .present) (zeros 32) up) turn in
       record {
         sound = record {

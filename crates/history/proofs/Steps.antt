@@ -39,7 +39,7 @@ use Rattle.ledger.specs.Invariant.{Inv}
 use Rattle.ledger.proofs.CalmLaws.{starts}
 use Rattle.ledger.proofs.OnwardLaws.{onward-same}
 use Rattle.history.specs.World.{World, Call, mount, write, begin, sweep, finish, asks}
-use Rattle.history.specs.Step.{oldFor, overlaid, mounted, step}
+use Rattle.history.specs.Step.{oldFor, contentsAfter, mounted, step}
 use Rattle.history.specs.History.{Start, begun, run, history}
 use Rattle.history.specs.Demands.{plainIn}
 use Rattle.history.proofs.Quiet.{Untouched, whole-quiet}
@@ -162,10 +162,10 @@ module _ (w : World) (x : Sound w) where
       go (inl e) =
           let accepted = both-left (accepts (writeAnswer (w .drive) (w .vol) o (length bytes))) _ e in
           let some : 0 < length bytes = ltb-true 0 (length bytes) (both-right (accepts (writeAnswer (w .drive) (w .vol) o (length bytes))) _ e) in
-          rw e (written-keeps w x o bytes (write-told (w .drive) (w .vol) o (length bytes) some accepted) (overlaid w o bytes) (λ a. yes _ accepted refl))
+          rw e (written-keeps w x o bytes (write-told (w .drive) (w .vol) o (length bytes) some accepted) (contentsAfter w o bytes) (λ a. yes _ accepted refl))
       go (inr e) =
           rw e
-          (same-keeps w x (overlaid w o bytes) (λ a. none-over (accepts (writeAnswer (w .drive) (w .vol) o (length bytes))) o bytes a (w .contents a) e))
+          (same-keeps w x (contentsAfter w o bytes) (λ a. none-over (accepts (writeAnswer (w .drive) (w .vol) o (length bytes))) o bytes a (w .contents a) e))
 
   begin-keeps : (secret : List ℕ) → Keeps w (step w (begin secret))
   unfolding step beginDone beginVolume

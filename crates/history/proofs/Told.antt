@@ -9,7 +9,7 @@ use Rattle.answers.specs.declared.Answer.the-variants as A
 use Rattle.answers.specs.Numbers.{accepts}
 use Rattle.answers.proofs.StageLaws.{passed, spared}
 use Rattle.base.specs.Pick.{pick}
-use Rattle.records.specs.Journal.{many, present}
+use Rattle.records.specs.Journal.{many, flakeCount}
 use Rattle.layout.specs.declared.Shape.{Shape}
 use Rattle.records.specs.Record.{recordOf}
 use Rattle.drive.specs.Drive.{shapeOf}
@@ -20,7 +20,7 @@ use Rattle.changes.specs.Change.{advanced}
 use Rattle.history.specs.World.{World, sweep}
 use Rattle.history.specs.Step.{answerTo, step}
 use Rattle.history.specs.History.{history}
-use Rattle.history.specs.Answers.{changing, hasMoved, Tells, reportOn, ReportTells, SweepMoves}
+use Rattle.history.specs.Answers.{changing, hasMoved, TellsCounts, reportOn, ReportTells, SweepMoves}
 use Rattle.history.proofs.Counts.{many-one}
 use Rattle.history.proofs.Quiet.{report-accepts}
 use Rattle.history.proofs.Sound.{Sound}
@@ -30,12 +30,12 @@ use Rattle.history.proofs.Demands.{flakes-sum}
 use Rattle.history.proofs.Moves.{sweep-tells, sweep-leaves, swept-own, swept-other}
 
 -- the report's count of flakes done is the ledger's sum
-done-sum : (s : Shape) (p e : ℕ) (v : List ℕ) (n : ℕ) → sum n (λ i. pick (eqb (recordOf s v i .epoch) e) (present p (recordOf s v i .held)) 0) ≡ doneIn s p e v n
+done-sum : (s : Shape) (p e : ℕ) (v : List ℕ) (n : ℕ) → sum n (λ i. pick (eqb (recordOf s v i .epoch) e) (flakeCount p (recordOf s v i .held)) 0) ≡ doneIn s p e v n
 unfolding doneIn sum
 done-sum s p e v zero = refl
 done-sum s p e v (suc n) = rw (done-sum s p e v n)
 
-tells : (w : World) → Sound w → Tells w (reportOn w)
+tells : (w : World) → Sound w → TellsCounts w (reportOn w)
 tells w x =
     let t = report-exact (w .drive) (w .vol) (report-accepts (w .drive) (w .vol) (x .untouched)) in
     record {

@@ -31,7 +31,7 @@ use Rattle.changes.specs.Rekey.{sweepWays, sweepWork, sweptDrive}
 use Rattle.changes.proofs.AnswerLaws.{Moves, Granted}
 use Rattle.ledger.proofs.TurnLaws.{sweep-fits, write-fits}
 use Rattle.history.specs.World.{World}
-use Rattle.history.specs.Step.{left}
+use Rattle.history.specs.Step.{worldAfter}
 use Rattle.history.specs.Demands.{plainIn}
 use Rattle.history.proofs.View.{reads-plain}
 use Rattle.history.proofs.Sound.{Sound, Keeps, plain-same}
@@ -106,7 +106,7 @@ module _ (w : World) (x : Sound w) where
         ≡ turned (ways n) (w .drive .epoch) (recordOf (shapeOf (w .drive)) (w .vol) n)
     written-turns n h = worked-turns w x ways (newContents (w .drive) (w .vol) o bytes) after ready n h
 
-    pub written-keeps : Keeps w (left w (writtenDrive (w .drive) (w .vol) o bytes) (settled (writtenDrive (w .drive) (w .vol) o bytes) (writeWork (w .drive) (w .vol) o bytes))
+    pub written-keeps : Keeps w (worldAfter w (writtenDrive (w .drive) (w .vol) o bytes) (settled (writtenDrive (w .drive) (w .vol) o bytes) (writeWork (w .drive) (w .vol) o bytes))
         (padsFor (w .drive) (w .vol) ways) (w .secret) (w .old) after)
     written-keeps = worked-keeps w x ways (newContents (w .drive) (w .vol) o bytes) after ready
 
@@ -129,6 +129,6 @@ module _ (w : World) (x : Sound w) where
         ≡ turned (sweepWays n m) (w .drive .epoch) (recordOf (shapeOf (w .drive)) (w .vol) m)
     swept-turns m h = worked-turns w x (sweepWays n) (contentsOf (w .drive) (w .vol)) (w .contents) sweep-ready m h
 
-    pub swept-keeps : Keeps w (left w (sweptDrive (w .drive) (w .vol) n) (settled (sweptDrive (w .drive) (w .vol) n) (sweepWork (w .drive) (w .vol) n))
+    pub swept-keeps : Keeps w (worldAfter w (sweptDrive (w .drive) (w .vol) n) (settled (sweptDrive (w .drive) (w .vol) n) (sweepWork (w .drive) (w .vol) n))
         (padsFor (w .drive) (w .vol) (sweepWays n)) (w .secret) (w .old) (w .contents))
     swept-keeps = worked-keeps w x (sweepWays n) (contentsOf (w .drive) (w .vol)) (w .contents) sweep-ready

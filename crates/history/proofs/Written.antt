@@ -21,7 +21,7 @@ use Rattle.changes.specs.Change.{padsFor, advanced}
 use Rattle.changes.specs.Write.{writeWay, writes, writtenDrive, writeDone, writeVolume, writePads}
 use Rattle.changes.proofs.AnswerLaws.{write-told}
 use Rattle.history.specs.World.{World, write}
-use Rattle.history.specs.Step.{answerTo, left, step}
+use Rattle.history.specs.Step.{answerTo, worldAfter, step}
 use Rattle.history.proofs.Sound.{Sound}
 use Rattle.history.proofs.Table.{exactly}
 use Rattle.history.proofs.Ways.{written-turns}
@@ -44,17 +44,17 @@ module _ (w : World) (x : Sound w) (low : w .drive .counter < counterTop) where
       taken = both-on (ap accepts write-accepted) (lt-ltb 0 (length bytes) some)
 
       pub written-drive : step w (write o bytes) .drive ≡ writtenDrive (w .drive) (w .vol) o bytes
-      unfolding step left writeDone
+      unfolding step worldAfter writeDone
       written-drive = yes _ taken refl
 
       -- each record is the one turned in its nugget's way
       pub written-record : (n : ℕ) → n < w .drive .n
           → recordOf (shapeOf (step w (write o bytes) .drive)) (step w (write o bytes) .vol) n ≡ turned (writeWay (w .drive) (w .vol) o (length bytes) n) (w .drive .epoch) (recordOf (shapeOf (w .drive)) (w .vol) n)
-      unfolding step left writeVolume writeDone advanced
+      unfolding step worldAfter writeVolume writeDone advanced
       written-record n h =
           rw taken
           (written-turns w x o bytes (write-told (w .drive) (w .vol) o (length bytes) some (ap accepts write-accepted)) (λ a. over o bytes a (w .contents a)) (λ a. refl) n h)
 
       pub written-listing : step w (write o bytes) .listing ≡ w .listing ++ padsFor (w .drive) (w .vol) (writeWay (w .drive) (w .vol) o (length bytes))
-      unfolding step left writePads
+      unfolding step worldAfter writePads
       written-listing = rw taken refl

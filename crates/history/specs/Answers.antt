@@ -197,7 +197,7 @@ MountsExactly =
     mountAnswer (w .vol) present old outside ≡ mountDue w present old outside
 
 -- two different keyed messages with the same BLAKE2s value: two keys over one message
-pub record Collision (key other message : List ℕ) : Type 0 where
+pub record KeyCollision (key other message : List ℕ) : Type 0 where
   pub differ : key ≡ other → ⊥
   pub agree : blake2s key message ≡ blake2s other message
 
@@ -208,12 +208,12 @@ OldSecretNeeded =
     (start : Start) (calls : List Call) (other : List ℕ)
     → let w = history start calls in
     changing w ≡ true → (w .old ≡ other → ⊥)
-    → (mountAnswer (w .vol) (w .secret) other (w .outside) ≡ A.OldSecret) ⊎ Collision (w .old) other (checkedText w)
+    → (mountAnswer (w .vol) (w .secret) other (w .outside) ≡ A.OldSecret) ⊎ KeyCollision (w .old) other (checkedText w)
 
 -- "Report gives N, nuggets moved (epoch equal to the head's), left, flakes present, and share". The share is document 02's, Item
 -- 1: "present flakes in moved nuggets × 10,000 / all present flakes, rounded down; with no flake present the nugget share
 -- stands; while any nugget is left the figure is at most 99.99."
-pub record Tells (w : World) (r : Report) : Type 0 where
+pub record TellsCounts (w : World) (r : Report) : Type 0 where
   pub accepted : r .answer ≡ A.Accepted
   pub nuggets : r .n ≡ w .drive .n
   pub moved : r .moved ≡ many (w .drive .n) (hasMoved w)
@@ -228,7 +228,7 @@ abbrev pub reportOn : World → Report
 reportOn w = reportOf (w .drive) (w .vol)
 
 abbrev pub ReportTells : Type 0
-ReportTells = (start : Start) (calls : List Call) → Tells (history start calls) (reportOn (history start calls))
+ReportTells = (start : Start) (calls : List Call) → TellsCounts (history start calls) (reportOn (history start calls))
 
 -- An accepted sweep raises the report's moved by one.
 abbrev pub SweepMoves : Type 0

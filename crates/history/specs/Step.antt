@@ -38,8 +38,8 @@ answerTo w (asks (stored n f)) = storedAnswer (w .drive) (w .vol) n f
 
 -- what a call that may change the volume leaves in the user's hands; the outside counter "advances to the value each
 -- changing call returns", and what is retired goes by the records before and after alone
-unfoldable pub left : World → Drive → List ℕ → List Entry → List ℕ → List ℕ → (ℕ → ℕ) → World
-left w drive vol pads secret old contents =
+unfoldable pub worldAfter : World → Drive → List ℕ → List Entry → List ℕ → List ℕ → (ℕ → ℕ) → World
+worldAfter w drive vol pads secret old contents =
     record {
       vol = vol;
       drive = drive;
@@ -52,8 +52,8 @@ left w drive vol pads secret old contents =
     }
 
 -- the contents once a write is accepted, and the same if it is refused
-abbrev pub overlaid : World → ℕ → List ℕ → ℕ → ℕ
-overlaid w o bytes a = pick (accepts (answerTo w (write o bytes))) (over o bytes a (w .contents a)) (w .contents a)
+abbrev pub contentsAfter : World → ℕ → List ℕ → ℕ → ℕ
+contentsAfter w o bytes a = pick (accepts (answerTo w (write o bytes))) (over o bytes a (w .contents a)) (w .contents a)
 
 -- what the user holds after a mount
 unfoldable pub mounted : World → Drive → World
@@ -73,15 +73,15 @@ mounted w drive =
 unfoldable pub step : World → Call → World
 step w (mount any) = mounted w (mountDone (w .vol) (w .secret) (oldFor w any) (w .outside) .drive)
 step w (write o bytes) =
-    left w (writeDone (w .drive) (w .vol) o bytes .drive) (writeVolume (w .drive) (w .vol) o bytes) (writePads (w .drive) (w .vol) o bytes) (w .secret) (w .old)
-    (overlaid w o bytes)
+    worldAfter w (writeDone (w .drive) (w .vol) o bytes .drive) (writeVolume (w .drive) (w .vol) o bytes) (writePads (w .drive) (w .vol) o bytes) (w .secret) (w .old)
+    (contentsAfter w o bytes)
 step w (begin secret) =
     let a = accepts (answerTo w (begin secret)) in
-    left w (beginDone (w .drive) (w .vol) secret .drive) (beginVolume (w .drive) (w .vol) secret) [] (pick a secret (w .secret)) (pick a (w .secret) (w .old))
+    worldAfter w (beginDone (w .drive) (w .vol) secret .drive) (beginVolume (w .drive) (w .vol) secret) [] (pick a secret (w .secret)) (pick a (w .secret) (w .old))
     (w .contents)
 step w (sweep n) =
-    left w (sweepDone (w .drive) (w .vol) n .drive) (sweepVolume (w .drive) (w .vol) n) (sweepPads (w .drive) (w .vol) n) (w .secret) (w .old) (w .contents)
-step w finish = left w (finishDone (w .drive) (w .vol) .drive) (finishVolume (w .drive) (w .vol)) [] (w .secret) (w .old) (w .contents)
+    worldAfter w (sweepDone (w .drive) (w .vol) n .drive) (sweepVolume (w .drive) (w .vol) n) (sweepPads (w .drive) (w .vol) n) (w .secret) (w .old) (w .contents)
+step w finish = worldAfter w (finishDone (w .drive) (w .vol) .drive) (finishVolume (w .drive) (w .vol)) [] (w .secret) (w .old) (w .contents)
 step w (asks q) = w
 
 -- "Each accepted format, nonempty write, begin, sweep and finish adds 1 to the counter": the call is an accepted change

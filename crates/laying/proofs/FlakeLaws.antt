@@ -14,7 +14,7 @@ use Rattle.base.proofs.PickLaws.{told, yes, no}
 use Rattle.base.proofs.PartLaws.{length-part, back}
 use Rattle.base.proofs.TabLaws.{tab-ext, length-tab}
 use Rattle.layout.specs.declared.Shape.{Shape}
-use Rattle.layout.specs.Lent.{Lent}
+use Rattle.layout.specs.Shaped.{Shaped}
 use Rattle.layout.specs.Parts.{flakeAt, tagAt}
 use Rattle.layout.specs.Spots.{offsetAt, capacity}
 use Rattle.layout.proofs.Places.{flake-inside, tag-inside, parts-inside, index-lt}
@@ -65,7 +65,7 @@ anew-is g lock f start o bytes l {a} {b} ea eb et ec =
     (et ∙ ap (λ (x : List ℕ). tagUnder lock f x) e, ec ∙ rw long (ap (λ (x : List ℕ). under lock f (length l) x) e))
 
 -- a flake and its tag lie in the volume, and its offsets below N P F
-module _ (s : Shape) (v : List ℕ) (n f : ℕ) (lent : Lent s v) (a : n < s .n) (b : f < s .p) where
+module _ (s : Shape) (v : List ℕ) (n f : ℕ) (lent : Shaped s v) (a : n < s .n) (b : f < s .p) where
   pub flake-room : flakeAt s n f + s .f ≤ length v
   flake-room = rw (lent .size) (flake-inside s n f a b)
 
@@ -100,7 +100,7 @@ module _ (s : Shape) (v : List ℕ) (g : Nugget) (lock : Lock) (f o : ℕ) (byte
   new = written s o bytes (lock .number) f (contentsIn s v g f)
 
   -- the flake as it stood, laid anew, is the new contents
-  anew-written : Lent s v → lock .number < s .n → f < s .p → (at start : ℕ) → at ≡ flakeAt s (lock .number) f → start ≡ offsetAt s (lock .number) f 0
+  anew-written : Shaped s v → lock .number < s .n → f < s .p → (at start : ℕ) → at ≡ flakeAt s (lock .number) f → start ≡ offsetAt s (lock .number) f 0
       → anew g f start o bytes (midOf at (at + s .f - at) v) ≡ new
   anew-written lent a b at start p q =
       let room = flake-room s v (lock .number) f lent a b in
@@ -112,7 +112,7 @@ module _ (s : Shape) (v : List ℕ) (g : Nugget) (lock : Lock) (f o : ℕ) (byte
       ∙ overlaid-written s o bytes (lock .number) f (contentsIn s v g f) (length-contents s v g f lent (rw one a) b))
 
   -- the lent flake, and then its tag
-  pub flake-laid : Lent s v → lock .number < s .n → f < s .p → (at start tag : ℕ) {z t w : List ℕ}
+  pub flake-laid : Shaped s v → lock .number < s .n → f < s .p → (at start tag : ℕ) {z t w : List ℕ}
       → at ≡ flakeAt s (lock .number) f → start ≡ offsetAt s (lock .number) f 0 → tag ≡ tagAt s (lock .number) f
       → z ≡ under lock f (length (midOf at (at + s .f - at) v)) (anew g f start o bytes (midOf at (at + s .f - at) v))
       → t ≡ tagUnder lock f (anew g f start o bytes (midOf at (at + s .f - at) v))
@@ -167,9 +167,9 @@ module _ (d : Drive) (v : List ℕ) (n k mask o : ℕ) (bytes : List ℕ) where
   turn-length f e = rw e (length-laid (shapeOf d) (d .salt) (newContents d v o bytes) (padsOf n k (d .present) (bit mask) f) v)
 
   -- what laying the next flake asks
-  pub turn-asks : Lent (shapeOf d) v → n < d .n → o + length bytes ≤ capacity (shapeOf d) → (f : ℕ) → f < d .p → {s : Shape} {g : Nugget} {lock : Lock} {w : List ℕ}
+  pub turn-asks : Shaped (shapeOf d) v → n < d .n → o + length bytes ≤ capacity (shapeOf d) → (f : ℕ) → f < d .p → {s : Shape} {g : Nugget} {lock : Lock} {w : List ℕ}
       → s ≡ shapeOf d → g ≡ nuggetOf d v n → lock ≡ lockBy s (d .salt) (d .present) n k → Upto f w
-      → Lent s w × (lock .number < s .n) × (f < s .p) × (o + length bytes ≤ capacity s) × (g .lock .number ≡ lock .number)
+      → Shaped s w × (lock .number < s .n) × (f < s .p) × (o + length bytes ≤ capacity s) × (g .lock .number ≡ lock .number)
   turn-asks lent a room f b es eg el e = rw (el, es, eg) (record { limited = lent .limited; size = turn-length f e ∙ lent .size }, a, b, room, refl)
 
   pub turn-in : n < d .n → (f : ℕ) → f < d .p → {s : Shape} {g : Nugget} {lock : Lock} {w z : List ℕ} → s ≡ shapeOf d → g ≡ nuggetOf d v n

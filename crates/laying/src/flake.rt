@@ -5,7 +5,7 @@ use nuggets::Nugget;
 ghost use mathlib.Core.Path.{_≡_};
 ghost use Prim.Native.Nat.{_+_, _<_, _≤_, _^_, max};
 ghost use lib.ListN.{length};
-ghost use Rattle.layout.specs.Lent.{Lent};
+ghost use Rattle.layout.specs.Shaped.{Shaped};
 ghost use Rattle.layout.specs.Spots.{capacity};
 ghost use Rattle.keys.specs.Pads.{under};
 ghost use Rattle.keys.specs.Tags.{tagUnder};
@@ -93,7 +93,7 @@ fn lay_anew(
 
 // Flake f and its tag, in the volume.
 fn lay_flake(vol: &mut [u8], s: Shape, g: Nugget, lock: Lock, f: u32, o: usize, bytes: &[u8])
-    requires { ⌜ Lent s (now vol) × (lock .number < s .n) × (f < s .p) × (o + length (now bytes) ≤ capacity s) × (g .lock .number ≡ lock .number) ⌝ }
+    requires { ⌜ Shaped s (now vol) × (lock .number < s .n) × (f < s .p) × (o + length (now bytes) ≤ capacity s) × (g .lock .number ≡ lock .number) ⌝ }
     ensures { λ _. ⌜ now (vol .exit) ≡ laidFlake s lock f
         (written s o (now (bytes .entry)) (lock .number) f (contentsIn s (now (vol .entry)) g f)) (now (vol .entry)) ⌝ }
 {
@@ -107,7 +107,7 @@ fn lay_flake(vol: &mut [u8], s: Shape, g: Nugget, lock: Lock, f: u32, o: usize, 
 
 // The flakes of the set, ascending. A flake not laid yet still stands as it was, so nothing is kept aside.
 pub fn lay_flakes(d: Drive, vol: &mut [u8], n: u32, k: u64, mask: u64, o: usize, bytes: &[u8])
-    requires { ⌜ Lent (shapeOf d) (now vol) × (n < d .n) × (o + length (now bytes) ≤ capacity (shapeOf d)) ⌝ }
+    requires { ⌜ Shaped (shapeOf d) (now vol) × (n < d .n) × (o + length (now bytes) ≤ capacity (shapeOf d)) ⌝ }
     ensures { λ _. ⌜ now (vol .exit) ≡ laid (shapeOf d) (d .salt) (newContents d (now (vol .entry)) o (now (bytes .entry)))
         (padsOf n k (d .present) (bit mask) (d .p)) (now (vol .entry)) ⌝ }
 {

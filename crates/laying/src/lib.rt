@@ -9,7 +9,7 @@ ghost use mathlib.Core.Path.{_≡_};
 ghost use mathlib.Core.Bool.{false};
 ghost use Prim.Native.Nat.{_+_, _<_, _≤_};
 ghost use lib.ListN.{length};
-ghost use Rattle.layout.specs.Lent.{Lent};
+ghost use Rattle.layout.specs.Shaped.{Shaped};
 ghost use Rattle.layout.specs.Spots.{capacity};
 ghost use Rattle.records.specs.Rule.{atTop};
 ghost use Rattle.records.specs.Listing.{padsBy};
@@ -21,7 +21,7 @@ ghost use Rattle.records.specs.Record.{recordOf};
 
 // The flakes that the way enciphers: new contents under the pad of the keycount after it, and the tags over what is stored.
 pub fn lay(d: Drive, vol: &mut [u8], n: u32, way: Way, o: usize, bytes: &[u8])
-    requires { ⌜ Lent (shapeOf d) (now vol) × (n < d .n) × (o + length (now bytes) ≤ capacity (shapeOf d)) × (atTop way (recordOf (shapeOf d) (now vol) n) ≡ false) ⌝ }
+    requires { ⌜ Shaped (shapeOf d) (now vol) × (n < d .n) × (o + length (now bytes) ≤ capacity (shapeOf d)) × (atTop way (recordOf (shapeOf d) (now vol) n) ≡ false) ⌝ }
     ensures { λ _. ⌜ now (vol .exit) ≡ laid (shapeOf d) (d .salt) (newContents d (now (vol .entry)) o (now (bytes .entry)))
         (padsBy (d .p) way n (recordOf (shapeOf d) (now (vol .entry)) n) (d .present)) (now (vol .entry)) ⌝ }
 {
@@ -44,7 +44,7 @@ pub fn idle(way: Way) -> bool
 
 // "The journal becomes J with T."; rekeyed: "keycount plus 1", "epoch set to the head's".
 pub fn mark(d: Drive, vol: &mut [u8], n: u32, way: Way)
-    requires { ⌜ Lent (shapeOf d) (now vol) × (n < d .n) × (atTop way (recordOf (shapeOf d) (now vol) n) ≡ false) ⌝ }
+    requires { ⌜ Shaped (shapeOf d) (now vol) × (n < d .n) × (atTop way (recordOf (shapeOf d) (now vol) n) ≡ false) ⌝ }
     ensures { λ _. ⌜ now (vol .exit) ≡ marked (shapeOf d) (d .epoch) way (recordOf (shapeOf d) (now (vol .entry)) n) n (now (vol .entry)) ⌝ }
 {
     if idle(way) {
@@ -58,7 +58,7 @@ pub fn mark(d: Drive, vol: &mut [u8], n: u32, way: Way)
 
 // "leaf and path of each nugget it changed"
 pub fn tend(vol: &mut [u8], s: Shape, n: u32, way: Way)
-    requires { ⌜ Lent s (now vol) × (n < s .n) ⌝ }
+    requires { ⌜ Shaped s (now vol) × (n < s .n) ⌝ }
     ensures { λ _. ⌜ now (vol .exit) ≡ tended s way n (now (vol .entry)) ⌝ }
 {
     if idle(way) {
@@ -78,7 +78,7 @@ pub fn settle(d: Drive, vol: &mut [u8])
 
 // "adds 1 to the counter": the drive over a volume whose tree is renewed.
 fn advanced_drive(d: Drive, vol: &[u8]) -> Drive
-    requires { ⌜ Lent (shapeOf d) (now vol) × (d .counter < counterTop) ⌝ }
+    requires { ⌜ Shaped (shapeOf d) (now vol) × (d .counter < counterTop) ⌝ }
     ensures { λ r. ⌜ r ≡ advanced d (now (vol .entry)) ⌝ }
 {
     let node = nodes::first(vol, drive::shape_of(d));
@@ -91,7 +91,7 @@ fn advanced_drive(d: Drive, vol: &[u8]) -> Drive
 
 // The last stores of a change of nuggets: the drive with its counter and node 1, and the head that it makes.
 pub fn advance(d: Drive, vol: &mut [u8]) -> Drive
-    requires { ⌜ Lent (shapeOf d) (now vol) × (d .counter < counterTop) ⌝ }
+    requires { ⌜ Shaped (shapeOf d) (now vol) × (d .counter < counterTop) ⌝ }
     ensures { λ r. ⌜ (r ≡ advanced d (now (vol .entry))) × (now (vol .exit) ≡ settled (advanced d (now (vol .entry))) (now (vol .entry))) ⌝ }
 {
     let next = advanced_drive(d, vol);

@@ -12,7 +12,7 @@ use Rattle.layout.specs.Shape.{shape, sized, known, inLimits, widthOf, w
 use Rattle.layout.proofs.Height.{leaves-least, leaves-enough, leaves-some}
 use Rattle.layout.specs.declared.Shape.{Shape}
 use mathlib.Core.List.{List}
-use Rattle.layout.specs.Lent.{Lent}
+use Rattle.layout.specs.Shaped.{Shaped}
 
 pub record Limits (s : Shape) : Type 0 where
   pub some : 1 ≤ s .n
@@ -108,7 +108,7 @@ small s l =
       wide-record = width-ge s;
     }
 
-pub lent-small : {s : Shape} {v : List ℕ} → Lent s v → Small s
+pub lent-small : {s : Shape} {v : List ℕ} → Shaped s v → Small s
 lent-small {s} l = small s (limits s (l .limited))
 
 -- a number of a shape in limits

@@ -12,7 +12,7 @@ use Rattle.layout.specs.declared.Spot.{Spot}
 use mathlib.Core.Bool.{true}
 use mathlib.Core.List.{List}
 use lib.ListN.{length}
-use Rattle.layout.specs.Lent.{Lent}
+use Rattle.layout.specs.Shaped.{Shaped}
 use Rattle.base.specs.Pick.{pick}
 use Rattle.base.proofs.PickLaws.{yes}
 
@@ -75,5 +75,5 @@ pub spot-is : (s : Shape) (o : ℕ) {r : Shape} {t : Spot} → t ≡ pick (inLim
 spot-is s o et es h = et ∙ ap (λ (x : Shape). pick (inLimits x) (spotAt x o) nowhere) es ∙ yes _ h refl
 
 -- a record lies inside a lent volume
-pub record-room : {s : Shape} {v : List ℕ} (n : ℕ) → Lent s v → n < s .n → recordAt s n + widthOf s ≤ length v
+pub record-room : {s : Shape} {v : List ℕ} (n : ℕ) → Shaped s v → n < s .n → recordAt s n + widthOf s ≤ length v
 record-room {s} n l h = rw (l .size) (omega (arith, record-inside s n h, parts-inside s))

@@ -1,4 +1,4 @@
 pub mod Shape
 pub mod Parts
 pub mod Spots
-pub mod Lent
+pub mod Shaped

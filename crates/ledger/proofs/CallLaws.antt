@@ -13,7 +13,7 @@ use Rattle.base.specs.Pick.{both}
 use Rattle.base.proofs.PickLaws.{told, both-no}
 use Rattle.records.specs.declared.Record.{Record}
 use Rattle.records.specs.declared.Way.{Way}
-use Rattle.records.specs.Journal.{bit, present}
+use Rattle.records.specs.Journal.{bit, flakeCount}
 use Rattle.records.specs.Rule.{enciphered, keycountAfter}
 use Rattle.records.specs.Listing.{entry, padsOf, padsBy, padsTo}
 use Rattle.records.proofs.BitLaws.{bit-below}
@@ -105,7 +105,7 @@ module _ (p : ℕ) (way : ℕ → Way) (records : ℕ → Record) (s : List ℕ)
           rw (last-by-other p (way c) c (records c) s n f q) (again (omega arith))
 
   -- how many entries a call lists
-  pub length-call : (c : ℕ) → length (padsTo p way records s c) ≡ sum c (λ n. present p (enciphered (way n) (records n)))
+  pub length-call : (c : ℕ) → length (padsTo p way records s c) ≡ sum c (λ n. flakeCount p (enciphered (way n) (records n)))
   unfolding padsTo sum
   length-call zero = refl
   length-call (suc c) =

@@ -14,7 +14,7 @@ use Rattle.base.specs.Pick.{pick}
 use Rattle.base.proofs.PickLaws.{clash}
 use Rattle.words.specs.Xor.{xorl}
 use Rattle.records.specs.declared.Gauge.{Gauge}
-use Rattle.records.specs.Journal.{bit, present as presentOf}
+use Rattle.records.specs.Journal.{bit, flakeCount as presentOf}
 use Rattle.records.specs.Record.{epochFits, wellFormed}
 use Rattle.records.specs.Listing.{Entry}
 use Rattle.records.proofs.BitLaws.{bit-empty, bit-below, lies-self}
@@ -22,7 +22,7 @@ use Rattle.ledger.specs.Listing.{times, lastOf}
 use Rattle.ledger.specs.Totals.{spentIn}
 use Rattle.ledger.specs.Ledger.{Kit, Ledger, gaugeIn, secretAt, entryAt}
 use Rattle.ledger.specs.Invariant.{Inv, Fresh}
-use Rattle.ledger.specs.Step.{Kept, Calm, Begun, Finished}
+use Rattle.ledger.specs.Step.{Kept, Calm, HeadBegun, HeadFinished}
 use Rattle.ledger.proofs.TotalLaws.{sum-same, sum-none}
 use Rattle.records.proofs.RuleLaws.{formed-spent, formed-lies, formed-held, formed-epoch, formed-by}
 use Rattle.records.proofs.CountLaws.{present-none}
@@ -81,7 +81,7 @@ module _ (κ : Kit) (l : Ledger) (inv : Inv κ l) where
       go (inr e) = absurd (clash (e .0) s)
 
 module _ (κ : Kit) (l m : Ledger) (inv : Inv κ l) (kept : Kept κ l m) where
-  pub begin-calm : Begun l m → Calm κ l m
+  pub begin-calm : HeadBegun l m → Calm κ l m
   unfolding secretAt
   begin-calm b = record { kept = kept; stillFormed = formed; sameSecrets = secrets }
     where
@@ -93,7 +93,7 @@ module _ (κ : Kit) (l m : Ledger) (inv : Inv κ l) (kept : Kept κ l m) where
       secrets n h =
           rw (b .epochUp, steady-epoch κ l inv (b .wasSteady) n h, ne-eqb (l .epoch) (l .epoch + 1) (λ e. omega arith), eq-eqb (l .epoch) (l .epoch) refl) (b .oldKept)
 
-  pub finish-calm : Finished κ l m → Calm κ l m
+  pub finish-calm : HeadFinished κ l m → Calm κ l m
   unfolding secretAt
   finish-calm b = record { kept = kept; stillFormed = formed; sameSecrets = secrets }
     where

@@ -8,10 +8,10 @@ use native.Mathlib.Omega.{arith}
 use lib.ListN.{getElem?}
 use borrow.Author.Tests.{eq-eqb}
 use Rattle.records.specs.Listing.{Entry}
-use Rattle.ledger.specs.Listing.{says, one, times, Alike, NoneTwice}
+use Rattle.ledger.specs.Listing.{says, one, times, SameEntry, NoneTwice}
 
 -- an entry says what one alike says
-says-alike : (a b : Entry) → Alike a b → says (a .nugget) (a .keycount) (a .flake) b ≡ true
+says-alike : (a b : Entry) → SameEntry a b → says (a .nugget) (a .keycount) (a .flake) b ≡ true
 says-alike a b h =
     rw (
       eq-eqb (b .nugget) (a .nugget) (sym (h .nuggets)),
@@ -20,22 +20,22 @@ says-alike a b h =
     )
 
 -- an entry that stands in the list is counted
-pub counted : (l : List Entry) (i : ℕ) (a b : Entry) → getElem? l i ≡ some b → Alike a b → 1 ≤ times (a .nugget) (a .keycount) (a .flake) l
+pub counted : (l : List Entry) (i : ℕ) (a b : Entry) → getElem? l i ≡ some b → SameEntry a b → 1 ≤ times (a .nugget) (a .keycount) (a .flake) l
 unfolding times
 counted [] i a b e h = absurd (Option·some-ne-none b (sym e))
 counted (x ∷ l) zero a b e h = let q : x ≡ b = cc in rw (q, says-alike a b h) (omega arith)
 counted (x ∷ l) (suc i) a b e h = omega (arith, counted l i a b e h)
 
 -- a first entry that stands again further on is counted twice
-again : (x : Entry) (l : List Entry) (j : ℕ) (a b : Entry) → x ≡ a → getElem? l j ≡ some b → Alike a b
+again : (x : Entry) (l : List Entry) (j : ℕ) (a b : Entry) → x ≡ a → getElem? l j ≡ some b → SameEntry a b
     → times (a .nugget) (a .keycount) (a .flake) (x ∷ l) ≤ 1 → ⊥
 unfolding times
 again x l j a b q e h most =
-    let self : Alike a a = record { nuggets = refl; keycounts = refl; flakes = refl } in
+    let self : SameEntry a a = record { nuggets = refl; keycounts = refl; flakes = refl } in
     let first : one (says (a .nugget) (a .keycount) (a .flake) x) ≡ 1 = rw (q, says-alike a a self) in
     omega (arith, first, counted l j a b e h)
 
-alike-back : (a b : Entry) → Alike a b → Alike b a
+alike-back : (a b : Entry) → SameEntry a b → SameEntry b a
 alike-back a b h = record { nuggets = sym (h .nuggets); keycounts = sym (h .keycounts); flakes = sym (h .flakes) }
 
 -- what is counted at most once stands at no two places

@@ -14,7 +14,7 @@ use Rattle.base.proofs.PickLaws.{told, both-no}
 use Rattle.words.specs.Xor.{xorl}
 use Rattle.records.specs.declared.Record.{Record}
 use Rattle.records.specs.declared.Way.{Way}
-use Rattle.records.specs.Journal.{bit, present as presentOf}
+use Rattle.records.specs.Journal.{bit, flakeCount as presentOf}
 use Rattle.records.specs.Record.{wellFormed}
 use Rattle.records.specs.Rule.{enciphered, keycountAfter, spentAfter, turned}
 use Rattle.records.specs.Listing.{Entry, entry, padsBy, padsTo}

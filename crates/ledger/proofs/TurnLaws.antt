@@ -14,26 +14,26 @@ use Rattle.base.proofs.PickLaws.{told, clash, either-off, either-told, both-no}
 use Rattle.records.specs.declared.Record.{Record}
 use Rattle.records.specs.declared.Way.{Way}
 use Rattle.records.specs.declared.Way.the-variants.{Idle, Add, Rekey}
-use Rattle.records.specs.Journal.{bit, union, shareNone, present}
+use Rattle.records.specs.Journal.{bit, union, shareNone, flakeCount}
 use Rattle.records.specs.Rule.{wayOf, sweepWay, touchedBy, enciphered, keycountAfter, spentAfter, heldAfter, epochAfter, turned}
 use Rattle.records.proofs.BitLaws.{bit-union, bit-empty, share-none-bits}
 use Rattle.records.proofs.CountLaws.{many-either}
 use Rattle.ledger.specs.Listing.{one}
 use Rattle.ledger.specs.Totals.{retiredOf}
-use Rattle.ledger.specs.Step.{Fits}
+use Rattle.ledger.specs.Step.{WayFits}
 
 -- a sweep's ways fit: the swept nugget's, and those of the nuggets left alone
-pub sweep-fits : (p head : ℕ) (r : Record) (swept : Bool) → Fits p head r (pick swept sweepWay Idle)
-unfolding Fits
+pub sweep-fits : (p head : ℕ) (r : Record) (swept : Bool) → WayFits p head r (pick swept sweepWay Idle)
+unfolding WayFits
 sweep-fits p head r true = pow-pos p
 sweep-fits p head r false = tt
 
 -- a write's way fits
-pub write-fits : (p head : ℕ) (r : Record) (t : ℕ) → t < 2 ^ p → Fits p head r (wayOf r t head)
-unfolding wayOf Fits
+pub write-fits : (p head : ℕ) (r : Record) (t : ℕ) → t < 2 ^ p → WayFits p head r (wayOf r t head)
+unfolding wayOf WayFits
 write-fits p head r t h = go (eqb t 0) (shareNone (r .spent) t) (eqb (r .epoch) head) refl refl
   where
-    go : (a b c : Bool) → shareNone (r .spent) t ≡ b → eqb (r .epoch) head ≡ c → Fits p head r (pick a Idle (pick (both b c) (Add t) (Rekey t)))
+    go : (a b c : Bool) → shareNone (r .spent) t ≡ b → eqb (r .epoch) head ≡ c → WayFits p head r (pick a Idle (pick (both b c) (Add t) (Rekey t)))
     go true b c d e = tt
     go false true true d e = (d, eqb-true (r .epoch) head e, h)
     go false true false d e = h
@@ -61,8 +61,8 @@ in-first j t f on off = go (either-told (bit j f) (bit t f) (sym (bit-union j t 
     go (inl e) = e
     go (inr e) = absurd (clash e off)
 
-pub turn-told : (p head : ℕ) (r : Record) (way : Way) → Fits p head r way → Adds head way r ⊎ Rekeyed head way r
-unfolding Fits keycountAfter epochAfter spentAfter heldAfter enciphered
+pub turn-told : (p head : ℕ) (r : Record) (way : Way) → WayFits p head r way → Adds head way r ⊎ Rekeyed head way r
+unfolding WayFits keycountAfter epochAfter spentAfter heldAfter enciphered
 turn-told p head r Idle h = inl (record {
   keycountKept = refl;
   epochKept = refl;
@@ -94,14 +94,14 @@ module _ (head : ℕ) (way : Way) (r : Record) (f : ℕ) where
   old-stays (inr a) off on = absurd (clash (rw (a .rest) at on) off)
 
 -- what a way touches and enciphers are flakes below p
-pub touched-lt : (p head : ℕ) (r : Record) (way : Way) → Fits p head r way → touchedBy way < 2 ^ p
-unfolding Fits
+pub touched-lt : (p head : ℕ) (r : Record) (way : Way) → WayFits p head r way → touchedBy way < 2 ^ p
+unfolding WayFits
 touched-lt p head r Idle h = pow-pos p
 touched-lt p head r (Add t) h = h .2
 touched-lt p head r (Rekey t) h = h
 
-pub enciphered-lt : (p head : ℕ) (r : Record) (way : Way) → Fits p head r way → r .held < 2 ^ p → enciphered way r < 2 ^ p
-unfolding Fits enciphered
+pub enciphered-lt : (p head : ℕ) (r : Record) (way : Way) → WayFits p head r way → r .held < 2 ^ p → enciphered way r < 2 ^ p
+unfolding WayFits enciphered
 enciphered-lt p head r Idle h j = pow-pos p
 enciphered-lt p head r (Add t) h j = h .2
 enciphered-lt p head r (Rekey t) h j = or-lt p (r .held) t j h
@@ -169,7 +169,7 @@ module _ (head : ℕ) (way : Way) (r : Record) (f : ℕ) where
 
 -- flakes spent before and entries listed: flakes spent afterwards and flakes retired
 pub one-tally : (p head : ℕ) (way : Way) (r : Record) → Adds head way r ⊎ Rekeyed head way r
-    → present p (r .spent) + present p (enciphered way r) ≡ present p (spentAfter way r) + retiredOf p r (turned way head r)
+    → flakeCount p (r .spent) + flakeCount p (enciphered way r) ≡ flakeCount p (spentAfter way r) + retiredOf p r (turned way head r)
 one-tally p head way r (inl a) =
     rw (le-ltb (r .keycount) (keycountAfter way r) (omega (arith, a .keycountKept)))
     (omega (arith, many-either p (bit (r .spent)) (bit (enciphered way r)) (bit (spentAfter way r)) (a .joined) (a .apart)))

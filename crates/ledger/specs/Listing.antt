@@ -37,11 +37,11 @@ lastOf n f [] = none
 lastOf n f (e ∷ es) = orElse (lastOf n f es) (pick (isFor n f e) (some e) none)
 
 -- two entries by the same nugget, keycount and flake, whatever the secret
-pub record Alike (a b : Entry) : Type 0 where
+pub record SameEntry (a b : Entry) : Type 0 where
   pub nuggets : a .nugget ≡ b .nugget
   pub keycounts : a .keycount ≡ b .keycount
   pub flakes : a .flake ≡ b .flake
 
 -- "No entry comes twice.": two places of the list with entries alike are one place
 unfoldable pub NoneTwice : List Entry → Type 0
-NoneTwice l = (i j : ℕ) (a b : Entry) → getElem? l i ≡ some a → getElem? l j ≡ some b → Alike a b → i ≡ j
+NoneTwice l = (i j : ℕ) (a b : Entry) → getElem? l i ≡ some a → getElem? l j ≡ some b → SameEntry a b → i ≡ j

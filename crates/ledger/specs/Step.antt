@@ -15,14 +15,14 @@ use Rattle.ledger.specs.Totals.{risen}
 use Rattle.ledger.specs.Ledger.{Kit, Ledger, gaugeIn, secretAt}
 
 -- the ways that keep every pad single: flakes are added where "J and T share none and its epoch is the head's"
-unfoldable pub Fits : ℕ → ℕ → Record → Way → Type 0
-Fits p head r Idle = Unit {0}
-Fits p head r (Add t) = (shareNone (r .spent) t ≡ true) × (r .epoch ≡ head) × (t < 2 ^ p)
-Fits p head r (Rekey t) = t < 2 ^ p
+unfoldable pub WayFits : ℕ → ℕ → Record → Way → Type 0
+WayFits p head r Idle = Unit {0}
+WayFits p head r (Add t) = (shareNone (r .spent) t ≡ true) × (r .epoch ≡ head) × (t < 2 ^ p)
+WayFits p head r (Rekey t) = t < 2 ^ p
 
 -- Nuggets change, each in its way. A touched flake may get any contents.
 pub record Step (κ : Kit) (way : ℕ → Way) (l m : Ledger) : Type 0 where
-  pub ways : (n : ℕ) → n < κ .n → Fits (κ .p) (l .epoch) (l .records n) (way n)
+  pub ways : (n : ℕ) → n < κ .n → WayFits (κ .p) (l .epoch) (l .records n) (way n)
   pub epochs : m .epoch ≡ l .epoch
   pub states : m .changing ≡ l .changing
   pub presents : m .present ≡ l .present
@@ -52,14 +52,14 @@ pub record Calm (κ : Kit) (l m : Ledger) : Type 0 where
   pub sameSecrets : (n : ℕ) → n < κ .n → secretAt m (l .records n .epoch) ≡ secretAt l (l .records n .epoch)
 
 -- "Begin takes a new secret: state changing, epoch plus 1, the old secret kept."
-pub record Begun (l m : Ledger) : Type 0 where
+pub record HeadBegun (l m : Ledger) : Type 0 where
   pub wasSteady : l .changing ≡ false
   pub isChanging : m .changing ≡ true
   pub epochUp : m .epoch ≡ l .epoch + 1
   pub oldKept : m .old ≡ l .present
 
 -- "Finish makes the state steady": nothing is left
-pub record Finished (κ : Kit) (l m : Ledger) : Type 0 where
+pub record HeadFinished (κ : Kit) (l m : Ledger) : Type 0 where
   pub noneLeft : (n : ℕ) → n < κ .n → l .records n .epoch ≡ l .epoch
   pub epochKept : m .epoch ≡ l .epoch
   pub presentKept : m .present ≡ l .present

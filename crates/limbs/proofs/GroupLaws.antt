@@ -12,7 +12,7 @@ use Rattle.words.specs.Le.{num}
 use Rattle.limbs.specs.declared.Limbs.{Limbs}
 use Rattle.limbs.specs.Limbs.{at, value, p}
 use Rattle.limbs.specs.Bounds.{Below, Fives, stepBy, stepsBy}
-use Rattle.limbs.specs.Lanes.{laneOf, blockAt, sum, weighed, Level, Fits, Multiplies, Blocks, Turned}
+use Rattle.limbs.specs.Lanes.{laneOf, blockAt, sumByPowers, weighed, Level, LanesFit, Multiplies, Blocks, Turned}
 use Rattle.limbs.proofs.Field.{mod-in}
 use Rattle.limbs.proofs.Digits.{wraps}
 use Rattle.limbs.proofs.TurnLaws.{wider, steps-append}
@@ -34,7 +34,7 @@ flips r x n0 n1 n2 n3 =
 -- four turns with the blocks from `at` on
 four-steps : (r x at : ℕ) (m : List ℕ)
     → stepsBy (2 ^ 24) 4 r x (drop at m)
-    ≡ (x * (r * r * r * r) + sum r (blockAt m (at + 16 * 0)) (blockAt m (at + 16 * 1)) (blockAt m (at + 16 * 2)) (blockAt m (at + 16 * 3))) % p
+    ≡ (x * (r * r * r * r) + sumByPowers r (blockAt m (at + 16 * 0)) (blockAt m (at + 16 * 1)) (blockAt m (at + 16 * 2)) (blockAt m (at + 16 * 3))) % p
 unfolding stepsBy stepBy
 four-steps r x at m =
     let b0 = blockAt m at in
@@ -54,7 +54,7 @@ none-yet r a m = refl
 pub four-more : (r a i : ℕ) (m : List ℕ)
     → stepsBy (2 ^ 24) (4 * (i + 1)) r a m
     ≡ (stepsBy (2 ^ 24) (4 * i) r a m * (r * r * r * r)
-    + sum r (blockAt m (64 * i + 16 * 0)) (blockAt m (64 * i + 16 * 1)) (blockAt m (64 * i + 16 * 2)) (blockAt m (64 * i + 16 * 3)))
+    + sumByPowers r (blockAt m (64 * i + 16 * 0)) (blockAt m (64 * i + 16 * 1)) (blockAt m (64 * i + 16 * 2)) (blockAt m (64 * i + 16 * 3)))
     % p
 four-more r a i m =
     let e : 4 * (i + 1) ≡ 4 * i + 4 = omega arith in
@@ -98,7 +98,7 @@ gathered-all r l h e =
     rw e
     (four-turns (2 ^ 26) p wraps r 0 (value (laneOf h 0)) (value (laneOf h 1)) (value (laneOf h 2)) (value (laneOf h 3)) ∙ ap (λ (z : ℕ). z % p) (omega arith))
 
-first-sum : (r a b0 b1 b2 b3 : ℕ) → sum r (a + b0) b1 b2 b3 ≡ a * (r * r * r * r) + sum r b0 b1 b2 b3
+first-sum : (r a b0 b1 b2 b3 : ℕ) → sumByPowers r (a + b0) b1 b2 b3 ≡ a * (r * r * r * r) + sumByPowers r b0 b1 b2 b3
 first-sum r a b0 b1 b2 b3 = omega arith
 
 -- the first four blocks are four turns
@@ -108,10 +108,10 @@ first-lanes r {a} m h b =
     let b1 = blockAt m 16 in
     let b2 = blockAt m 32 in
     let b3 = blockAt m 48 in
-    let e : weighed r h ≡ value a * (r * r * r * r) + sum r b0 b1 b2 b3 =
+    let e : weighed r h ≡ value a * (r * r * r * r) + sumByPowers r b0 b1 b2 b3 =
     rw (b .zeroth, b .rest 1 (lit< tt) (lit< tt), b .rest 2 (lit< tt) (lit< tt), b .rest 3 (lit< tt) (lit< tt)) (first-sum r (value a) b0 b1 b2 b3) in
-    ap (λ (z : ℕ). z % p) e ∙ sym (freed (2 ^ 26) p wraps (value a) (r * r * r * r) (sum r b0 b1 b2 b3))
-    ∙ sym (four-more r (value a % p) 0 m ∙ ap (λ (z : ℕ). (z * (r * r * r * r) + sum r b0 b1 b2 b3) % p) (none-yet r (value a % p) m))
+    ap (λ (z : ℕ). z % p) e ∙ sym (freed (2 ^ 26) p wraps (value a) (r * r * r * r) (sumByPowers r b0 b1 b2 b3))
+    ∙ sym (four-more r (value a % p) 0 m ∙ ap (λ (z : ℕ). (z * (r * r * r * r) + sumByPowers r b0 b1 b2 b3) % p) (none-yet r (value a % p) m))
 
 -- the next four blocks are four turns more
 pub more-lanes : (r a i : ℕ) {s : Limbs} (m q h v : List ℕ) → value s % p ≡ r * r * r * r % p → Level s q → Turned q m (64 * i) h v
@@ -128,5 +128,5 @@ more-lanes r a i {s} m q h v power level turned e =
 pub multiplies : {s t : Limbs} (q v : List ℕ) → Level s q → Level t v → Below (2 ^ 26 + 2 ^ 20) s → Fives s t → Multiplies q v
 multiplies q v a b small five = record { loose = λ l h. rw (a .at l h) small; five = λ l h. rw (a .at l h, b .at l h) five }
 
-pub turned-fits : (q m : List ℕ) (at : ℕ) (h v : List ℕ) → Turned q m at h v → Fits v
+pub turned-fits : (q m : List ℕ) (at : ℕ) (h v : List ℕ) → Turned q m at h v → LanesFit v
 turned-fits q m at h v turned = record { at = λ l h. wider (lit≤ tt) (turned .each l h .loose) }

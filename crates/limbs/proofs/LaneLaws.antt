@@ -12,7 +12,7 @@ use Rattle.base.proofs.PickLaws.{told}
 use Rattle.limbs.specs.declared.Limbs.{Limbs}
 use Rattle.limbs.specs.Limbs.{at, value, p}
 use Rattle.limbs.specs.Bounds.{Below, Stands, Holds, Sums, Fives}
-use Rattle.limbs.specs.Lanes.{laneOf, blockAt, Put, Blocks}
+use Rattle.limbs.specs.Lanes.{laneOf, blockAt, LanePut, Blocks}
 use Rattle.limbs.proofs.Field.{plus}
 use Rattle.limbs.proofs.Digits.{wraps}
 use Rattle.limbs.proofs.TurnLaws.{wider, sums-value, sums-below}
@@ -75,7 +75,7 @@ module _ (w : List ℕ) (l : ℕ) (x : Limbs) (long : length w ≡ 20) (small : 
   at4 : getD w4 (16 + l) 0 ≡ x .l4
   at4 = getD-set-same w3 (16 + l) (x .l4) 0 (omega (arith, long3))
 
-  pub put-all : Put l x w w4
+  pub put-all : LanePut l x w w4
   put-all =
       record {
         long = length-set w3 (16 + l) (x .l4) ∙ long3 ∙ sym long;
@@ -91,7 +91,7 @@ module _ (w : List ℕ) (l : ℕ) (x : Limbs) (long : length w ≡ 20) (small : 
       }
 
 -- a fact of the lanes below l, and what is true of x in lane l
-pub done-more : (Q : ℕ → Limbs → Type 0) {l : ℕ} {x : Limbs} {w v : List ℕ} → l < 4 → Put l x w v → Q l x → ((j : ℕ) → j < l → Q j (laneOf w j))
+pub done-more : (Q : ℕ → Limbs → Type 0) {l : ℕ} {x : Limbs} {w v : List ℕ} → l < 4 → LanePut l x w v → Q l x → ((j : ℕ) → j < l → Q j (laneOf w j))
     → (j : ℕ) → j < l + 1 → Q j (laneOf v j)
 done-more Q {l} {x} {w} {v} small put now old j h =
     ⊎-elim
@@ -102,7 +102,7 @@ done-more Q {l} {x} {w} {v} small put now old j h =
     (told (ltb j l))
 
 -- the lanes from l on are as they were
-pub left-more : {l : ℕ} {x : Limbs} (u : List ℕ) {w v : List ℕ} → Put l x w v → ((j : ℕ) → l ≤ j → j < 4 → laneOf w j ≡ laneOf u j)
+pub left-more : {l : ℕ} {x : Limbs} (u : List ℕ) {w v : List ℕ} → LanePut l x w v → ((j : ℕ) → l ≤ j → j < 4 → laneOf w j ≡ laneOf u j)
     → (j : ℕ) → l + 1 ≤ j → j < 4 → laneOf v j ≡ laneOf u j
 left-more u put old j h k = put .others j k (λ z. omega arith) ∙ old j (omega arith) k
 
@@ -139,7 +139,7 @@ fives-below f b =
 
 -- a joins the first of four blocks
 pub begun : {a n x : Limbs} (m w : List ℕ) {v : List ℕ} → ((j : ℕ) → j < 4 → Holds (blockAt m (16 * j)) (laneOf w j)) → Below (2 ^ 26) a → n ≡ laneOf w 0
-    → Sums a n x → Put 0 x w v → Blocks a m v
+    → Sums a n x → LanePut 0 x w v → Blocks a m v
 begun {a} {n} {x} m w {v} holds small e s put =
     let n-small : Below (2 ^ 26) n = rw e (holds 0 (lit< tt) .small) in
     let n-whole : value n ≡ blockAt m 0 = ap value e ∙ holds 0 (lit< tt) .whole in

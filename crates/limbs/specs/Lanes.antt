@@ -18,14 +18,14 @@ abbrev pub blockAt : List ℕ → ℕ → ℕ
 blockAt m at = num (part at 16 m) + 2 ^ 104 * 2 ^ 24
 
 -- four numbers, each times its power of r: what is in lane 0 has four turns before it, what is in lane 3 one
-abbrev pub sum : ℕ → ℕ → ℕ → ℕ → ℕ → ℕ
-sum r a b c d = a * (r * r * r * r) + b * (r * r * r) + c * (r * r) + d * r
+abbrev pub sumByPowers : ℕ → ℕ → ℕ → ℕ → ℕ → ℕ
+sumByPowers r a b c d = a * (r * r * r * r) + b * (r * r * r) + c * (r * r) + d * r
 
 abbrev pub weighed : ℕ → List ℕ → ℕ
-weighed r h = sum r (value (laneOf h 0)) (value (laneOf h 1)) (value (laneOf h 2)) (value (laneOf h 3))
+weighed r h = sumByPowers r (value (laneOf h 0)) (value (laneOf h 1)) (value (laneOf h 2)) (value (laneOf h 3))
 
 -- v has x in lane l, and in the others what w has
-pub record Put (l : ℕ) (x : Limbs) (w v : List ℕ) : Type 0 where
+pub record LanePut (l : ℕ) (x : Limbs) (w v : List ℕ) : Type 0 where
   pub long : length v ≡ length w
   pub here : laneOf v l ≡ x
   pub others : (j : ℕ) → j < 4 → (j ≡ l → ⊥) → laneOf v j ≡ laneOf w j
@@ -35,7 +35,7 @@ pub record Level (x : Limbs) (h : List ℕ) : Type 0 where
   pub at : (l : ℕ) → l < 4 → laneOf h l ≡ x
 
 -- lanes that may be multiplied
-pub record Fits (h : List ℕ) : Type 0 where
+pub record LanesFit (h : List ℕ) : Type 0 where
   pub at : (l : ℕ) → l < 4 → Below (2 ^ 27) (laneOf h l)
 
 -- factors, and five times their limbs
@@ -45,7 +45,7 @@ pub record Multiplies (q v : List ℕ) : Type 0 where
 
 -- the first four blocks, and a in lane 0
 pub record Blocks (a : Limbs) (m h : List ℕ) : Type 0 where
-  pub fits : Fits h
+  pub fits : LanesFit h
   pub zeroth : value (laneOf h 0) ≡ value a + blockAt m 0
   pub rest : (l : ℕ) → 0 < l → l < 4 → value (laneOf h l) ≡ blockAt m (16 * l)
 

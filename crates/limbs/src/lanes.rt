@@ -9,7 +9,7 @@ ghost use Rattle.base.specs.Lists.{part};
 ghost use Rattle.words.specs.Le.{num};
 ghost use Rattle.limbs.specs.Limbs.{value, p};
 ghost use Rattle.limbs.specs.Bounds.{Below, Stands, Fives, Ran, stepsBy};
-ghost use Rattle.limbs.specs.Lanes.{laneOf, weighed, Put, Level, Fits, Multiplies, Blocks, Turned};
+ghost use Rattle.limbs.specs.Lanes.{laneOf, weighed, LanePut, Level, LanesFit, Multiplies, Blocks, Turned};
 
 struct Block {
     lo: u64,
@@ -33,7 +33,7 @@ fn lane(h: &[u64; 20], l: usize) -> Limbs
 // x into lane l.
 fn put(h: &mut [u64; 20], l: usize, x: Limbs)
     requires { ⌜ (length (now h) ≡ 20) × (l < 4) ⌝ }
-    ensures { λ _. ⌜ Put l x (now (h .entry)) (now (h .exit)) ⌝ }
+    ensures { λ _. ⌜ LanePut l x (now (h .entry)) (now (h .exit)) ⌝ }
 {
     h[l] = x.l0 as u64;
     h[4 + l] = x.l1 as u64;
@@ -90,7 +90,7 @@ fn mul_add(h: Limbs, r: Limbs, v: Limbs, n: Block) -> Limbs
 
 // Each lane times that of q, and the four blocks at `at` added.
 fn turn_four(h: &mut [u64; 20], q: &[u64; 20], v: &[u64; 20], m: &[u8], at: usize)
-    requires { ⌜ (length (now h) ≡ 20) × Fits (now h) × Multiplies (now q) (now v) × (at + 64 ≤ length (now m)) ⌝ }
+    requires { ⌜ (length (now h) ≡ 20) × LanesFit (now h) × Multiplies (now q) (now v) × (at + 64 ≤ length (now m)) ⌝ }
     ensures { λ _. ⌜ Turned (now (q .entry)) (now (m .entry)) at (now (h .entry)) (now (h .exit)) ⌝ }
 {
     let mut l = 0;
@@ -121,7 +121,7 @@ fn first(a: Limbs, m: &[u8]) -> [u64; 20]
 
 // The lanes added, each times its power of r.
 fn fold(h: &[u64; 20], r: Limbs, v: Limbs) -> Limbs
-    requires { ⌜ Fits (now h) × Below (2 ^ 26 + 2 ^ 20) r × Fives r v ⌝ }
+    requires { ⌜ LanesFit (now h) × Below (2 ^ 26 + 2 ^ 20) r × Fives r v ⌝ }
     ensures { λ x. ⌜ Ran (weighed (value r) (now (h .entry)) % p) x ⌝ }
 {
     let zeros = [0u8; 16];

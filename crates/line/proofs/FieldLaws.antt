@@ -10,7 +10,7 @@ use Rattle.base.specs.Lists.{every}
 use Rattle.base.proofs.PickLaws.{no, both-on, both-left, both-right}
 use Rattle.line.specs.Decimal.{decimal}
 use Rattle.line.specs.Lines.{shareText, reportText}
-use Rattle.line.specs.Reading.{upTo, past, fieldAt, value}
+use Rattle.line.specs.Reading.{upTo, past, fieldAt, decimalValue}
 use Rattle.line.proofs.ReadLaws.{free, free-append, up-to, up-to-end, past-free, past-to, Far, decimal-free, far-newline, far-space, decimal-value}
 
 -- name and value
@@ -134,18 +134,18 @@ module _ (n m l k h d : ℕ) where
       rw row-is at (fields-free 10 (row n m l k h) (end d) refl refl r (decimal-free 10 d far-newline))
 
   -- its numbers are read back
-  pub nuggets-told : n < 10 ^ 10 → value (fieldAt 0 (reportText n m l k h d)) ≡ n
+  pub nuggets-told : n < 10 ^ 10 → decimalValue (fieldAt 0 (reportText n m l k h d)) ≡ n
   unfolding valueAt
-  nuggets-told s = ap value (field-is 0) ∙ decimal-value n s
+  nuggets-told s = ap decimalValue (field-is 0) ∙ decimal-value n s
 
-  pub moved-told : m < 10 ^ 10 → value (fieldAt 1 (reportText n m l k h d)) ≡ m
+  pub moved-told : m < 10 ^ 10 → decimalValue (fieldAt 1 (reportText n m l k h d)) ≡ m
   unfolding valueAt
-  moved-told s = ap value (field-is 1) ∙ decimal-value m s
+  moved-told s = ap decimalValue (field-is 1) ∙ decimal-value m s
 
-  pub flakes-told : k < 10 ^ 10 → value (fieldAt 3 (reportText n m l k h d)) ≡ k
+  pub flakes-told : k < 10 ^ 10 → decimalValue (fieldAt 3 (reportText n m l k h d)) ≡ k
   unfolding valueAt
-  flakes-told s = ap value (field-is 3) ∙ decimal-value k s
+  flakes-told s = ap decimalValue (field-is 3) ∙ decimal-value k s
 
-  pub done-told : d < 10 ^ 10 → value (fieldAt 5 (reportText n m l k h d)) ≡ d
+  pub done-told : d < 10 ^ 10 → decimalValue (fieldAt 5 (reportText n m l k h d)) ≡ d
   unfolding valueAt
-  done-told s = ap value (field-is 5) ∙ decimal-value d s
+  done-told s = ap decimalValue (field-is 5) ∙ decimal-value d s

@@ -50,7 +50,7 @@ pub class-le : (k : Class) → length (classText k) ≤ 7
 class-le C.Nothing = lit≤ tt
 class-le C.Form = lit≤ tt
 class-le C.Key = lit≤ tt
-class-le C.Changed = lit≤ tt
+class-le C.Altered = lit≤ tt
 class-le C.Request = lit≤ tt
 class-le C.Spent = lit≤ tt
 

@@ -12,7 +12,7 @@ use borrow.Author.Tests.{eq-eqb, ne-eqb}
 use Rattle.base.specs.Pick.{pick}
 use Rattle.base.proofs.PickLaws.{yes, no}
 use Rattle.line.specs.Decimal.{digits, widthIn, decimal, longDecimal}
-use Rattle.line.specs.Reading.{upTo, past, valueFrom, value}
+use Rattle.line.specs.Reading.{upTo, past, valueFrom, decimalValue}
 use Rattle.line.proofs.DecimalLaws.{width-holds}
 
 -- no byte of the list is c
@@ -132,17 +132,17 @@ unfolding valueFrom
 value-more a [] b = refl
 value-more a (x ∷ l) b = value-more (a * 10 + (x - 48)) l b
 
-value-digits : (w n : ℕ) → n < 10 ^ w → value (digits w n) ≡ n
+value-digits : (w n : ℕ) → n < 10 ^ w → decimalValue (digits w n) ≡ n
 unfolding digits valueFrom
 value-digits zero n h = omega arith
 value-digits (suc w) n h =
     let big : n < 10 ^ w * 10 = rw (pow-suc 10 w) at h in
     value-more 0 (digits w (n / 10)) (48 + n % 10) ∙ rw (value-digits w (n / 10) (omega arith)) (omega arith)
 
-pub decimal-value : (n : ℕ) → n < 10 ^ 10 → value (decimal n) ≡ n
+pub decimal-value : (n : ℕ) → n < 10 ^ 10 → decimalValue (decimal n) ≡ n
 unfolding decimal
 decimal-value n h = value-digits (widthIn 9 n) n (width-holds 9 n h)
 
-pub long-value : (n : ℕ) → n < 10 ^ 20 → value (longDecimal n) ≡ n
+pub long-value : (n : ℕ) → n < 10 ^ 20 → decimalValue (longDecimal n) ≡ n
 unfolding longDecimal
 long-value n h = value-digits (widthIn 19 n) n (width-holds 19 n h)

@@ -42,7 +42,7 @@ abbrev pub classText : Class → List ℕ
 classText C.Nothing = []
 classText C.Form = t-form
 classText C.Key = t-key
-classText C.Changed = t-altered
+classText C.Altered = t-altered
 classText C.Request = t-request
 classText C.Spent = t-spent
 

@@ -33,5 +33,5 @@ unfoldable pub valueFrom : ℕ → List ℕ → ℕ
 valueFrom a [] = a
 valueFrom a (b ∷ l) = valueFrom (a * 10 + (b - 48)) l
 
-abbrev pub value : List ℕ → ℕ
-value l = valueFrom 0 l
+abbrev pub decimalValue : List ℕ → ℕ
+decimalValue l = valueFrom 0 l

@@ -150,7 +150,7 @@ fn put_class(out: &mut [u8], at: usize, class: Class) -> usize
         Class::Nothing => at,
         Class::Form => put(out, at, b"form"),
         Class::Key => put(out, at, b"key"),
-        Class::Changed => put(out, at, b"altered"),
+        Class::Altered => put(out, at, b"altered"),
         Class::Request => put(out, at, b"request"),
         Class::Spent => put(out, at, b"spent"),
     }

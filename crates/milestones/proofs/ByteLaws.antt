@@ -24,7 +24,7 @@ use Rattle.tree.specs.Renewed.{storedDown, built}
 use Rattle.keys.specs.Keys.{checkOf, sealOf}
 use Rattle.drive.specs.Drive.{zeros}
 use Rattle.drive.specs.Head.{mark, frontRow, frontValues, frontIn, headOf}
-use Rattle.milestones.specs.Spread.{wide, laidTo, treed, driveOver, volumeOver}
+use Rattle.milestones.specs.Spread.{wideShape, laidTo, treed, driveOver, volumeOver}
 
 -- bytes stored over bytes
 bytes-set : (l : List ℕ) (i a : ℕ) → a < 256 → Bytes l → Bytes (set l i a)
@@ -107,5 +107,5 @@ over-bytes n g =
     let d = driveOver n g in
     let front = row-bytes frontRow (frontValues d) (mark-bytes & tt & tt & tt & tt & tt & tt & bytes-zeros 16 & tt & check-bytes (zeros 32) (zeros 16) 2 & tt) in
     bytes-sets (headOf d) (treed n g) 0
-    (down-bytes (wide n) (2 * leaves n - 1) (laidTo (wide n) g n (zeros (lengthOf (wide n)))) (laid-bytes (wide n) g n (zeros (lengthOf (wide n))) (bytes-zeros (lengthOf (wide n)))))
+    (down-bytes (wideShape n) (2 * leaves n - 1) (laidTo (wideShape n) g n (zeros (lengthOf (wideShape n)))) (laid-bytes (wideShape n) g n (zeros (lengthOf (wideShape n))) (bytes-zeros (lengthOf (wideShape n)))))
     (bytes-append (frontIn d) _ front (seal-bytes (zeros 32) (frontIn d) (d .node)))

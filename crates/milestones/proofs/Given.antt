@@ -17,7 +17,7 @@ use Rattle.standings.specs.Standing.{standingText, standingIn, taken}
 use Rattle.standings.proofs.StandingLaws.{Possible}
 use Rattle.standings.proofs.TakenLaws.{taken-possible}
 use Rattle.milestones.specs.Reported.{standingOf, toldText, Reporting, toldBy, Given}
-use Rattle.milestones.specs.Spread.{recordFor, countsFor, wide, driveOver, volumeOver}
+use Rattle.milestones.specs.Spread.{recordFor, countsFor, wideShape, driveOver, volumeOver}
 use Rattle.milestones.proofs.Taken.{line-taken}
 use Rattle.milestones.proofs.Spread.{spread-formed, spread-codes, spread-counts}
 use Rattle.milestones.proofs.Over.{over-record, over-reports}
@@ -35,7 +35,7 @@ counts-same s v t n (suc k) e h = rw (counts-same s v t n k e (omega arith), e k
 
 -- what such a volume's report tells
 told : (t : Standing) → (let g = recordFor t in reportAnswer (driveOver (t .n) g) (volumeOver (t .n) g) ≡ A.Accepted)
-    → (let g = recordFor t in countsIn (wide (t .n)) 64 2 (volumeOver (t .n) g) (t .n) ≡ t .counts)
+    → (let g = recordFor t in countsIn (wideShape (t .n)) 64 2 (volumeOver (t .n) g) (t .n) ≡ t .counts)
     → (let g = recordFor t in standingOf (reportOf (driveOver (t .n) g) (volumeOver (t .n) g)) ≡ t)
 unfolding driveOver
 told t e same =
@@ -46,9 +46,9 @@ told t e same =
 pub possible-given : (t : Standing) → Possible t → Given t
 possible-given t p =
     let g = recordFor t in
-    let reports = over-reports (t .n) (p .some) (p .few) g (spread-codes (wide (t .n)) t) (spread-formed t) in
-    let records = over-record (t .n) (p .some) (p .few) g (spread-codes (wide (t .n)) t) (spread-formed t) in
-    let same = counts-same (wide (t .n)) (volumeOver (t .n) g) t (t .n) (t .n) records (omega arith) ∙ spread-counts t p in
+    let reports = over-reports (t .n) (p .some) (p .few) g (spread-codes (wideShape (t .n)) t) (spread-formed t) in
+    let records = over-record (t .n) (p .some) (p .few) g (spread-codes (wideShape (t .n)) t) (spread-formed t) in
+    let same = counts-same (wideShape (t .n)) (volumeOver (t .n) g) t (t .n) (t .n) records (omega arith) ∙ spread-counts t p in
     (record { drive = driveOver (t .n) g; volume = volumeOver (t .n) g; accepted = reports }, over-bytes (t .n) g, told t reports same)
 
 -- an accepted report's line is the line of its numbers

@@ -18,7 +18,7 @@ use Rattle.answers.specs.Numbers.{accepts}
 use Rattle.layout.specs.declared.Shape.{Shape}
 use Rattle.layout.specs.Shape.{sized, known, inLimits, leaves, widthOf}
 use Rattle.layout.specs.Parts.{recordAt, tagAt, nodeAt, lengthOf}
-use Rattle.layout.specs.Lent.{Lent}
+use Rattle.layout.specs.Shaped.{Shaped}
 use Rattle.layout.proofs.Places.{record-room, records-above, parts-inside}
 use Rattle.records.specs.declared.Record.{Record}
 use Rattle.records.specs.Record.{recordBytes, recordOf, against, wellFormed, Codes}
@@ -39,7 +39,7 @@ use Rattle.drive.specs.Opening.{inForm, headStands, openingOf}
 use Rattle.drive.proofs.OpeningLaws.{opening-by}
 use Rattle.opening.proofs.Reopens.{length-head}
 use Rattle.reports.specs.Report.{reportAnswer}
-use Rattle.milestones.specs.Spread.{wide, laidTo, treed, driveOver, volumeOver}
+use Rattle.milestones.specs.Spread.{wideShape, laidTo, treed, driveOver, volumeOver}
 
 -- records stored leave the length, and are read back
 length-laid : (s : Shape) (g : ℕ → Record) (k : ℕ) (v : List ℕ) → length (laidTo s g k v) ≡ length v
@@ -47,7 +47,7 @@ unfolding laidTo
 length-laid s g zero v = refl
 length-laid s g (suc k) v = length-sets (laidTo s g k v) (recordAt s k) (recordBytes s (g k)) ∙ length-laid s g k v
 
-laid-record : (s : Shape) (g : ℕ → Record) (k : ℕ) (v : List ℕ) (j : ℕ) → ((m : ℕ) → Codes s (g m)) → Lent s v → k ≤ s .n → j < k → recordOf s (laidTo s g k v) j ≡ g j
+laid-record : (s : Shape) (g : ℕ → Record) (k : ℕ) (v : List ℕ) (j : ℕ) → ((m : ℕ) → Codes s (g m)) → Shaped s v → k ≤ s .n → j < k → recordOf s (laidTo s g k v) j ≡ g j
 unfolding laidTo
 laid-record s g zero v j w l h i = absurd (omega arith)
 laid-record s g (suc k) v j w l h i = go (told (eqb j k)) (λ b. laid-record s g k v j w l (omega arith) b)
@@ -62,32 +62,32 @@ laid-record s g (suc k) v j w l h i = go (told (eqb j k)) (λ b. laid-record s g
         let b : j < k = omega (arith, eqb-false j k e) in
         record-told s (recordAt s j) (sets (laidTo s g k v) (recordAt s k) (recordBytes s (g k))) (laidTo s g k v) (part-sets-below (recordAt s j) (widthOf s) (laidTo s g k v) (recordAt s k) (recordBytes s (g k)) (records-above s j k b)) ∙ again b
 
-module _ (n : ℕ) (some : 1 ≤ n) (few : n ≤ 16384) (g : ℕ → Record) (codes : (k : ℕ) → Codes (wide n) (g k)) (good : (k : ℕ) → wellFormed 64 (against 2 true) (g k) ≡ true) where
+module _ (n : ℕ) (some : 1 ≤ n) (few : n ≤ 16384) (g : ℕ → Record) (codes : (k : ℕ) → Codes (wideShape n) (g k)) (good : (k : ℕ) → wellFormed 64 (against 2 true) (g k) ≡ true) where
   abbrev s : Shape
-  s = wide n
+  s = wideShape n
 
   abbrev laid : List ℕ
   laid = laidTo s g n (zeros (lengthOf s))
 
-  limited : inLimits (wide n) ≡ true
+  limited : inLimits (wideShape n) ≡ true
   unfolding inLimits sized known
   limited = both-on (both-on (le-leb 1 n some) (both-on (le-leb n 16384 few) refl)) refl
 
-  zeros-lent : Lent (wide n) (zeros (lengthOf (wide n)))
+  zeros-lent : Shaped (wideShape n) (zeros (lengthOf (wideShape n)))
   zeros-lent = record { limited = limited; size = length-replicate {A = ℕ} (lengthOf s) 0 }
 
-  laid-lent : Lent (wide n) (laidTo (wide n) g n (zeros (lengthOf (wide n))))
+  laid-lent : Shaped (wideShape n) (laidTo (wideShape n) g n (zeros (lengthOf (wideShape n))))
   laid-lent = record { limited = limited; size = length-laid s g n (zeros (lengthOf s)) ∙ zeros-lent .size }
 
-  treed-lent : Lent (wide n) (treed n g)
+  treed-lent : Shaped (wideShape n) (treed n g)
   unfolding treed
   treed-lent = outside-lent (built-outside s laid) laid-lent
 
-  treed-good : AllGood (wide n) (treed n g)
+  treed-good : AllGood (wideShape n) (treed n g)
   unfolding treed
   treed-good = built-good s laid laid-lent
 
-  treed-record : (k : ℕ) → k < n → recordOf (wide n) (treed n g) k ≡ g k
+  treed-record : (k : ℕ) → k < n → recordOf (wideShape n) (treed n g) k ≡ g k
   unfolding treed
   treed-record k h =
       sym (record-told s (recordAt s k) laid (built s laid) (outside-alike k (built-outside s laid) h .records))
@@ -102,26 +102,26 @@ module _ (n : ℕ) (some : 1 ≤ n) (few : n ≤ 16384) (g : ℕ → Record) (co
   unfolding volumeOver
   above at m h = part-sets-above at m (treed n g) 0 (headOf (driveOver n g)) (omega (arith, head-long))
 
-  node-over : (i : ℕ) → 1 ≤ i → nodeIn (wide n) (volumeOver n g) i ≡ nodeIn (wide n) (treed n g) i
+  node-over : (i : ℕ) → 1 ≤ i → nodeIn (wideShape n) (volumeOver n g) i ≡ nodeIn (wideShape n) (treed n g) i
   node-over i h = above (nodeAt s i) 32 (omega (arith, node-above s i h))
 
-  alike-over : (k : ℕ) → Alike (wide n) (treed n g) (volumeOver n g) k
+  alike-over : (k : ℕ) → Alike (wideShape n) (treed n g) (volumeOver n g) k
   alike-over k = record { records = sym (above (recordAt s k) (widthOf s) (omega arith)); tags = sym (above (tagAt s k 0) (16 * s .p) (omega arith)) }
 
-  good-over : AllGood (wide n) (volumeOver n g)
+  good-over : AllGood (wideShape n) (volumeOver n g)
   good-over i a b =
       node-over i a ∙ treed-good i a b
       ∙ made-alike s (treed n g) (volumeOver n g) i (λ h. (sym (node-over (2 * i) (omega arith)), sym (node-over (2 * i + 1) (omega arith)))) (λ h k. alike-over (i - leaves (s .n)))
 
-  lent-over : Lent (wide n) (volumeOver n g)
+  lent-over : Shaped (wideShape n) (volumeOver n g)
   unfolding volumeOver
   lent-over = record { limited = limited; size = length-sets (treed n g) 0 (headOf (driveOver n g)) ∙ treed-lent .size }
 
   -- its records are those
-  pub over-record : (k : ℕ) → k < n → recordOf (wide n) (volumeOver n g) k ≡ g k
+  pub over-record : (k : ℕ) → k < n → recordOf (wideShape n) (volumeOver n g) k ≡ g k
   over-record k h = sym (record-told s (recordAt s k) (treed n g) (volumeOver n g) (alike-over k .records)) ∙ treed-record k h
 
-  formed-over : (k : ℕ) → k < n → formed (wide n) (against 2 true) (volumeOver n g) k ≡ true
+  formed-over : (k : ℕ) → k < n → formed (wideShape n) (against 2 true) (volumeOver n g) k ≡ true
   formed-over k h = rw (over-record k h) (good k)
 
   opens-over : openingOf (driveOver n g) (volumeOver n g) ≡ A.Accepted

@@ -11,7 +11,7 @@ use Rattle.base.specs.Lists.{every}
 use Rattle.base.proofs.PickLaws.{both-on}
 use Rattle.line.specs.Decimal.{digits, widthIn, decimal}
 use Rattle.line.specs.Lines.{newline, shareText, reportText}
-use Rattle.line.specs.Reading.{upTo, past, fieldAt, valueFrom, value}
+use Rattle.line.specs.Reading.{upTo, past, fieldAt, valueFrom, decimalValue}
 use Rattle.line.proofs.ReadLaws.{free, up-to, past-to, Far, decimal-free, far-newline, far-space, decimal-value}
 use Rattle.line.proofs.FieldLaws.{Named, fieldsText, valueAt, plain, fields-told, fields-free, share-free}
 use Rattle.reports.specs.Counts.{shareOf}
@@ -28,7 +28,7 @@ use Rattle.fleets.proofs.FullLaws.{AllPossible, fleet-full}
 
 -- a share is read back: whole percents up to the point, hundredths behind it
 abbrev shareIn : List ℕ → ℕ
-shareIn l = value (upTo 46 l) * 100 + value (past 46 l)
+shareIn l = decimalValue (upTo 46 l) * 100 + decimalValue (past 46 l)
 
 far-point : Far 46
 far-point x h = ne-eqb (48 + x) 46 (λ e. omega (arith, e))
@@ -94,9 +94,9 @@ module _ (f : Fleet) where
       ∙ ap (λ (l : List ℕ). fieldAt k l) (up-to 10 (fieldsText fields last) [] row-free)
       ∙ fields-told k fields last row-plain (decimal-free 32 (f .last) far-space)
 
-  pub last-shown : f .last < 10 ^ 10 → value (fieldAt 7 (upTo 10 (closedLine f))) ≡ f .last
+  pub last-shown : f .last < 10 ^ 10 → decimalValue (fieldAt 7 (upTo 10 (closedLine f))) ≡ f .last
   unfolding valueAt
-  last-shown h = ap value (closed-field 7) ∙ decimal-value (f .last) h
+  last-shown h = ap decimalValue (closed-field 7) ∙ decimal-value (f .last) h
 
   pub share-shown : fieldAt 5 (upTo 10 (closedLine f)) ≡ shareText (shareOf (f .total .n) (f .total .counts))
   unfolding valueAt

@@ -8,7 +8,7 @@ use lib.Dec.{eqb, ltb}
 use borrow.Author.Tests.{lt-ltb, le-ltb, ltb-true, ltb-false}
 use Rattle.base.specs.Pick.{pick, either}
 use Rattle.base.proofs.PickLaws.{told, both-on}
-use Rattle.records.specs.Journal.{bit, many, present, allFlakes}
+use Rattle.records.specs.Journal.{bit, many, flakeCount, allFlakes}
 use Rattle.layout.specs.declared.Shape.{Shape}
 use Rattle.records.specs.Record.{against, wellFormed, Codes}
 use Rattle.records.proofs.BitLaws.{lies-self}
@@ -31,7 +31,7 @@ many-below (suc n) h g e = go (told (ltb n h)) (many-below n h g (λ f l. e f (o
     go (inr t) m = let k = ltb-false n h t in rw (e n (omega arith), t) (omega (arith, m))
 
 -- the first h flakes are h
-present-all : (h : ℕ) → h ≤ 64 → present 64 (allFlakes h) ≡ h
+present-all : (h : ℕ) → h ≤ 64 → flakeCount 64 (allFlakes h) ≡ h
 present-all h l = many-below 64 h (bit (allFlakes h)) (λ f s. bit-all h f ∙ both-on (lt-ltb f 64 s) refl) ∙ omega arith
 
 few : (t : Standing) (k : ℕ) → flakesFor t k ≤ 64

@@ -14,7 +14,7 @@ use Rattle.answers.specs.declared.Answer.the-variants as A
 use Rattle.answers.specs.Numbers.{accepts}
 use Rattle.layout.specs.declared.Shape.{Shape}
 use Rattle.layout.proofs.Limits.{limits}
-use Rattle.records.specs.Journal.{present}
+use Rattle.records.specs.Journal.{flakeCount}
 use Rattle.records.specs.Record.{recordOf}
 use Rattle.records.proofs.CountLaws.{present-le}
 use Rattle.drive.specs.declared.Drive.{Drive}
@@ -58,7 +58,7 @@ counts-room : (s : Shape) (p e : ℕ) (v : List ℕ) (n : ℕ) → Room p n (cou
 unfolding countsIn countOf
 counts-room s p e v zero = record { moved-few = omega arith; done-few = omega arith; rest-few = omega arith }
 counts-room s p e v (suc n) =
-    room-more p n (countsIn s p e v n) (isMoved s e v n) (present p (recordOf s v n .held)) (present-le p (recordOf s v n .held)) (counts-room s p e v n)
+    room-more p n (countsIn s p e v n) (isMoved s e v n) (flakeCount p (recordOf s v n .held)) (present-le p (recordOf s v n .held)) (counts-room s p e v n)
 
 module _ (d : Drive) (v : List ℕ) (e : reportAnswer d v ≡ A.Accepted) where
   abbrev counts : Counts

@@ -35,8 +35,8 @@ countsFor t zero = none
 countsFor t (suc k) = plus (countsFor t k) (countOf 64 2 (recordFor t k))
 
 -- n nuggets of 64 flakes of 64 bytes
-abbrev pub wide : ℕ → Shape
-wide n = shape n 64 64
+abbrev pub wideShape : ℕ → Shape
+wideShape n = shape n 64 64
 
 -- the first k records stored in a volume
 unfoldable pub laidTo : Shape → (ℕ → Record) → ℕ → List ℕ → List ℕ
@@ -45,7 +45,7 @@ laidTo s g (suc k) v = sets (laidTo s g k v) (recordAt s k) (recordBytes s (g k)
 
 -- a volume with these records and the tree over them
 unfoldable pub treed : ℕ → (ℕ → Record) → List ℕ
-treed n g = built (wide n) (laidTo (wide n) g n (zeros (lengthOf (wide n))))
+treed n g = built (wideShape n) (laidTo (wideShape n) g n (zeros (lengthOf (wideShape n))))
 
 -- a drive in the middle of its first change, over that tree
 unfoldable pub driveOver : ℕ → (ℕ → Record) → Drive
@@ -58,7 +58,7 @@ driveOver n g =
       state = Changing 1;
       epoch = 2;
       counter = 0;
-      node = nodeIn (wide n) (treed n g) 1;
+      node = nodeIn (wideShape n) (treed n g) 1;
       present = zeros 32;
       old = zeros 32;
     }

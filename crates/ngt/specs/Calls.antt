@@ -52,12 +52,12 @@ pub record Reported (d : Drive) (v : List ℕ) (number : ℕ) (report answer : L
   pub numbers : report ≡ reportImage (reportOf d v)
 
 -- "where the part begins in the volume and its length, 8 bytes each; both zero if refused"
-unfoldable pub spanOf : Drive → List ℕ → ℕ → ℕ → List ℕ
-spanOf d v n f = pick (accepts (storedAnswer d v n f)) (le 8 (flakeAt (shapeOf d) n f) ++ le 8 (d .f)) (zeros 16)
+unfoldable pub spanImage : Drive → List ℕ → ℕ → ℕ → List ℕ
+spanImage d v n f = pick (accepts (storedAnswer d v n f)) (le 8 (flakeAt (shapeOf d) n f) ++ le 8 (d .f)) (zeros 16)
 
 pub record Shown (d : Drive) (v : List ℕ) (n f number : ℕ) (span answer : List ℕ) : Type 0 where
   pub tells : Tells (storedAnswer d v n f) number answer
-  pub part : span ≡ spanOf d v n f
+  pub part : span ≡ spanImage d v n f
 
 -- "Where the drive comes back as given, no byte of the image is stored; otherwise the whole image is."
 unfoldable pub imageAfter : Bool → Drive → List ℕ → List ℕ

@@ -11,7 +11,7 @@ ghost use Rattle.packed.specs.Image.{driveIn};
 ghost use Rattle.line.specs.Lines.{Put};
 ghost use Rattle.fleets.specs.Lines.{fleetLine};
 ghost use Rattle.changes.specs.Write.{writes};
-ghost use Rattle.ngt.specs.Calls.{Formatted, Mounted, Filled, Reported, Shown, spanOf, imageAfter, Begun, Swept, Finished, Written};
+ghost use Rattle.ngt.specs.Calls.{Formatted, Mounted, Filled, Reported, Shown, spanImage, imageAfter, Begun, Swept, Finished, Written};
 
 // Format, with the image of the drive that it hands back.
 #[no_mangle]
@@ -126,8 +126,8 @@ fn two(a: usize, b: u32) -> [u8; 16]
     out
 }
 
-fn span_of(d: Drive, vol: &[u8], nugget: u32, flake: u32) -> [u8; 16]
-    ensures { λ r. ⌜ r ≡ spanOf d (now (vol .entry)) nugget flake ⌝ }
+fn span_image(d: Drive, vol: &[u8], nugget: u32, flake: u32) -> [u8; 16]
+    ensures { λ r. ⌜ r ≡ spanImage d (now (vol .entry)) nugget flake ⌝ }
 {
     if answers::accepted(reports::stored_flake_answer(d, vol, nugget, flake)) {
         return two(layout::flake_at(drive::shape_of(d), nugget, flake), d.f);
@@ -149,7 +149,7 @@ pub extern "C" fn ngt_stored_flake(
 {
     let d = opened(*image);
     let a = reports::stored_flake_answer(d, vol, nugget, flake);
-    *span = span_of(d, vol, nugget, flake);
+    *span = span_image(d, vol, nugget, flake);
     *answer = images::answer_image(a);
     answers::number(a)
 }

@@ -7,7 +7,7 @@ use Rattle.layout.specs.Shape.{leaves}
 use Rattle.layout.specs.Parts.{treeAt, flakesAt, tagAt, nodeAt}
 use Rattle.layout.specs.declared.Shape.{Shape}
 use Rattle.layout.proofs.Places.{apart}
-use Rattle.layout.specs.Lent.{Lent}
+use Rattle.layout.specs.Shaped.{Shaped}
 
 pub tags-inside : (s : Shape) (n : ℕ) → n < s .n → tagAt s n 0 + 16 * s .p ≤ treeAt s
 tags-inside s n h = omega (arith, apart (s .p) n (s .n) h)
@@ -22,5 +22,5 @@ node-below s i h = omega arith
 pub node-above : (s : Shape) (i : ℕ) → 1 ≤ i → treeAt s ≤ nodeAt s i
 node-above s i h = omega arith
 
-pub node-fits : {s : Shape} {v : List ℕ} (i : ℕ) → Lent s v → i < 2 * leaves (s .n) → nodeAt s i + 32 ≤ length v
+pub node-fits : {s : Shape} {v : List ℕ} (i : ℕ) → Shaped s v → i < 2 * leaves (s .n) → nodeAt s i + 32 ≤ length v
 node-fits {s} i l h = rw (l .size) (omega (arith, node-below s i h))

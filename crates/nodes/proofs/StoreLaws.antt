@@ -20,7 +20,7 @@ use Rattle.nodes.specs.Nodes.{nodeIn}
 use Rattle.nodes.specs.Made.{madeOf, Good, storeNode}
 use Rattle.nodes.proofs.Bounds.{nodes-apart, node-above, node-below, node-fits, tags-inside}
 use Rattle.nodes.proofs.MadeLaws.{made-alike, length-made}
-use Rattle.layout.specs.Lent.{Lent}
+use Rattle.layout.specs.Shaped.{Shaped}
 
 pub outside-refl : (s : Shape) (v : List ℕ) → Outside s v v
 outside-refl s v = record { long = refl; below = refl; above = refl }
@@ -28,7 +28,7 @@ outside-refl s v = record { long = refl; below = refl; above = refl }
 pub outside-trans : {s : Shape} {u v w : List ℕ} → Outside s u v → Outside s v w → Outside s u w
 outside-trans a b = record { long = b .long ∙ a .long; below = b .below ∙ a .below; above = b .above ∙ a .above }
 
-pub outside-lent : {s : Shape} {v w : List ℕ} → Outside s v w → Lent s v → Lent s w
+pub outside-lent : {s : Shape} {v w : List ℕ} → Outside s v w → Shaped s v → Shaped s w
 outside-lent o l = record { limited = l .limited; size = o .long ∙ l .size }
 
 pub outside-alike : {s : Shape} {v w : List ℕ} (n : ℕ) → Outside s v w → n < s .n → Alike s v w n
@@ -48,7 +48,7 @@ module _ (s : Shape) (i : ℕ) (v : List ℕ) where
         above = drop-sets (flakesAt s) v (nodeAt s i) (madeOf s v i) (rw (length-made s v i) (node-below s i b));
       }
 
-  pub store-same : Lent s v → i < 2 * leaves (s .n) → nodeIn s (storeNode s i v) i ≡ madeOf s v i
+  pub store-same : Shaped s v → i < 2 * leaves (s .n) → nodeIn s (storeNode s i v) i ≡ madeOf s v i
   unfolding storeNode
   store-same l h = part-sets v (nodeAt s i) 32 (madeOf s v i) (length-made s v i) (node-fits i l h)
 
@@ -67,7 +67,7 @@ made-outside {s} {v} {w} i o a b =
     sym (made-alike s v w i (λ h. (sym a, sym b)) (λ h k. outside-alike (i - leaves (s .n)) o (omega arith)))
 
 -- the stored node is good
-pub store-good : {s : Shape} {v : List ℕ} (i : ℕ) → Lent s v → 1 ≤ i → i < 2 * leaves (s .n) → Good s (storeNode s i v) i
+pub store-good : {s : Shape} {v : List ℕ} (i : ℕ) → Shaped s v → 1 ≤ i → i < 2 * leaves (s .n) → Good s (storeNode s i v) i
 store-good {s} {v} i l a b =
     store-same s i v l b
     ∙ sym (made-outside i (store-outside s i v a b) (store-other s i v (2 * i) (λ e. omega arith)) (store-other s i v (2 * i + 1) (λ e. omega arith)))

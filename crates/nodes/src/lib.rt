@@ -6,11 +6,11 @@ ghost use Prim.Native.Nat.{_+_, _*_, _<_, _≤_};
 ghost use Rattle.layout.specs.Shape.{leaves};
 ghost use Rattle.nodes.specs.Nodes.{nodeIn, leafOf, innerOf};
 ghost use Rattle.nodes.specs.Made.{madeOf, goodNode, storeNode};
-ghost use Rattle.layout.specs.Lent.{Lent};
+ghost use Rattle.layout.specs.Shaped.{Shaped};
 
 // "no key, `L`, nugget (4), the 18 record bytes, the nugget's P tags"
 fn leaf(vol: &[u8], s: Shape, n: u32) -> [u8; 32]
-    requires { ⌜ Lent s (now vol) × (n < s .n) ⌝ }
+    requires { ⌜ Shaped s (now vol) × (n < s .n) ⌝ }
     ensures { λ r. ⌜ r ≡ leafOf s (now (vol .entry)) n ⌝ }
 {
     let p = s.p as usize;
@@ -29,7 +29,7 @@ fn leaf(vol: &[u8], s: Shape, n: u32) -> [u8; 32]
 
 // "no key, `T`, node 2i, node 2i + 1"
 fn inner(vol: &[u8], s: Shape, i: u32) -> [u8; 32]
-    requires { ⌜ Lent s (now vol) × (1 ≤ i) × (i < leaves (s .n)) ⌝ }
+    requires { ⌜ Shaped s (now vol) × (1 ≤ i) × (i < leaves (s .n)) ⌝ }
     ensures { λ r. ⌜ r ≡ innerOf (nodeIn s (now (vol .entry)) (2 * i)) (nodeIn s (now (vol .entry)) (2 * i + 1)) ⌝ }
 {
     let left = layout::node_at(s, 2 * i);
@@ -44,7 +44,7 @@ fn inner(vol: &[u8], s: Shape, i: u32) -> [u8; 32]
 
 // What node i has to be.
 fn made(vol: &[u8], s: Shape, i: u32) -> [u8; 32]
-    requires { ⌜ Lent s (now vol) × (1 ≤ i) × (i < 2 * leaves (s .n)) ⌝ }
+    requires { ⌜ Shaped s (now vol) × (1 ≤ i) × (i < 2 * leaves (s .n)) ⌝ }
     ensures { λ r. ⌜ r ≡ madeOf s (now (vol .entry)) i ⌝ }
 {
     let first = layout::leaves_of(s.n) as u32;
@@ -59,7 +59,7 @@ fn made(vol: &[u8], s: Shape, i: u32) -> [u8; 32]
 
 // Whether node i is what it has to be.
 pub fn good(vol: &[u8], s: Shape, i: u32) -> bool
-    requires { ⌜ Lent s (now vol) × (1 ≤ i) × (i < 2 * leaves (s .n)) ⌝ }
+    requires { ⌜ Shaped s (now vol) × (1 ≤ i) × (i < 2 * leaves (s .n)) ⌝ }
     ensures { λ r. ⌜ r ≡ goodNode s (now (vol .entry)) i ⌝ }
 {
     let m = made(vol, s, i);
@@ -70,7 +70,7 @@ pub fn good(vol: &[u8], s: Shape, i: u32) -> bool
 
 // Node i made anew.
 pub fn store(vol: &mut [u8], s: Shape, i: u32)
-    requires { ⌜ Lent s (now vol) × (1 ≤ i) × (i < 2 * leaves (s .n)) ⌝ }
+    requires { ⌜ Shaped s (now vol) × (1 ≤ i) × (i < 2 * leaves (s .n)) ⌝ }
     ensures { λ _. ⌜ now (vol .exit) ≡ storeNode s i (now (vol .entry)) ⌝ }
 {
     let m = made(&*vol, s, i);
@@ -80,7 +80,7 @@ pub fn store(vol: &mut [u8], s: Shape, i: u32)
 
 // Node 1.
 pub fn first(vol: &[u8], s: Shape) -> [u8; 32]
-    requires { ⌜ Lent s (now vol) ⌝ }
+    requires { ⌜ Shaped s (now vol) ⌝ }
     ensures { λ r. ⌜ r ≡ nodeIn s (now (vol .entry)) 1 ⌝ }
 {
     words::thirty_two(vol, layout::node_at(s, 1))

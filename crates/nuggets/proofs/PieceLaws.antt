@@ -30,7 +30,7 @@ use Rattle.keys.proofs.PadLaws.{length-under}
 use Rattle.drive.specs.Drive.{zeros}
 use Rattle.nuggets.specs.declared.Nugget.{Nugget}
 use Rattle.nuggets.specs.Nugget.{contentsIn, storedIn}
-use Rattle.layout.specs.Lent.{Lent}
+use Rattle.layout.specs.Shaped.{Shaped}
 
 module _ (key nonce : List ℕ) (c : ℕ) where
   -- a byte of the keystream is the same in all that reach it
@@ -128,7 +128,7 @@ pad-from lock f size b d h l =
     ∙ stream-at key nonce first (b / 64 + m) (blocks size) (b + i) (omega (arith, q)) (omega (arith, q, h))
     ∙ sym (getD-drop b _ i 0 ∙ getD-take size _ (b + i) 0 (omega (arith, q, h))))
 
-pub length-contents : (s : Shape) (v : List ℕ) (g : Nugget) (f : ℕ) → Lent s v → g .lock .number < s .n → f < s .p → length (contentsIn s v g f) ≡ s .f
+pub length-contents : (s : Shape) (v : List ℕ) (g : Nugget) (f : ℕ) → Shaped s v → g .lock .number < s .n → f < s .p → length (contentsIn s v g f) ≡ s .f
 unfolding contentsIn
 length-contents s v g f lent a b =
     let room : flakeAt s (g .lock .number) f + s .f ≤ length v = rw (lent .size) (flake-inside s (g .lock .number) f a b) in
@@ -139,7 +139,7 @@ length-contents s v g f lent a b =
 
 module _ (s : Shape) (v : List ℕ) (g : Nugget) (f b n : ℕ) where
   -- the stored bytes of a piece with the pad's laid over them
-  pub piece-present : Lent s v → g .lock .number < s .n → f < s .p → b + n ≤ s .f → bit (g .held) f ≡ true
+  pub piece-present : Shaped s v → g .lock .number < s .n → f < s .p → b + n ≤ s .f → bit (g .held) f ≡ true
       → xorl (part (flakeAt s (g .lock .number) f + b) n v) (drop b (padOf (g .lock) f (s .f))) ≡ part b n (contentsIn s v g f)
   unfolding contentsIn
   piece-present lent p q h here =

@@ -22,7 +22,7 @@ use Rattle.drive.specs.declared.Drive.{Drive}
 use Rattle.drive.specs.Drive.{shapeOf}
 use Rattle.nuggets.specs.declared.Nugget.{Nugget}
 use Rattle.nuggets.specs.Nugget.{secretFor, lockBy, nuggetOf}
-use Rattle.nuggets.specs.Tests.{goodFlake, passes, flakesUp, flakesIn, pathFor, nuggetRead}
+use Rattle.nuggets.specs.Tests.{goodFlake, passes, flakesUp, flakesTested, pathFor, nuggetRead}
 use Rattle.records.specs.Record.{recordOf}
 
 module _ (s : Shape) (v : List ℕ) (g : Nugget) where
@@ -56,8 +56,8 @@ module _ (s : Shape) (v : List ℕ) (g : Nugget) where
     unfolding flakesUp
     up-end p f h = let k : p - f ≡ 0 = omega arith in rw k
 
-    pub up-start : flakesUp s v g mask (s .p - 0) 0 ≡ flakesIn s v g mask
-    unfolding flakesIn
+    pub up-start : flakesUp s v g mask (s .p - 0) 0 ≡ flakesTested s v g mask
+    unfolding flakesTested
     up-start = let k : s .p - 0 ≡ s .p = omega arith in rw k
 
 module _ (d : Drive) (v : List ℕ) (n : ℕ) where
@@ -66,12 +66,12 @@ module _ (d : Drive) (v : List ℕ) (n : ℕ) where
   nugget-is eh er es el = rw (el, es, er, eh) refl
 
   pub read-on : (touched : ℕ) {a r : Answer} {s : Shape} {g : Nugget} → a ≡ pathFor d v n → accepts a ≡ true → s ≡ shapeOf d → g ≡ nuggetOf d v n
-      → r ≡ flakesIn s v g (bitAnd (g .held) touched) → r ≡ nuggetRead d v n touched
+      → r ≡ flakesTested s v g (bitAnd (g .held) touched) → r ≡ nuggetRead d v n touched
   unfolding nuggetRead
   read-on touched {g = g} e h es eg er =
       er
-      ∙ ap (λ (x : Shape). flakesIn x v g (bitAnd (g .held) touched)) es
-      ∙ ap (λ (x : Nugget). flakesIn (shapeOf d) v x (bitAnd (x .held) touched)) eg
+      ∙ ap (λ (x : Shape). flakesTested x v g (bitAnd (g .held) touched)) es
+      ∙ ap (λ (x : Nugget). flakesTested (shapeOf d) v x (bitAnd (x .held) touched)) eg
       ∙ sym (yes _ (ap accepts (sym e) ∙ h) refl)
 
   pub read-off : (touched : ℕ) {a : Answer} → a ≡ pathFor d v n → accepts a ≡ false → a ≡ nuggetRead d v n touched

@@ -24,8 +24,8 @@ use Rattle.nuggets.specs.Nugget.{nuggetOf, storedIn}
 unfoldable pub goodFlake : Shape → List ℕ → Nugget → ℕ → Bool
 goodFlake s v g f = same (part (tagAt s (g .lock .number) f) 16 v) (tagOf (g .lock) f (storedIn s v (g .lock .number) f))
 
-abbrev pub flakeGood : Drive → List ℕ → ℕ → ℕ → Bool
-flakeGood d v n f = goodFlake (shapeOf d) v (nuggetOf d v n) f
+abbrev pub goodFlakeOf : Drive → List ℕ → ℕ → ℕ → Bool
+goodFlakeOf d v n f = goodFlake (shapeOf d) v (nuggetOf d v n) f
 
 -- a flake outside the set isn't looked at
 unfoldable pub passes : Shape → List ℕ → Nugget → ℕ → ℕ → Bool
@@ -37,11 +37,11 @@ flakesUp s v g mask zero f = A.Accepted
 flakesUp s v g mask (suc k) f = pick (passes s v g mask f) (flakesUp s v g mask k (suc f)) (A.Altered (P.Flake (g .lock .number) f))
 
 -- the first flake of the set whose tag differs
-unfoldable pub flakesIn : Shape → List ℕ → Nugget → ℕ → Answer
-flakesIn s v g mask = flakesUp s v g mask (s .p) 0
+unfoldable pub flakesTested : Shape → List ℕ → Nugget → ℕ → Answer
+flakesTested s v g mask = flakesUp s v g mask (s .p) 0
 
 abbrev pub flakesOf : Drive → List ℕ → ℕ → ℕ → Answer
-flakesOf d v n mask = flakesIn (shapeOf d) v (nuggetOf d v n) mask
+flakesOf d v n mask = flakesTested (shapeOf d) v (nuggetOf d v n) mask
 
 -- the path of nugget n, its record held against the drive
 abbrev pub pathFor : Drive → List ℕ → ℕ → Answer

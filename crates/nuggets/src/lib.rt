@@ -17,9 +17,9 @@ ghost use Rattle.layout.specs.Spots.{capacity};
 ghost use Rattle.keys.specs.Pads.{firstBlock, padOf, Size};
 ghost use Rattle.drive.specs.Drive.{shapeOf};
 ghost use Rattle.nuggets.specs.Nugget.{secretFor, lockBy, nuggetOf, contentsIn};
-ghost use Rattle.nuggets.specs.Tests.{goodFlake, passes, flakesIn, pathFor, nuggetRead};
+ghost use Rattle.nuggets.specs.Tests.{goodFlake, passes, flakesTested, pathFor, nuggetRead};
 ghost use Rattle.nuggets.specs.Touched.{touchedOf, spanOf, fitsIn};
-ghost use Rattle.layout.specs.Lent.{Lent};
+ghost use Rattle.layout.specs.Shaped.{Shaped};
 
 // What the tests and the contents of one nugget rest on.
 pub struct Nugget {
@@ -59,7 +59,7 @@ pub fn lock_by(s: Shape, salt: [u8; 16], secret: [u8; 32], n: u32, k: u64) -> Lo
 
 // The nugget as its record says.
 pub fn nugget_of(d: Drive, vol: &[u8], n: u32) -> Nugget
-    requires { ⌜ Lent (shapeOf d) (now vol) × (n < d .n) ⌝ }
+    requires { ⌜ Shaped (shapeOf d) (now vol) × (n < d .n) ⌝ }
     ensures { λ r. ⌜ r ≡ nuggetOf d (now (vol .entry)) n ⌝ }
 {
     let s = drive::shape_of(d);
@@ -74,8 +74,8 @@ pub fn nugget_of(d: Drive, vol: &[u8], n: u32) -> Nugget
 }
 
 // "Tag = Poly1305 under the tag key over the stored flake."
-fn flake_good(vol: &[u8], s: Shape, g: Nugget, f: u32) -> bool
-    requires { ⌜ Lent s (now vol) × (g .lock .number < s .n) × (f < s .p) ⌝ }
+fn good_flake(vol: &[u8], s: Shape, g: Nugget, f: u32) -> bool
+    requires { ⌜ Shaped s (now vol) × (g .lock .number < s .n) × (f < s .p) ⌝ }
     ensures { λ r. ⌜ r ≡ goodFlake s (now (vol .entry)) g f ⌝ }
 {
     let lock = g.lock;
@@ -89,11 +89,11 @@ fn flake_good(vol: &[u8], s: Shape, g: Nugget, f: u32) -> bool
 
 // A flake outside the set isn't looked at.
 fn flake_passes(vol: &[u8], s: Shape, g: Nugget, mask: u64, f: u32) -> bool
-    requires { ⌜ Lent s (now vol) × (g .lock .number < s .n) × (f < s .p) ⌝ }
+    requires { ⌜ Shaped s (now vol) × (g .lock .number < s .n) × (f < s .p) ⌝ }
     ensures { λ r. ⌜ r ≡ passes s (now (vol .entry)) g mask f ⌝ }
 {
     if records::has(mask, f) {
-        flake_good(vol, s, g, f)
+        good_flake(vol, s, g, f)
     } else {
         true
     }
@@ -101,8 +101,8 @@ fn flake_passes(vol: &[u8], s: Shape, g: Nugget, mask: u64, f: u32) -> bool
 
 // "flakes, ascending": the first of the set whose tag differs.
 pub fn flakes(vol: &[u8], s: Shape, g: Nugget, mask: u64) -> Answer
-    requires { ⌜ Lent s (now vol) × (g .lock .number < s .n) ⌝ }
-    ensures { λ r. ⌜ r ≡ flakesIn s (now (vol .entry)) g mask ⌝ }
+    requires { ⌜ Shaped s (now vol) × (g .lock .number < s .n) ⌝ }
+    ensures { λ r. ⌜ r ≡ flakesTested s (now (vol .entry)) g mask ⌝ }
 {
     let count = s.p;
     let number = g.lock.number;
@@ -119,7 +119,7 @@ pub fn flakes(vol: &[u8], s: Shape, g: Nugget, mask: u64) -> Answer
 
 // The path of nugget n, its record held against the drive.
 pub fn test_path(d: Drive, vol: &[u8], n: u32) -> Answer
-    requires { ⌜ Lent (shapeOf d) (now vol) × (n < d .n) ⌝ }
+    requires { ⌜ Shaped (shapeOf d) (now vol) × (n < d .n) ⌝ }
     ensures { λ r. ⌜ r ≡ pathFor d (now (vol .entry)) n ⌝ }
 {
     tree::path(vol, drive::shape_of(d), drive::gauge_of(d), n)
@@ -127,7 +127,7 @@ pub fn test_path(d: Drive, vol: &[u8], n: u32) -> Answer
 
 // A read's tests of nugget n: "path"; then "touched present flakes".
 pub fn test_read(d: Drive, vol: &[u8], n: u32, touched: u64) -> Answer
-    requires { ⌜ Lent (shapeOf d) (now vol) × (n < d .n) ⌝ }
+    requires { ⌜ Shaped (shapeOf d) (now vol) × (n < d .n) ⌝ }
     ensures { λ r. ⌜ r ≡ nuggetRead d (now (vol .entry)) n touched ⌝ }
 {
     let a = test_path(d, vol, n);
@@ -196,7 +196,7 @@ pub fn lay_from(d: &mut [u8], lock: Lock, size: usize, f: u32, b: usize)
 
 // The contents of flake f from its byte b on, as many as the buffer takes: "Absent flakes give zeros."
 pub fn piece(vol: &[u8], s: Shape, g: Nugget, f: u32, b: usize, buf: &mut [u8])
-    requires { ⌜ Lent s (now vol) × (g .lock .number < s .n) × (f < s .p) × (b + length (now buf) ≤ s .f) ⌝ }
+    requires { ⌜ Shaped s (now vol) × (g .lock .number < s .n) × (f < s .p) × (b + length (now buf) ≤ s .f) ⌝ }
     ensures { λ _. ⌜ now (buf .exit) ≡ part b (length (now (buf .entry))) (contentsIn s (now (vol .entry)) g f) ⌝ }
 {
     if records::has(g.held, f) {

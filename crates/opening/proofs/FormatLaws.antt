@@ -23,7 +23,7 @@ use Rattle.drive.specs.Drive.{zeros, blankDrive, counterTop}
 use Rattle.drive.specs.Head.{headOf}
 use Rattle.opening.specs.Format.{formatAnswer, freshRecord, freshFrom, bare, planted, freshDrive, freshVolume, formatDone, formatVolume}
 use Rattle.answers.proofs.StageLaws.{passed, spared}
-use Rattle.layout.specs.Lent.{Lent}
+use Rattle.layout.specs.Shaped.{Shaped}
 
 -- the loop that lays the records: its start, its turn and its end
 pub fresh-none : (s : Shape) (v : List ℕ) (count : ℕ) → freshFrom s (count - 0) 0 v ≡ freshFrom s count 0 v
@@ -42,7 +42,7 @@ unfolding freshFrom
 fresh-end s v n count h = let e : count - n ≡ 0 = omega arith in rw e
 
 -- what the tests of an accepted format tell
-pub format-lent : (s : Shape) (outside : ℕ) (v : List ℕ) → accepts (formatAnswer s outside v) ≡ true → Lent s v × (outside ≡ counterTop → ⊥)
+pub format-lent : (s : Shape) (outside : ℕ) (v : List ℕ) → accepts (formatAnswer s outside v) ≡ true → Shaped s v × (outside ≡ counterTop → ⊥)
 unfolding formatAnswer
 format-lent s outside v e =
     let first = passed (inLimits s) (pick (eqb (length v) (lengthOf s)) (pick (eqb outside counterTop) A.CounterTop A.Accepted) A.Length) A.Limits refl e in

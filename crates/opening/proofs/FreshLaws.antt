@@ -43,7 +43,7 @@ use Rattle.opening.specs.Format.{formatAnswer, freshRecord, freshFrom, b
 use Rattle.opening.specs.Mount.{wholeIn, mountDone}
 use Rattle.opening.proofs.FormatLaws.{format-lent, length-bare, length-planted}
 use Rattle.opening.proofs.Reopens.{Handed, length-head, mounts-back}
-use Rattle.layout.specs.Lent.{Lent}
+use Rattle.layout.specs.Shaped.{Shaped}
 
 -- records laid from nugget m on leave those before
 fresh-before : (s : Shape) (k m n : ℕ) (v : List ℕ) → n < m → part (recordAt s n) (widthOf s) (freshFrom s k m v) ≡ part (recordAt s n) (widthOf s) v
@@ -74,7 +74,7 @@ fresh-at s (suc k) m n v a b h = go (told (eqb n m)) (λ ne. fresh-at s k (suc m
     go (inr e) again = again (eqb-false n m e)
 
 module _ (s : Shape) (limited : inLimits s ≡ true) where
-  bare-lent : Lent s (bare s)
+  bare-lent : Shaped s (bare s)
   bare-lent = record { limited = limited; size = length-bare s }
 
   planted-good : AllGood s (planted s)
@@ -109,7 +109,7 @@ module _ (s : Shape) (limited : inLimits s ≡ true) where
         let e = sym (record-told s (recordAt s n) (planted s) (sets (planted s) 0 head) (headed-alike n .records)) ∙ planted-fresh n h in
         rw e (formed-by (s .p) (against 1 false) freshRecord (lt-ltb 0 (2 ^ s .p) (pow-pos (s .p))) (lies-self 0) refl)
 
-    headed-lent : Lent s (sets (planted s) 0 head)
+    headed-lent : Shaped s (sets (planted s) 0 head)
     headed-lent = record { limited = limited; size = length-sets (planted s) 0 head ∙ length-planted s }
 
     pub headed-whole : wholeOf s (against 1 false) (sets (planted s) 0 head) ≡ A.Accepted

@@ -25,13 +25,13 @@ use Rattle.keys.specs.Keys.{sealOf}
 use Rattle.drive.specs.declared.Drive.{Drive}
 use Rattle.drive.specs.Head.{mark, version, stateByte, checkIn, frontRow, frontValues, frontIn, headOf}
 use Rattle.drive.specs.Opening.{inForm, headStands, openingOf}
-use Rattle.opening.specs.Mount.{shapeIn, stateByteIn, stateIn, epochIn, saltIn, counterIn, marked, headFits, lengthFits, sealed, checked, wholeIn, openedDrive, formOf, keysOf, restOf, mountAnswer}
+use Rattle.opening.specs.Mount.{shapeIn, stateByteIn, stateIn, epochIn, saltIn, counterIn, markFits, headFits, lengthFits, sealed, checked, wholeIn, openedDrive, formOf, keysOf, restOf, mountAnswer}
 use Rattle.answers.proofs.StageLaws.{both-stages, passed, accepted-is}
 
 -- what the tests of an accepted mount tell
 pub record Opened (v : List ℕ) (d : Drive) (outside : ℕ) : Type 0 where
   pub head-long : 104 ≤ length v
-  pub has-mark : marked v ≡ true
+  pub has-mark : markFits v ≡ true
   pub fits : headFits v ≡ true
   pub long : lengthFits v ≡ true
   pub seal : sealed d v ≡ true
@@ -45,7 +45,7 @@ opened v present old outside e =
     let d = openedDrive v present old in
     let (form, rest) = both-stages (formOf v) _ (ap accepts e) in
     let t₁ = passed (leb 104 (length v)) _ A.Length refl form in
-    let t₂ = passed (marked v) _ A.Mark refl (t₁ .1) in
+    let t₂ = passed (markFits v) _ A.Mark refl (t₁ .1) in
     let t₃ = passed (headFits v) _ A.Limits refl (t₂ .1) in
     let t₄ = passed (lengthFits v) _ A.Length refl (t₃ .1) in
     let (keys, whole) = both-stages (keysOf d v outside) _ rest in
@@ -81,7 +81,7 @@ module _ (v present old : List ℕ) (outside : ℕ) (bytes : Bytes v) (e : mount
 
   -- what bytes 0 to 71 hold is what the drive puts there
   front-values : rowIn frontRow 0 0 v ≡ frontValues (openedDrive v present old)
-  unfolding marked checked openedDrive
+  unfolding markFits checked openedDrive
   front-values =
       let mark-is : part 0 3 v ≡ mark = same-true (part 0 3 v) mark (both-left (same (part 0 3 v) mark) _ (o .has-mark)) in
       let version-is : num (part 3 2 v) ≡ version = eqb-true (num (part 3 2 v)) version (both-right (same (part 0 3 v) mark) _ (o .has-mark)) in

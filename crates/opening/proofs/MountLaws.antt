@@ -15,16 +15,16 @@ use Rattle.layout.specs.Parts.{lengthOf}
 use Rattle.drive.specs.declared.Drive.{Drive}
 use Rattle.drive.specs.declared.Done.{Done}
 use Rattle.drive.specs.Drive.{blankDrive}
-use Rattle.opening.specs.Mount.{shapeIn, marked, headFits, lengthFits, openedDrive, mountAnswer, mountDone, formOf}
+use Rattle.opening.specs.Mount.{shapeIn, markFits, headFits, lengthFits, openedDrive, mountAnswer, mountDone, formOf}
 use Rattle.answers.proofs.StageLaws.{passed}
-use Rattle.layout.specs.Lent.{Lent}
+use Rattle.layout.specs.Shaped.{Shaped}
 
 -- a head in form is that of a volume as long as its shape asks
-pub form-lent : (v : List ℕ) → accepts (formOf v) ≡ true → Lent (shapeIn v) v
+pub form-lent : (v : List ℕ) → accepts (formOf v) ≡ true → Shaped (shapeIn v) v
 unfolding formOf headFits lengthFits
 form-lent v e =
     let first = passed (leb 104 (length v)) _ A.Length refl e .1 in
-    let second = passed (marked v) _ A.Mark refl first .1 in
+    let second = passed (markFits v) _ A.Mark refl first .1 in
     let third = passed (headFits v) _ A.Limits refl second in
     let fourth = passed (lengthFits v) _ A.Length refl (third .1) in
     record { limited = both-left (inLimits (shapeIn v)) _ (third .0); size = eqb-true (length v) (lengthOf (shapeIn v)) (fourth .0) }

@@ -30,8 +30,8 @@ use Rattle.drive.specs.declared.State.{State}
 use Rattle.drive.specs.declared.State.the-variants.{Steady, Changing}
 use Rattle.drive.specs.Drive.{shapeOf, keptOld}
 use Rattle.drive.specs.Head.{mark, version, stateByte, checkFor, checkIn, frontRow, frontValues, frontIn, headOf}
-use Rattle.drive.specs.Opening.{epochFits, inForm, headStands, openingOf}
-use Rattle.opening.specs.Mount.{shapeIn, stateByteIn, stateIn, epochIn, marked, headFits, lengthFits, sealed, checked, wholeIn, openedDrive, formOf, keysOf, restOf, mountAnswer, mountDone}
+use Rattle.drive.specs.Opening.{stateFits, inForm, headStands, openingOf}
+use Rattle.opening.specs.Mount.{shapeIn, stateByteIn, stateIn, epochIn, markFits, headFits, lengthFits, sealed, checked, wholeIn, openedDrive, formOf, keysOf, restOf, mountAnswer, mountDone}
 use Rattle.opening.proofs.MountLaws.{mount-on}
 use Rattle.drive.proofs.OpeningLaws.{Opened, opening-told}
 
@@ -56,7 +56,7 @@ state-low : (s : State) → stateByte s ≤ 1
 state-low Steady = omega arith
 state-low (Changing left) = omega arith
 
-state-told : (s : State) (b e : ℕ) → b ≡ stateByte s → epochFits s e ≡ true → pick (eqb b 0) Steady (Changing (e - 1)) ≡ s
+state-told : (s : State) (b e : ℕ) → b ≡ stateByte s → stateFits s e ≡ true → pick (eqb b 0) Steady (Changing (e - 1)) ≡ s
 state-told Steady b e q f = rw q refl
 state-told (Changing left) b e q f =
     let one : left + 1 ≡ e = eqb-true (left + 1) e (both-right (leb 2 e) (eqb (left + 1) e) f) in
@@ -79,11 +79,11 @@ module _ (d : Drive) (w old : List ℕ) (x : Handed d old) (opens : openingOf d 
 
   in-limits : inLimits (shapeOf d) ≡ true
   unfolding inForm
-  in-limits = both-left (inLimits (shapeOf d)) (epochFits (d .state) (d .epoch)) (tests .form)
+  in-limits = both-left (inLimits (shapeOf d)) (stateFits (d .state) (d .epoch)) (tests .form)
 
-  epoch-fits : epochFits (d .state) (d .epoch) ≡ true
+  epoch-fits : stateFits (d .state) (d .epoch) ≡ true
   unfolding inForm
-  epoch-fits = both-right (inLimits (shapeOf d)) (epochFits (d .state) (d .epoch)) (tests .form)
+  epoch-fits = both-right (inLimits (shapeOf d)) (stateFits (d .state) (d .epoch)) (tests .form)
 
   head-is : headOf d ≡ part 0 104 w
   unfolding headStands
@@ -164,10 +164,10 @@ module _ (d : Drive) (w old : List ℕ) (x : Handed d old) (opens : openingOf d 
   fits-back =
       both-on (ap (λ (s : Shape). inLimits s) shape-back ∙ in-limits)
       (both-on (le-leb (stateByteIn w) 1 (omega (arith, byte-back, state-low (d .state))))
-      (ap (λ (s : State). epochFits s (epochIn w)) state-back ∙ ap (λ (e : ℕ). epochFits (d .state) e) epoch-back ∙ epoch-fits))
+      (ap (λ (s : State). stateFits s (epochIn w)) state-back ∙ ap (λ (e : ℕ). stateFits (d .state) e) epoch-back ∙ epoch-fits))
 
-  marked-back : marked w ≡ true
-  unfolding marked
+  marked-back : markFits w ≡ true
+  unfolding markFits
   marked-back = both-on (same-of mark-back) (eq-eqb (num (part 3 2 w)) version version-back)
 
   length-back : lengthFits w ≡ true

@@ -24,7 +24,7 @@ use Rattle.drive.specs.declared.State.{State}
 use Rattle.drive.specs.declared.State.the-variants.{Steady, Changing}
 use Rattle.drive.specs.Drive.{shapeOf, gaugeOf, blankDrive, keptOld}
 use Rattle.drive.specs.Head.{mark, version, checkIn}
-use Rattle.drive.specs.Opening.{epochFits}
+use Rattle.drive.specs.Opening.{stateFits}
 
 -- the head's fields: "0-2 `NGT`; 3-4 version 1; 5 state (0 steady, 1 changing); 6-7 epoch; 8-11 N; 12-13 P; 14-15 F; 16-31
 -- salt; 32-39 counter; 40-71 old-secret check (zeros when steady); 72-103 seal"
@@ -76,12 +76,12 @@ openedDrive v present old =
     }
 
 -- 3: "mark or version differs"
-unfoldable pub marked : List ℕ → Bool
-marked v = both (same (markIn v) mark) (eqb (versionIn v) version)
+unfoldable pub markFits : List ℕ → Bool
+markFits v = both (same (markIn v) mark) (eqb (versionIn v) version)
 
 -- 1: "N, P, F, state or epoch out of limits"
 unfoldable pub headFits : List ℕ → Bool
-headFits v = both (inLimits (shapeIn v)) (both (leb (stateByteIn v) 1) (epochFits (stateIn v) (epochIn v)))
+headFits v = both (inLimits (shapeIn v)) (both (leb (stateByteIn v) 1) (stateFits (stateIn v) (epochIn v)))
 
 -- 2: "volume length is not the sum of the parts"
 unfoldable pub lengthFits : List ℕ → Bool
@@ -103,7 +103,7 @@ wholeIn d v = wholeOf (shapeOf d) (gaugeOf d) v
 unfoldable pub formOf : List ℕ → Answer
 formOf v =
     pick (leb 104 (length v))
-    (pick (marked v) (pick (headFits v) (pick (lengthFits v) A.Accepted A.Length) A.Limits) A.Mark)
+    (pick (markFits v) (pick (headFits v) (pick (lengthFits v) A.Accepted A.Length) A.Limits) A.Mark)
     A.Length
 
 -- the keys: "4, 5, 6"

@@ -5,12 +5,12 @@ use layout::Shape;
 ghost use mathlib.Core.Path.{_≡_};
 ghost use Prim.Native.Nat.{_-_, _≤_};
 ghost use lib.ListN.{length};
-ghost use Rattle.opening.specs.Mount.{marked, headFits, shapeIn, stateIn, epochIn, formOf};
+ghost use Rattle.opening.specs.Mount.{markFits, headFits, shapeIn, stateIn, epochIn, formOf};
 
 // Test 3: "mark or version differs"
 fn has_mark(vol: &[u8]) -> bool
     requires { ⌜ 104 ≤ length (now vol) ⌝ }
-    ensures { λ r. ⌜ r ≡ marked (now (vol .entry)) ⌝ }
+    ensures { λ r. ⌜ r ≡ markFits (now (vol .entry)) ⌝ }
 {
     let mark = [78u8, 71u8, 84u8];
     if words::equal(&vol[0..3], &mark) {
@@ -67,7 +67,7 @@ fn head_fits(vol: &[u8]) -> bool
         if 1 < words::load(vol, 5, 1) {
             return false;
         }
-        return drive::epoch_fits(state_in(vol), epoch_in(vol));
+        return drive::state_fits(state_in(vol), epoch_in(vol));
     }
     false
 }

@@ -14,7 +14,7 @@ ghost use lib.ListN.{length};
 ghost use Rattle.drive.specs.Drive.{shapeOf, counterTop};
 ghost use Rattle.opening.specs.Format.{formatAnswer, bare, planted, freshDrive, formatDone, formatVolume};
 ghost use Rattle.opening.specs.Mount.{sealed, checked, shapeIn, openedDrive, mountDone, keysOf, restOf};
-ghost use Rattle.layout.specs.Lent.{Lent};
+ghost use Rattle.layout.specs.Shaped.{Shaped};
 
 // "Format: 1, 2, 13."
 fn format_tests(vol: &[u8], s: Shape, outside: u64) -> Answer
@@ -34,7 +34,7 @@ fn format_tests(vol: &[u8], s: Shape, outside: u64) -> Answer
 
 // "Everything is zero [..]; epochs are 1"
 fn lay_bare(vol: &mut [u8], s: Shape)
-    requires { ⌜ Lent s (now vol) ⌝ }
+    requires { ⌜ Shaped s (now vol) ⌝ }
     ensures { λ _. ⌜ now (vol .exit) ≡ bare s ⌝ }
 {
     words::clear(&mut *vol);
@@ -54,7 +54,7 @@ fn lay_bare(vol: &mut [u8], s: Shape)
 
 // The drive of a volume that was just planted.
 fn fresh_drive(vol: &[u8], s: Shape, salt: [u8; 16], secret: [u8; 32], outside: u64) -> Drive
-    requires { ⌜ Lent s (now vol) × (now vol ≡ planted s) × (outside < counterTop) ⌝ }
+    requires { ⌜ Shaped s (now vol) × (now vol ≡ planted s) × (outside < counterTop) ⌝ }
     ensures { λ r. ⌜ r ≡ freshDrive s salt secret outside ⌝ }
 {
     let node = nodes::first(vol, s);
@@ -96,7 +96,7 @@ pub fn format(vol: &mut [u8], s: Shape, salt: [u8; 16], secret: [u8; 32], outsid
 
 // The drive that the head's bytes, node 1 and the brought secrets make.
 fn opened(vol: &[u8], present: [u8; 32], old: [u8; 32]) -> Drive
-    requires { ⌜ Lent (shapeIn (now vol)) (now vol) ⌝ }
+    requires { ⌜ Shaped (shapeIn (now vol)) (now vol) ⌝ }
     ensures { λ r. ⌜ r ≡ openedDrive (now (vol .entry)) present old ⌝ }
 {
     let s = head::shape_in(vol);
@@ -157,7 +157,7 @@ fn keys_fit(d: Drive, vol: &[u8], outside: u64) -> Answer
 
 // "4, 5, 6, 7 whole"
 fn rest(d: Drive, vol: &[u8], outside: u64) -> Answer
-    requires { ⌜ Lent (shapeOf d) (now vol) ⌝ }
+    requires { ⌜ Shaped (shapeOf d) (now vol) ⌝ }
     ensures { λ r. ⌜ r ≡ restOf d (now (vol .entry)) outside ⌝ }
 {
     let a = keys_fit(d, vol, outside);

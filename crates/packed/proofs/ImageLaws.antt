@@ -16,7 +16,7 @@ use Rattle.drive.specs.declared.Drive.{Drive}
 use Rattle.drive.specs.declared.State.{State}
 use Rattle.drive.specs.declared.State.the-variants.{Steady, Changing}
 use Rattle.drive.specs.Head.{stateByte}
-use Rattle.packed.specs.Image.{leftOf, numbersImage, frontImage, wholeImage, driveRow, driveValues, driveImage, imageState, driveOf, driveIn, DriveFits, Made}
+use Rattle.packed.specs.Image.{epochLeft, numbersImage, frontImage, wholeImage, driveRow, driveValues, driveImage, imageState, driveOf, driveIn, DriveFits, Made}
 
 -- "0-3 N; 4-7 P; 8-11 F; 12 state; 13 zero; 14-15 epoch; 16-17 the epoch being left; 18-23 zero; 24-39 salt; 40-47 counter;
 -- 48-79 node 1; 80-111 present secret; 112-143 old secret"
@@ -31,7 +31,7 @@ known : (s : State) → ltb 1 (stateByte s) ≡ false
 known Steady = refl
 known (Changing left) = refl
 
-state-back : (s : State) → imageState (stateByte s) (leftOf s) ≡ s
+state-back : (s : State) → imageState (stateByte s) (epochLeft s) ≡ s
 state-back Steady = refl
 state-back (Changing left) = refl
 
@@ -49,7 +49,7 @@ drive-back d w = ap driveOf (row-only driveRow (driveValues d) (fit d w)) ∙ dr
 
 -- the code's three pieces are the row
 pub image-of : (d : Drive)
-    → wholeImage (frontImage (numbersImage (d .n) (d .p) (d .f) (stateByte (d .state)) (d .epoch) (leftOf (d .state))) (d .salt) (d .counter)) (d .node) (d .present) (d .old)
+    → wholeImage (frontImage (numbersImage (d .n) (d .p) (d .f) (stateByte (d .state)) (d .epoch) (epochLeft (d .state))) (d .salt) (d .counter)) (d .node) (d .present) (d .old)
     ≡ driveImage d
 unfolding numbersImage driveImage
 image-of d = simp append-assoc
@@ -59,7 +59,7 @@ byte-of zero left h = refl
 byte-of (suc zero) left h = refl
 byte-of (suc (suc b)) left h = absurd (omega arith)
 
-left-of : (b left : ℕ) → (b ≡ 0 → left ≡ 0) → leftOf (imageState b left) ≡ left
+left-of : (b left : ℕ) → (b ≡ 0 → left ≡ 0) → epochLeft (imageState b left) ≡ left
 left-of zero left h = sym (h refl)
 left-of (suc b) left h = rw (ne-eqb (suc b) 0 (λ e. omega arith)) refl
 

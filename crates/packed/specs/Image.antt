@@ -17,9 +17,9 @@ use Rattle.drive.specs.declared.State.the-variants.{Steady, Changing}
 use Rattle.drive.specs.Drive.{zeros, blankDrive}
 use Rattle.drive.specs.Head.{stateByte}
 
-abbrev pub leftOf : State → ℕ
-leftOf Steady = 0
-leftOf (Changing left) = left
+abbrev pub epochLeft : State → ℕ
+epochLeft Steady = 0
+epochLeft (Changing left) = left
 
 -- N, P, F, state, zero, epoch, the epoch being left, zeros
 abbrev pub imageNumbers : List Field
@@ -48,7 +48,7 @@ wholeImage front node present old = row wholePieces (front & node & present & ol
 
 abbrev pub driveValues : Drive → Values driveRow
 driveValues d =
-    d .n & d .p & d .f & stateByte (d .state) & zeros 1 & d .epoch & leftOf (d .state) & zeros 6 & d .salt & d .counter & d .node & d .present & d .old & tt
+    d .n & d .p & d .f & stateByte (d .state) & zeros 1 & d .epoch & epochLeft (d .state) & zeros 6 & d .salt & d .counter & d .node & d .present & d .old & tt
 
 unfoldable pub driveImage : Drive → List ℕ
 driveImage d = row driveRow (driveValues d)
@@ -84,7 +84,7 @@ pub record DriveFits (d : Drive) : Type 0 where
   pub pWidth : d .p < 2 ^ 32
   pub fWidth : d .f < 2 ^ 32
   pub epochWidth : d .epoch < 2 ^ 16
-  pub leftWidth : leftOf (d .state) < 2 ^ 16
+  pub leftWidth : epochLeft (d .state) < 2 ^ 16
   pub counterWidth : d .counter < 2 ^ 64
   pub saltLong : length (d .salt) ≡ 16
   pub nodeLong : length (d .node) ≡ 32

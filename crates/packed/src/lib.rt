@@ -7,11 +7,11 @@ ghost use Prim.Native.Nat.{_≤_};
 ghost use lib.ListN.{length};
 ghost use Rattle.base.specs.Lists.{part};
 ghost use Rattle.words.specs.Le.{num};
-ghost use Rattle.packed.specs.Image.{leftOf, numbersImage, frontImage, wholeImage, driveImage, imageState, driveIn};
+ghost use Rattle.packed.specs.Image.{epochLeft, numbersImage, frontImage, wholeImage, driveImage, imageState, driveIn};
 
 // 16-17: the epoch being left.
-fn left_of(state: State) -> u16
-    ensures { λ r. ⌜ r ≡ leftOf state ⌝ }
+fn epoch_left(state: State) -> u16
+    ensures { λ r. ⌜ r ≡ epochLeft state ⌝ }
 {
     match state {
         State::Steady => 0,
@@ -66,7 +66,7 @@ pub fn pack(d: Drive) -> [u8; 144]
         d.f,
         drive::state_byte(state),
         d.epoch,
-        left_of(state),
+        epoch_left(state),
     );
     let salt = d.salt;
     let front = front_image(numbers, salt, d.counter);

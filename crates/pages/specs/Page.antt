@@ -15,8 +15,8 @@ use Rattle.records.specs.Record.{recordOf}
 use Rattle.line.specs.Decimal.{decimal, longDecimal}
 use Rattle.line.specs.Texts.{t-flakes}
 use Rattle.line.specs.Lines.{newline}
-use Rattle.sheets.specs.Sheet.{sized, mountedBy, volumeIn, outsideIn, sheetLine}
-use Rattle.pages.specs.Words.{t-nugget, t-key, t-new, t-old, t-present, t-epoch, t-keycount, t-counter, t-secret, t-needed, t-free, t-none}
+use Rattle.sheets.specs.Sheet.{inputSized, mountedBy, volumeIn, outsideIn, sheetLine}
+use Rattle.pages.specs.Words.{t-nugget, t-key-is, t-new, t-old, t-present, t-epoch, t-keycount, t-counter, t-secret, t-needed, t-free, t-none}
 
 -- "its epoch is the head's, or, while changing, the head's or one less. [..] One less means: under the old secret."
 unfoldable pub keyText : Drive → ℕ → List ℕ
@@ -37,22 +37,22 @@ unfoldable pub flakesText : List ℕ → List ℕ
 flakesText [] = t-none
 flakesText (f ∷ fs) = decimal f ++ others fs
 
--- a flake's mark: `=` before the first, `,` before the others
-abbrev pub markFor : Bool → List ℕ
-markFor true = 61 ∷ []
-markFor false = 44 ∷ []
+-- a flake's sign: `=` before the first, `,` before the others
+abbrev pub signFor : Bool → List ℕ
+signFor true = 61 ∷ []
+signFor false = 44 ∷ []
 
--- `=0,1`: each behind its mark; nothing if there is none
-unfoldable pub marked : List ℕ → List ℕ
-marked [] = []
-marked (f ∷ fs) = (61 ∷ decimal f) ++ others fs
+-- `=0,1`: each behind its sign; nothing if there is none
+unfoldable pub withSigns : List ℕ → List ℕ
+withSigns [] = []
+withSigns (f ∷ fs) = (61 ∷ decimal f) ++ others fs
 
 -- `nugget=2 key=old epoch=1 keycount=0 flakes=0,1`
 unfoldable pub nuggetText : Drive → Record → ℕ → List ℕ
 nuggetText d r n =
     t-nugget
     ++ (decimal n
-    ++ (t-key
+    ++ (t-key-is
     ++ (keyText d (r .epoch)
     ++ (t-epoch
     ++ (decimal (r .epoch)
@@ -90,7 +90,7 @@ driveText d v outside = nuggetLines d v (d .n) ++ (counterLine outside ++ oldLin
 
 -- the input's volume mounts
 unfoldable pub mounts : List ℕ → Bool
-mounts i = both (sized i) (accepts (mountedBy i .answer))
+mounts i = both (inputSized i) (accepts (mountedBy i .answer))
 
 -- the page for any input: a refusal is the sheet's refusal line alone
 unfoldable pub auditPage : List ℕ → List ℕ

@@ -7,8 +7,8 @@ abbrev pub t-nugget : List ℕ
 t-nugget = 110 ∷ 117 ∷ 103 ∷ 103 ∷ 101 ∷ 116 ∷ 61 ∷ []
 
 -- ` key=`
-abbrev pub t-key : List ℕ
-t-key = 32 ∷ 107 ∷ 101 ∷ 121 ∷ 61 ∷ []
+abbrev pub t-key-is : List ℕ
+t-key-is = 32 ∷ 107 ∷ 101 ∷ 121 ∷ 61 ∷ []
 
 -- `new`
 abbrev pub t-new : List ℕ

@@ -11,15 +11,15 @@ ghost use Rattle.records.specs.Journal.{bit};
 ghost use Rattle.line.specs.Decimal.{decimal};
 ghost use Rattle.line.specs.Lines.{Put};
 ghost use Rattle.line.specs.Texts.{t-flakes};
-ghost use Rattle.layout.specs.Lent.{Lent};
+ghost use Rattle.layout.specs.Shaped.{Shaped};
 ghost use Rattle.drive.specs.Drive.{shapeOf};
-ghost use Rattle.pages.specs.Words.{t-key};
-ghost use Rattle.pages.specs.Page.{keyText, presentFlakes, flakesText, markFor, marked, nuggetLine, nuggetLines, counterLine, oldLine, driveText, auditPage};
+ghost use Rattle.pages.specs.Words.{t-key-is};
+ghost use Rattle.pages.specs.Page.{keyText, presentFlakes, flakesText, signFor, withSigns, nuggetLine, nuggetLines, counterLine, oldLine, driveText, auditPage};
 
 // "One less means: under the old secret."
 fn put_key(out: &mut [u8], at: usize, d: Drive, epoch: u16) -> usize
     requires { ⌜ at + 12 ≤ length (now out) ⌝ }
-    ensures { λ r. ⌜ Put (now (out .entry)) at (t-key ++ keyText d epoch) r (now (out .exit)) ⌝ }
+    ensures { λ r. ⌜ Put (now (out .entry)) at (t-key-is ++ keyText d epoch) r (now (out .exit)) ⌝ }
 {
     if epoch == d.epoch {
         let state = d.state;
@@ -34,7 +34,7 @@ fn put_key(out: &mut [u8], at: usize, d: Drive, epoch: u16) -> usize
 // Flake f if it is present: behind the `=` of the list if it is the first there, else behind a comma.
 fn put_flake(out: &mut [u8], at: usize, first: bool, journal: u64, f: u32) -> usize
     requires { ⌜ at + 11 ≤ length (now out) ⌝ }
-    ensures { λ r. ⌜ Put (now (out .entry)) at (pick (bit journal f) (markFor first ++ decimal f) []) r (now (out .exit)) ⌝ }
+    ensures { λ r. ⌜ Put (now (out .entry)) at (pick (bit journal f) (signFor first ++ decimal f) []) r (now (out .exit)) ⌝ }
 {
     if records::has(journal, f) {
         if first {
@@ -45,10 +45,10 @@ fn put_flake(out: &mut [u8], at: usize, first: bool, journal: u64, f: u32) -> us
     at
 }
 
-// The present flakes, each behind its mark. Nothing is put yet as long as the place is the first.
-fn put_marked(out: &mut [u8], at: usize, journal: u64, p: u32) -> usize
+// The present flakes, each behind its sign. Nothing is put yet as long as the place is the first.
+fn put_with_signs(out: &mut [u8], at: usize, journal: u64, p: u32) -> usize
     requires { ⌜ (p ≤ 64) × (at + 203 ≤ length (now out)) ⌝ }
-    ensures { λ r. ⌜ Put (now (out .entry)) at (marked (presentFlakes p journal)) r (now (out .exit)) ⌝ }
+    ensures { λ r. ⌜ Put (now (out .entry)) at (withSigns (presentFlakes p journal)) r (now (out .exit)) ⌝ }
 {
     let mut next = at;
     let mut f = 0;
@@ -64,7 +64,7 @@ fn put_flakes(out: &mut [u8], at: usize, journal: u64, p: u32) -> usize
     ensures { λ r. ⌜ Put (now (out .entry)) at (t-flakes ++ flakesText (presentFlakes p journal)) r (now (out .exit)) ⌝ }
 {
     let a = line::put(&mut *out, at, b" flakes");
-    let b = put_marked(&mut *out, a, journal, p);
+    let b = put_with_signs(&mut *out, a, journal, p);
     if a == b {
         return line::put(&mut *out, b, b"=-");
     }
@@ -86,7 +86,7 @@ fn put_nugget(out: &mut [u8], at: usize, d: Drive, r: Record, n: u32) -> usize
 
 // No line is longer than 300 bytes.
 fn put_nuggets(out: &mut [u8], at: usize, d: Drive, vol: &[u8]) -> usize
-    requires { ⌜ Lent (shapeOf d) (now vol) × (at + 300 * d .n ≤ length (now out)) ⌝ }
+    requires { ⌜ Shaped (shapeOf d) (now vol) × (at + 300 * d .n ≤ length (now out)) ⌝ }
     ensures { λ k. ⌜ Put (now (out .entry)) at (nuggetLines d (now (vol .entry)) (d .n)) k (now (out .exit)) ⌝ }
 {
     let count = d.n;
@@ -123,7 +123,7 @@ fn put_old(out: &mut [u8], at: usize, d: Drive) -> usize
 
 // What a mounted drive adds to the sheet's line.
 fn put_drive(out: &mut [u8], at: usize, d: Drive, vol: &[u8], outside: u64) -> usize
-    requires { ⌜ Lent (shapeOf d) (now vol) × (at + 300 * d .n + 40 ≤ length (now out)) ⌝ }
+    requires { ⌜ Shaped (shapeOf d) (now vol) × (at + 300 * d .n + 40 ≤ length (now out)) ⌝ }
     ensures { λ k. ⌜ Put (now (out .entry)) at (driveText d (now (vol .entry)) outside) k (now (out .exit)) ⌝ }
 {
     let a = put_nuggets(&mut *out, at, d, vol);

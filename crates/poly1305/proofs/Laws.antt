@@ -12,7 +12,7 @@ use Rattle.base.proofs.PartLaws.{sets-front}
 use Rattle.words.specs.Le.{num}
 use Rattle.limbs.specs.Limbs.{quad, p}
 use Rattle.poly1305.specs.Poly1305.{clamp}
-use Rattle.poly1305.specs.State.{zeros}
+use Rattle.poly1305.specs.State.{zeroBlock}
 use Rattle.words.proofs.LeLaws.{num-append}
 
 -- masks act word by word
@@ -47,13 +47,13 @@ num-zeros zero (suc k) = refl
 num-zeros (suc n) zero = rw (num-zeros n 0)
 num-zeros (suc n) (suc k) = num-zeros n k
 
-one-zeros : (n : ℕ) → num (1 ∷ drop (suc n) zeros) ≡ num (1 ∷ [])
+one-zeros : (n : ℕ) → num (1 ∷ drop (suc n) zeroBlock) ≡ num (1 ∷ [])
 unfolding num
 one-zeros n = rw (num-zeros 16 (suc n))
 
 -- bytes laid into zeros with a 1 behind them
-pub num-laid : (v : List ℕ) (n : ℕ) → length v ≡ n → n < 16 → num (set (sets zeros 0 v) n 1) ≡ num (v ++ (1 ∷ []))
+pub num-laid : (v : List ℕ) (n : ℕ) → length v ≡ n → n < 16 → num (set (sets zeroBlock 0 v) n 1) ≡ num (v ++ (1 ∷ []))
 num-laid v n e h =
-    let list : set (sets zeros 0 v) n 1 ≡ v ++ (1 ∷ drop (suc n) zeros) =
-    rw (sets-front zeros v (omega arith), e, drop-cons zeros n 0 h) (set-at v _ (drop (suc n) zeros) 1 n e) in
-    rw (list, num-append v (1 ∷ drop (suc n) zeros), num-append v (1 ∷ []), one-zeros n)
+    let list : set (sets zeroBlock 0 v) n 1 ≡ v ++ (1 ∷ drop (suc n) zeroBlock) =
+    rw (sets-front zeroBlock v (omega arith), e, drop-cons zeroBlock n 0 h) (set-at v _ (drop (suc n) zeroBlock) 1 n e) in
+    rw (list, num-append v (1 ∷ drop (suc n) zeroBlock), num-append v (1 ∷ []), one-zeros n)

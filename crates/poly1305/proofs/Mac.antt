@@ -22,7 +22,7 @@ use Rattle.limbs.proofs.Digits.{value-limbs}
 use Rattle.limbs.proofs.TurnLaws.{turn-lt}
 use Rattle.poly1305.specs.declared.State.{State}
 use Rattle.poly1305.specs.Poly1305.{clamp, poly1305}
-use Rattle.poly1305.specs.State.{zeros, started, emptied, held, push, absorbed, ended, finished, Good}
+use Rattle.poly1305.specs.State.{zeroBlock, started, emptied, held, push, absorbed, ended, finished, GoodState}
 use Rattle.poly1305.proofs.Laws.{clamp-lt, num-laid}
 use Rattle.poly1305.proofs.StateLaws.{start-good, absorbed-pad, emptied-good, lays, block}
 
@@ -37,7 +37,7 @@ unfolding ended
 ended-begun s e = no _ (ne-eqb (s .fill) 0 e) refl
 
 -- the last block, laid into zeros with its 1
-pub ended-by : (s : State) (v : List ℕ) (x : Limbs) → Good s → (s .fill ≡ 0 → ⊥) → v ≡ sets zeros 0 (take (s .fill - 0) (s .buf))
+pub ended-by : (s : State) (v : List ℕ) (x : Limbs) → GoodState s → (s .fill ≡ 0 → ⊥) → v ≡ sets zeroBlock 0 (take (s .fill - 0) (s .buf))
     → x ≡ limbsOf (value (s .r) * (value (s .acc) + num (set v (s .fill) 1)) % p) → value x ≡ ended s
 unfolding turn
 ended-by s v x g e f h =
@@ -48,7 +48,7 @@ ended-by s v x g e f h =
     ap value whole ∙ value-limbs _ (turn-lt (value (s .r)) (value (s .acc)) l) ∙ sym (ended-begun s e)
 
 -- the last bytes, fewer than a block
-short : (s : State) (m : List ℕ) → Good s → s .fill ≡ 0 → 0 < length m → length m < 16 → ended (absorbed s m) ≡ turn (value (s .r)) (value (s .acc)) m
+short : (s : State) (m : List ℕ) → GoodState s → s .fill ≡ 0 → 0 < length m → length m < 16 → ended (absorbed s m) ≡ turn (value (s .r)) (value (s .acc)) m
 short s m g e some few =
     let n = s .fill + length m in
     let t = held s (sets (s .buf) (s .fill) m) n in
@@ -56,7 +56,7 @@ short s m g e some few =
     (ended-begun t (λ z. omega arith) ∙ rw (e, zero-add (length m), sets-front (s .buf) m (omega (arith, g .whole)), take-at m (drop (length m) (s .buf)) (length m) refl))
 
 -- the turns of a whole message, from an empty buffer
-along : (n : ℕ) (s : State) (m : List ℕ) → Good s → s .fill ≡ 0 → n ≡ (length m + 15) / 16 → ended (absorbed s m) ≡ turns n (value (s .r)) (value (s .acc)) m
+along : (n : ℕ) (s : State) (m : List ℕ) → GoodState s → s .fill ≡ 0 → n ≡ (length m + 15) / 16 → ended (absorbed s m) ≡ turns n (value (s .r)) (value (s .acc)) m
 unfolding fold turns
 along zero s [] g e q = ended-empty s e
 along zero s (b ∷ m) g e q = absurd (omega arith)

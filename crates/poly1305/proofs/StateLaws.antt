@@ -21,18 +21,18 @@ use Rattle.limbs.specs.Turns.{turn, turns}
 use Rattle.limbs.proofs.Digits.{limbs-below, limbs-reduced, value-limbs}
 use Rattle.limbs.proofs.TurnLaws.{turn-lt}
 use Rattle.poly1305.specs.declared.State.{State}
-use Rattle.poly1305.specs.State.{zeros, started, emptied, held, push, absorbed, Good}
+use Rattle.poly1305.specs.State.{zeroBlock, started, emptied, held, push, absorbed, GoodState}
 use Rattle.base.proofs.PartLaws.{sets-full}
 
 -- two pieces one after the other are the joined piece
 pub join : (s : State) (a b : List ℕ) → absorbed (absorbed s a) b ≡ absorbed s (a ++ b)
 join s a b = sym (fold-append push s a b)
 
-pub start-good : (key : List ℕ) → Good (started key)
+pub start-good : (key : List ℕ) → GoodState (started key)
 unfolding started p
 start-good key = record { key = limbs-below _; sum = limbs-reduced 0 (lit< tt); pad = limbs-below _; room = lit< tt; whole = refl }
 
-pub emptied-good : (s : State) (a : ℕ) → Good s → a < p → Good (emptied s a)
+pub emptied-good : (s : State) (a : ℕ) → GoodState s → a < p → GoodState (emptied s a)
 emptied-good s a g h = record { key = g .key; sum = limbs-reduced a h; pad = g .pad; room = lit< tt; whole = refl }
 
 -- a byte that leaves room
@@ -46,10 +46,10 @@ pub push-emptied : (s : State) (b : ℕ) → 16 ≤ s .fill + 1
 unfolding push
 push-emptied s b h = no _ (le-ltb (s .fill + 1) 16 h) refl
 
-pub push-good : (s : State) (b : ℕ) → Good s → Good (push s b)
+pub push-good : (s : State) (b : ℕ) → GoodState s → GoodState (push s b)
 push-good s b g = go (told (ltb (s .fill + 1) 16))
   where
-    go : (ltb (s .fill + 1) 16 ≡ true) ⊎ (ltb (s .fill + 1) 16 ≡ false) → Good (push s b)
+    go : (ltb (s .fill + 1) 16 ≡ true) ⊎ (ltb (s .fill + 1) 16 ≡ false) → GoodState (push s b)
     go (inl e) =
         let h : s .fill + 1 < 16 = ltb-true (s .fill + 1) 16 e in
         rw (push-held s b h) record { key = g .key; sum = g .sum; pad = g .pad; room = h; whole = length-set (s .buf) (s .fill) b ∙ g .whole }
@@ -57,7 +57,7 @@ push-good s b g = go (told (ltb (s .fill + 1) 16))
         rw (push-emptied s b (ltb-false (s .fill + 1) 16 e))
         (emptied-good s (turn (value (s .r)) (value (s .acc)) (set (s .buf) (s .fill) b)) g (turn-lt (value (s .r)) (value (s .acc)) (set (s .buf) (s .fill) b)))
 
-pub absorbed-good : (s : State) (m : List ℕ) → Good s → Good (absorbed s m)
+pub absorbed-good : (s : State) (m : List ℕ) → GoodState s → GoodState (absorbed s m)
 unfolding fold
 absorbed-good s [] g = g
 absorbed-good s (b ∷ m) g = absorbed-good (push s b) m (push-good s b g)
@@ -92,17 +92,17 @@ fills [] s b h = push-emptied s b (omega arith)
 fills (c ∷ l) s b h =
     rw (push-held s b (omega arith)) (fills l (held s (set (s .buf) (s .fill) b) (s .fill + 1)) c (omega arith) ∙ rw (add-one (s .fill)))
 
-pub filled : (l : List ℕ) (s : State) → Good s → s .fill + length l ≡ 16
+pub filled : (l : List ℕ) (s : State) → GoodState s → s .fill + length l ≡ 16
     → absorbed s l ≡ emptied s (turn (value (s .r)) (value (s .acc)) (sets (s .buf) (s .fill) l))
 filled [] s g h = absurd (omega (arith, g .room))
 filled (b ∷ l) s g h = fills l s b h
 
 -- a whole block
-pub block : (s : State) (l : List ℕ) → Good s → s .fill ≡ 0 → length l ≡ 16 → absorbed s l ≡ emptied s (turn (value (s .r)) (value (s .acc)) l)
+pub block : (s : State) (l : List ℕ) → GoodState s → s .fill ≡ 0 → length l ≡ 16 → absorbed s l ≡ emptied s (turn (value (s .r)) (value (s .acc)) l)
 block s l g e h = filled l s g (omega arith) ∙ rw (e, sets-full (s .buf) l (h ∙ sym (g .whole)))
 
 -- whole blocks
-pub many : (n : ℕ) (s : State) (l : List ℕ) → Good s → s .fill ≡ 0 → 16 * suc n ≤ length l
+pub many : (n : ℕ) (s : State) (l : List ℕ) → GoodState s → s .fill ≡ 0 → 16 * suc n ≤ length l
     → absorbed s (take (16 * suc n) l) ≡ emptied s (turns (suc n) (value (s .r)) (value (s .acc)) l)
 unfolding turns
 many zero s l g e h = block s (take 16 l) g e (length-take-le 16 l h)
@@ -118,7 +118,7 @@ many (suc n) s l g e h =
     )
     (many n (emptied s a) (drop 16 l) (emptied-good s a g small) refl (rw (length-drop 16 l) (omega arith)) ∙ rw (value-limbs a small))
 
-pub run : (n : ℕ) (s : State) (l : List ℕ) → Good s → s .fill ≡ 0 → (n ≡ 0 → ⊥) → 16 * n ≤ length l
+pub run : (n : ℕ) (s : State) (l : List ℕ) → GoodState s → s .fill ≡ 0 → (n ≡ 0 → ⊥) → 16 * n ≤ length l
     → absorbed s (take (16 * n) l) ≡ emptied s (turns n (value (s .r)) (value (s .acc)) l)
 run zero s l g e z h = absurd (z refl)
 run (suc n) s l g e z h = many n s l g e h
@@ -129,7 +129,7 @@ unfolding fold
 run-none n s l e = rw e
 
 -- the state with the limbs of a
-pub emptied-by : (s : State) {x : Limbs} (a : ℕ) → x ≡ limbsOf a → record { r = s .r; acc = x; s = s .s; buf = zeros; fill = 0 } ≡ emptied s a
+pub emptied-by : (s : State) {x : Limbs} (a : ℕ) → x ≡ limbsOf a → record { r = s .r; acc = x; s = s .s; buf = zeroBlock; fill = 0 } ≡ emptied s a
 emptied-by s a e = rw e
 
 -- one turn over a block

@@ -13,17 +13,17 @@ use Rattle.limbs.specs.Turns.{turn}
 use Rattle.poly1305.specs.declared.State.{State}
 use Rattle.poly1305.specs.Poly1305.{clamp}
 
-abbrev pub zeros : List ℕ
-zeros = replicate 16 0
+abbrev pub zeroBlock : List ℕ
+zeroBlock = replicate 16 0
 
 -- nothing absorbed yet
 unfoldable pub started : List ℕ → State
 started key =
-    record { r = limbsOf (clamp (num (part 0 16 key))); acc = limbsOf 0; s = limbsOf (num (part 16 16 key)); buf = zeros; fill = 0 }
+    record { r = limbsOf (clamp (num (part 0 16 key))); acc = limbsOf 0; s = limbsOf (num (part 16 16 key)); buf = zeroBlock; fill = 0 }
 
 -- the accumulator is the number a, and the buffer is empty
 abbrev pub emptied : State → ℕ → State
-emptied s a = record { r = s .r; acc = limbsOf a; s = s .s; buf = zeros; fill = 0 }
+emptied s a = record { r = s .r; acc = limbsOf a; s = s .s; buf = zeroBlock; fill = 0 }
 
 -- the buffer is l, of which n bytes are taken
 abbrev pub held : State → List ℕ → ℕ → State
@@ -49,7 +49,7 @@ unfoldable pub finished : State → List ℕ
 finished s = le 16 (ended s + value (s .s))
 
 -- a state that start and absorb give
-pub record Good (s : State) : Type 0 where
+pub record GoodState (s : State) : Type 0 where
   pub key : Below (2 ^ 26) (s .r)
   pub sum : Reduced (s .acc)
   pub pad : Below (2 ^ 26) (s .s)

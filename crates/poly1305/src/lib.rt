@@ -7,7 +7,7 @@ ghost use Rattle.base.specs.Lists.{part};
 ghost use Rattle.words.specs.Le.{num};
 ghost use Rattle.limbs.specs.Limbs.{limbsOf};
 ghost use Rattle.poly1305.specs.Poly1305.{clamp};
-ghost use Rattle.poly1305.specs.State.{started, absorbed, finished, Good};
+ghost use Rattle.poly1305.specs.State.{started, absorbed, finished, GoodState};
 use limbs::Limbs;
 
 // The key's r and s, the accumulator, and the bytes of a block that isn't full yet.
@@ -63,7 +63,7 @@ pub fn start(key: [u8; 32]) -> State
 
 // The bytes of m behind those in the buffer, which they don't fill.
 fn lay(s: State, m: &[u8]) -> State
-    requires { ⌜ Good s × (s .fill + length (now m) < 16) ⌝ }
+    requires { ⌜ GoodState s × (s .fill + length (now m) < 16) ⌝ }
     ensures { λ r. ⌜ r ≡ absorbed s (now (m .entry)) ⌝ }
 {
     let r = s.r;
@@ -84,7 +84,7 @@ fn lay(s: State, m: &[u8]) -> State
 
 // The bytes of m behind those in the buffer, which they fill.
 fn top_up(s: State, m: &[u8]) -> State
-    requires { ⌜ Good s × (s .fill + length (now m) ≡ 16) ⌝ }
+    requires { ⌜ GoodState s × (s .fill + length (now m) ≡ 16) ⌝ }
     ensures { λ r. ⌜ (r ≡ absorbed s (now (m .entry))) × (r .fill ≡ 0) ⌝ }
 {
     let r = s.r;
@@ -105,7 +105,7 @@ fn top_up(s: State, m: &[u8]) -> State
 
 // The first n blocks of m, from an empty buffer on.
 fn push_blocks(s: State, m: &[u8], n: usize) -> State
-    requires { ⌜ Good s × (s .fill ≡ 0) × (16 * n ≤ length (now m)) ⌝ }
+    requires { ⌜ GoodState s × (s .fill ≡ 0) × (16 * n ≤ length (now m)) ⌝ }
     ensures { λ r. ⌜ (r ≡ absorbed s (take (16 * n) (now (m .entry)))) × (r .fill ≡ 0) ⌝ }
 {
     if n == 0 {
@@ -126,7 +126,7 @@ fn push_blocks(s: State, m: &[u8], n: usize) -> State
 
 // All of m, from an empty buffer on.
 fn aligned(s: State, m: &[u8]) -> State
-    requires { ⌜ Good s × (s .fill ≡ 0) ⌝ }
+    requires { ⌜ GoodState s × (s .fill ≡ 0) ⌝ }
     ensures { λ r. ⌜ r ≡ absorbed s (now (m .entry)) ⌝ }
 {
     let len = m.len();
@@ -137,7 +137,7 @@ fn aligned(s: State, m: &[u8]) -> State
 }
 
 pub fn absorb(s: State, m: &[u8]) -> State
-    requires { ⌜ Good s ⌝ }
+    requires { ⌜ GoodState s ⌝ }
     ensures { λ r. ⌜ r ≡ absorbed s (now (m .entry)) ⌝ }
 {
     let len = m.len();
@@ -154,7 +154,7 @@ pub fn absorb(s: State, m: &[u8]) -> State
 }
 
 pub fn finish(s: State) -> [u8; 16]
-    requires { ⌜ Good s ⌝ }
+    requires { ⌜ GoodState s ⌝ }
     ensures { λ r. ⌜ r ≡ finished s ⌝ }
 {
     let r = s.r;

@@ -5,7 +5,7 @@ use Prim.Native.Nat.{ℕ}
 use lib.ListN.{length}
 use Rattle.words.specs.Le.{Bytes}
 use Rattle.poly1305.specs.declared.State.{State}
-use Rattle.poly1305.specs.State.{started, absorbed, finished, Good}
+use Rattle.poly1305.specs.State.{started, absorbed, finished, GoodState}
 use Rattle.poly1305.specs.Poly1305.{poly1305}
 use Rattle.poly1305.proofs.StateLaws.{start-good, absorbed-good}
 use Rattle.poly1305.proofs.Mac.{mac}
@@ -18,8 +18,8 @@ module _ {s t : State} (key m : List ℕ) (starts : s ≡ started key) (absorbs 
   both : t ≡ absorbed (started key) m
   both = absorbs ∙ ap (λ (x : State). absorbed x m) starts
 
-  pub tag-good : Good t
-  tag-good = subst Good (sym both) (absorbed-good (started key) m (start-good key))
+  pub tag-good : GoodState t
+  tag-good = subst GoodState (sym both) (absorbed-good (started key) m (start-good key))
 
   pub tagged : length key ≡ 32 → Bytes key → finished t ≡ poly1305 key m
   tagged l b = ap finished both ∙ mac key m l b

@@ -27,21 +27,21 @@ unfoldable pub laidBytes : List ℕ → ℕ → ℕ → List ℕ → List ℕ
 laidBytes key k f d = pick (leb (length d) 4096) (pick (ltb f 64) (xorl d (padOf (lockWith key k) f (length d))) d) d
 
 -- 1, 2
-unfoldable pub lentAnswer : Shape → List ℕ → Answer
-lentAnswer s v = pick (inLimits s) (pick (eqb (length v) (lengthOf s)) A.Accepted A.Length) A.Limits
+unfoldable pub shapedAnswer : Shape → List ℕ → Answer
+shapedAnswer s v = pick (inLimits s) (pick (eqb (length v) (lengthOf s)) A.Accepted A.Length) A.Limits
 
 -- 1, 2, 8
 unfoldable pub renewAnswer : Shape → List ℕ → ℕ → Answer
-renewAnswer s v n = pick (accepts (lentAnswer s v)) (pick (ltb n (s .n)) A.Accepted A.PastEnd) (lentAnswer s v)
+renewAnswer s v n = pick (accepts (shapedAnswer s v)) (pick (ltb n (s .n)) A.Accepted A.PastEnd) (shapedAnswer s v)
 
 unfoldable pub pathAnswer : Shape → Gauge → List ℕ → ℕ → Answer
 pathAnswer s gauge v n = pick (accepts (renewAnswer s v n)) (pathOf s gauge v n) (renewAnswer s v n)
 
 unfoldable pub wholeAnswer : Shape → Gauge → List ℕ → Answer
-wholeAnswer s gauge v = pick (accepts (lentAnswer s v)) (wholeOf s gauge v) (lentAnswer s v)
+wholeAnswer s gauge v = pick (accepts (shapedAnswer s v)) (wholeOf s gauge v) (shapedAnswer s v)
 
 unfoldable pub renewedBytes : Shape → ℕ → List ℕ → List ℕ
 renewedBytes s n v = pick (accepts (renewAnswer s v n)) (renewed s n v) v
 
 unfoldable pub builtBytes : Shape → List ℕ → List ℕ
-builtBytes s v = pick (accepts (lentAnswer s v)) (built s v) v
+builtBytes s v = pick (accepts (shapedAnswer s v)) (built s v) v

@@ -10,7 +10,7 @@ ghost use Rattle.keys.specs.Tags.{tagOf};
 ghost use Rattle.layout.specs.Shape.{shape};
 ghost use Rattle.records.specs.Record.{against};
 ghost use Rattle.images.specs.Answers.{answerImage};
-ghost use Rattle.probe.specs.Probes.{lockWith, lentAnswer, pathAnswer, wholeAnswer, renewAnswer, laidBytes, renewedBytes, builtBytes};
+ghost use Rattle.probe.specs.Probes.{lockWith, shapedAnswer, pathAnswer, wholeAnswer, renewAnswer, laidBytes, renewedBytes, builtBytes};
 
 #[no_mangle]
 pub extern "C" fn ngt_nugget_key(secret: &[u8; 32], salt: &[u8; 16], n: u32, out: &mut [u8; 32])
@@ -75,8 +75,8 @@ pub extern "C" fn ngt_lay_pad(flake: &mut [u8], key: &[u8; 32], k: u64, f: u32)
 }
 
 // Tests 1 and 2 of a shape and a volume.
-fn lent(vol: &[u8], s: Shape) -> Answer
-    ensures { λ r. ⌜ r ≡ lentAnswer s (now (vol .entry)) ⌝ }
+fn shaped(vol: &[u8], s: Shape) -> Answer
+    ensures { λ r. ⌜ r ≡ shapedAnswer s (now (vol .entry)) ⌝ }
 {
     if layout::in_limits(s) {
         if vol.len() == layout::length_of(s) {
@@ -88,10 +88,10 @@ fn lent(vol: &[u8], s: Shape) -> Answer
 }
 
 // And 8 for the nugget.
-fn lent_nugget(vol: &[u8], s: Shape, n: u32) -> Answer
+fn shaped_nugget(vol: &[u8], s: Shape, n: u32) -> Answer
     ensures { λ r. ⌜ r ≡ renewAnswer s (now (vol .entry)) n ⌝ }
 {
-    let a = lent(vol, s);
+    let a = shaped(vol, s);
     if answers::accepted(a) {
         if n < s.n {
             return Answer::Accepted;
@@ -104,7 +104,7 @@ fn lent_nugget(vol: &[u8], s: Shape, n: u32) -> Answer
 fn path(vol: &[u8], s: Shape, gauge: Gauge, n: u32) -> Answer
     ensures { λ r. ⌜ r ≡ pathAnswer s gauge (now (vol .entry)) n ⌝ }
 {
-    let a = lent_nugget(vol, s, n);
+    let a = shaped_nugget(vol, s, n);
     if answers::accepted(a) {
         return tree::path(vol, s, gauge, n);
     }
@@ -114,7 +114,7 @@ fn path(vol: &[u8], s: Shape, gauge: Gauge, n: u32) -> Answer
 fn whole(vol: &[u8], s: Shape, gauge: Gauge) -> Answer
     ensures { λ r. ⌜ r ≡ wholeAnswer s gauge (now (vol .entry)) ⌝ }
 {
-    let a = lent(vol, s);
+    let a = shaped(vol, s);
     if answers::accepted(a) {
         return tree::whole(vol, s, gauge);
     }
@@ -186,7 +186,7 @@ pub extern "C" fn ngt_renew(vol: &mut [u8], n: u32, p: u32, f: u32, nugget: u32)
         version: 1,
         cipher: 0,
     };
-    let a = lent_nugget(vol, s, nugget);
+    let a = shaped_nugget(vol, s, nugget);
     if answers::accepted(a) {
         tree::renew(vol, s, nugget);
     }
@@ -203,7 +203,7 @@ pub extern "C" fn ngt_build(vol: &mut [u8], n: u32, p: u32, f: u32)
         version: 1,
         cipher: 0,
     };
-    let a = lent(vol, s);
+    let a = shaped(vol, s);
     if answers::accepted(a) {
         tree::build(vol, s);
     }

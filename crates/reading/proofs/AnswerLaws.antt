@@ -23,7 +23,7 @@ use Rattle.nuggets.specs.Tests.{nuggetRead}
 use Rattle.nuggets.specs.declared.Span.{Span}
 use Rattle.nuggets.specs.Touched.{touchedOf, spanOf, fitsIn}
 use Rattle.reading.specs.Read.{nuggetsUp, nuggetsOf, readAnswer, readBuffer, bufferAt}
-use Rattle.layout.specs.Lent.{Lent}
+use Rattle.layout.specs.Shaped.{Shaped}
 use Rattle.drive.proofs.OpeningLaws.{opening-lent}
 use Rattle.nuggets.proofs.TouchLaws.{fits-within}
 
@@ -68,7 +68,7 @@ module _ (d : Drive) (v : List ℕ) (o len : ℕ) where
   answer-opening h = sym (no _ h refl)
 
 -- what an accepted read says
-pub read-lent : (d : Drive) (v : List ℕ) (o len : ℕ) → accepts (readAnswer d v o len) ≡ true → Lent (shapeOf d) v × (o + len ≤ capacity (shapeOf d))
+pub read-lent : (d : Drive) (v : List ℕ) (o len : ℕ) → accepts (readAnswer d v o len) ≡ true → Shaped (shapeOf d) v × (o + len ≤ capacity (shapeOf d))
 read-lent d v o len e =
     ⊎-elim
     (λ opened.

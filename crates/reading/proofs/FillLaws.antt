@@ -19,7 +19,7 @@ use Rattle.nuggets.specs.declared.Nugget.{Nugget}
 use Rattle.nuggets.specs.Nugget.{nuggetOf, contentsIn, contentsOf, byteOf}
 use Rattle.nuggets.proofs.PieceLaws.{length-contents}
 use Rattle.reading.specs.Read.{byteIn}
-use Rattle.layout.specs.Lent.{Lent}
+use Rattle.layout.specs.Shaped.{Shaped}
 
 -- n more entries, laid from place m on
 pub chunk : (f : ℕ → ℕ) (d : List ℕ) (m n : ℕ) {r z : List ℕ} → r ≡ tab m f ++ drop m d → z ≡ tab n (λ j. f (m + j))
@@ -33,7 +33,7 @@ module _ (s : Shape) (v : List ℕ) (g : Nugget) where
   in-flake f b h = rw (digits-div f h, digits-mod f h)
 
   -- a piece of a flake is so many bytes of the nugget
-  pub piece-bytes : (from at k n : ℕ) {z : List ℕ} → Lent s v → g .lock .number < s .n → (from + at) / s .f < s .p → (from + at) % s .f + n ≤ s .f → k ≡ n
+  pub piece-bytes : (from at k n : ℕ) {z : List ℕ} → Shaped s v → g .lock .number < s .n → (from + at) / s .f < s .p → (from + at) % s .f + n ≤ s .f → k ≡ n
       → z ≡ part ((from + at) % s .f) k (contentsIn s v g ((from + at) / s .f)) → z ≡ tab n (λ j. byteIn s v g (from + (at + j)))
   piece-bytes from at k n lent p q h ek ez =
       let f = (from + at) / s .f in

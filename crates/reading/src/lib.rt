@@ -12,11 +12,11 @@ ghost use Rattle.layout.specs.Spots.{capacity};
 ghost use Rattle.drive.specs.Drive.{shapeOf};
 ghost use Rattle.nuggets.specs.Nugget.{byteOf};
 ghost use Rattle.reading.specs.Read.{nuggetsUp, nuggetsOf, readAnswer, readBuffer, byteIn};
-ghost use Rattle.layout.specs.Lent.{Lent};
+ghost use Rattle.layout.specs.Shaped.{Shaped};
 
 // "ascending, each: path; [..] flakes": the nuggets from the first up to the end.
 fn test_span(d: Drive, vol: &[u8], o: usize, len: usize, first: u32, end: u32) -> Answer
-    requires { ⌜ Lent (shapeOf d) (now vol) × (0 < len) × (o + len ≤ capacity (shapeOf d)) × (end ≤ d .n) ⌝ }
+    requires { ⌜ Shaped (shapeOf d) (now vol) × (0 < len) × (o + len ≤ capacity (shapeOf d)) × (end ≤ d .n) ⌝ }
     ensures { λ r. ⌜ r ≡ nuggetsUp d (now (vol .entry)) o len (end - first) first ⌝ }
 {
     let mut n = first;
@@ -34,7 +34,7 @@ fn test_span(d: Drive, vol: &[u8], o: usize, len: usize, first: u32, end: u32) -
 
 // The tests of every nugget that the range meets; a range of no bytes meets none.
 fn test_nuggets(d: Drive, vol: &[u8], o: usize, len: usize) -> Answer
-    requires { ⌜ Lent (shapeOf d) (now vol) × (o + len ≤ capacity (shapeOf d)) ⌝ }
+    requires { ⌜ Shaped (shapeOf d) (now vol) × (o + len ≤ capacity (shapeOf d)) ⌝ }
     ensures { λ r. ⌜ r ≡ nuggetsOf d (now (vol .entry)) o len ⌝ }
 {
     if len == 0 {
@@ -60,7 +60,7 @@ fn admit(d: Drive, vol: &[u8], offset: u64, len: usize) -> Answer
 
 // The contents of one nugget from its byte `from` on, flake by flake.
 fn fill_nugget(vol: &[u8], s: Shape, g: Nugget, from: usize, buf: &mut [u8])
-    requires { ⌜ Lent s (now vol) × (g .lock .number < s .n) × (from + length (now buf) ≤ s .p * s .f) ⌝ }
+    requires { ⌜ Shaped s (now vol) × (g .lock .number < s .n) × (from + length (now buf) ≤ s .p * s .f) ⌝ }
     ensures { λ _. ⌜ now (buf .exit) ≡ tab (length (now (buf .entry))) (λ i. byteIn s (now (vol .entry)) g (from + i)) ⌝ }
 {
     let size = s.f as usize;
@@ -76,7 +76,7 @@ fn fill_nugget(vol: &[u8], s: Shape, g: Nugget, from: usize, buf: &mut [u8])
 
 // The contents from offset o on, nugget by nugget; each nugget's key is made once.
 fn fill(d: Drive, vol: &[u8], o: usize, buf: &mut [u8])
-    requires { ⌜ Lent (shapeOf d) (now vol) × (o + length (now buf) ≤ capacity (shapeOf d)) ⌝ }
+    requires { ⌜ Shaped (shapeOf d) (now vol) × (o + length (now buf) ≤ capacity (shapeOf d)) ⌝ }
     ensures { λ _. ⌜ now (buf .exit) ≡ tab (length (now (buf .entry))) (λ i. byteOf d (now (vol .entry)) (o + i)) ⌝ }
 {
     let s = drive::shape_of(d);

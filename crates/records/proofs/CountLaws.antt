@@ -8,7 +8,7 @@ use lib.Pow.{pow-pos, mod-pow-add}
 use lib.Count.{ones, onesIn, ones-cat}
 use lib.Dec.{eqb}
 use Rattle.base.specs.Pick.{pick, both, either}
-use Rattle.records.specs.Journal.{bit, union, shareNone, many, present}
+use Rattle.records.specs.Journal.{bit, union, shareNone, many, flakeCount}
 use Rattle.records.proofs.BitLaws.{bit-union, share-none-bits, bit-empty}
 
 pub many-le : (n : ℕ) (g : ℕ → Bool) → many n g ≤ n
@@ -34,11 +34,11 @@ many-either (suc n) g h k e d =
     go true false z = refl
     go false b z = omega arith
 
-pub present-le : (p j : ℕ) → present p j ≤ p
+pub present-le : (p j : ℕ) → flakeCount p j ≤ p
 present-le p j = many-le p (bit j)
 
 -- sets that share none: their counts add
-pub present-union : (p j t : ℕ) → shareNone j t ≡ true → present p (union j t) ≡ present p j + present p t
+pub present-union : (p j t : ℕ) → shareNone j t ≡ true → flakeCount p (union j t) ≡ flakeCount p j + flakeCount p t
 present-union p j t e = many-either p (bit j) (bit t) (bit (union j t)) (bit-union j t) (share-none-bits j t e)
 
 ones-digit : (x : ℕ) → x < 2 → ones x ≡ pick (eqb x 1) 1 0
@@ -47,7 +47,7 @@ ones-digit zero h = refl
 ones-digit (suc zero) h = refl
 ones-digit (suc (suc x)) h = absurd (omega arith)
 
-ones-low : (p j : ℕ) → present p j ≡ ones (j % 2 ^ p)
+ones-low : (p j : ℕ) → flakeCount p j ≡ ones (j % 2 ^ p)
 unfolding many bit
 ones-low zero j = rw (mod-one j) (sym (ones-digit 0 (omega arith)))
 ones-low (suc p) j =
@@ -58,15 +58,15 @@ ones-low (suc p) j =
     (add-comm (ones (j % 2 ^ p)) (pick (eqb (j / 2 ^ p % 2) 1) 1 0))
 
 -- "counts of ones of each journal give flakes present"
-pub present-ones : (p j : ℕ) → j < 2 ^ p → present p j ≡ ones j
+pub present-ones : (p j : ℕ) → j < 2 ^ p → flakeCount p j ≡ ones j
 present-ones p j h = ones-low p j ∙ ap ones (mod-eq-of-lt h)
 
 -- more places than P add nothing to a set below 2 ^ P
-pub present-more : (p q j : ℕ) → j < 2 ^ p → j < 2 ^ q → present p j ≡ present q j
+pub present-more : (p q j : ℕ) → j < 2 ^ p → j < 2 ^ q → flakeCount p j ≡ flakeCount q j
 present-more p q j h l = present-ones p j h ∙ sym (present-ones q j l)
 
 -- an empty journal has no flake
-pub present-none : (p : ℕ) → present p 0 ≡ 0
+pub present-none : (p : ℕ) → flakeCount p 0 ≡ 0
 unfolding many
 present-none zero = refl
 present-none (suc p) = rw (bit-empty p, present-none p)

@@ -8,7 +8,7 @@ use Rattle.base.specs.Pick.{pick}
 use Rattle.records.specs.declared.Record.{Record}
 use Rattle.records.specs.declared.Way.{Way}
 use Rattle.records.specs.declared.Way.the-variants.{Idle}
-use Rattle.records.specs.Journal.{bit, many, present}
+use Rattle.records.specs.Journal.{bit, many, flakeCount}
 use Rattle.records.specs.Rule.{enciphered, keycountAfter}
 use Rattle.records.specs.Listing.{entry, padsOf, padsBy}
 use Rattle.records.proofs.BitLaws.{bit-empty}
@@ -24,7 +24,7 @@ length-pads n k s g (suc p) = length-append (padsOf n k s g p) (pick (g p) (entr
     go false = refl
 
 -- a way lists as many entries as it enciphers flakes
-pub length-padsBy : (p : ℕ) (way : Way) (n : ℕ) (r : Record) (s : List ℕ) → length (padsBy p way n r s) ≡ present p (enciphered way r)
+pub length-padsBy : (p : ℕ) (way : Way) (n : ℕ) (r : Record) (s : List ℕ) → length (padsBy p way n r s) ≡ flakeCount p (enciphered way r)
 unfolding padsBy
 length-padsBy p way n r s = length-pads n (keycountAfter way r) s (bit (enciphered way r)) p
 

@@ -40,5 +40,5 @@ many zero g = 0
 many (suc n) g = many n g + pick (g n) 1 0
 
 -- "flakes present": how many flakes below P are in the journal
-abbrev pub present : ℕ → ℕ → ℕ
-present p j = many p (bit j)
+abbrev pub flakeCount : ℕ → ℕ → ℕ
+flakeCount p j = many p (bit j)

@@ -8,8 +8,8 @@ ghost use lib.ListN.{length};
 ghost use lib.Seq.{sets};
 ghost use Rattle.layout.specs.Shape.{widthOf};
 ghost use Rattle.layout.specs.Parts.{recordAt};
-ghost use Rattle.layout.specs.Lent.{Lent};
-ghost use Rattle.records.specs.Journal.{bit, union, shareNone, liesIn, flakesFrom, allFlakes, present};
+ghost use Rattle.layout.specs.Shaped.{Shaped};
+ghost use Rattle.records.specs.Journal.{bit, union, shareNone, liesIn, flakesFrom, allFlakes, flakeCount};
 ghost use Rattle.records.specs.Record.{recordBytes, recordIn, recordOf, noneFrom, epochFits, wellFormed};
 ghost use Rattle.records.specs.Rule.{wayOf, rekeys, enciphered, turned, atTop};
 
@@ -35,7 +35,7 @@ pub enum Way {
 
 // Record n.
 pub fn read(vol: &[u8], s: Shape, n: u32) -> Record
-    requires { ⌜ Lent s (now vol) × (n < s .n) ⌝ }
+    requires { ⌜ Shaped s (now vol) × (n < s .n) ⌝ }
     ensures { λ r. ⌜ r ≡ recordOf s (now (vol .entry)) n ⌝ }
 {
     read_at(vol, s, layout::record_at(s, n))
@@ -43,7 +43,7 @@ pub fn read(vol: &[u8], s: Shape, n: u32) -> Record
 
 // Record n becomes r.
 pub fn store(vol: &mut [u8], s: Shape, n: u32, r: Record)
-    requires { ⌜ Lent s (now vol) × (n < s .n) ⌝ }
+    requires { ⌜ Shaped s (now vol) × (n < s .n) ⌝ }
     ensures { λ _. ⌜ now (vol .exit) ≡ sets (now (vol .entry)) (recordAt s n) (recordBytes s r) ⌝ }
 {
     store_at(&mut *vol, s, layout::record_at(s, n), r)
@@ -131,7 +131,7 @@ pub fn range(first: u32, last: u32) -> u64
 
 // "counts of ones of each journal give flakes present and retired"
 pub fn count(journal: u64) -> u32
-    ensures { λ r. ⌜ r ≡ present 64 journal ⌝ }
+    ensures { λ r. ⌜ r ≡ flakeCount 64 journal ⌝ }
 {
     u64::count_ones(journal)
 }

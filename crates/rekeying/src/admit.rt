@@ -4,7 +4,7 @@ use drive::Drive;
 use records::Way;
 ghost use mathlib.Core.Path.{_≡_};
 ghost use Prim.Native.Nat.{_<_};
-ghost use Rattle.layout.specs.Lent.{Lent};
+ghost use Rattle.layout.specs.Shaped.{Shaped};
 ghost use Rattle.drive.specs.Drive.{shapeOf};
 ghost use Rattle.changes.specs.Rekey.{beginAnswer, sweepAnswer, leftIn, finishAnswer, beginTests, moveTests, nuggetTests, finishTests};
 
@@ -42,7 +42,7 @@ pub fn begin(d: Drive, vol: &[u8], secret: [u8; 32]) -> Answer
 
 // "12, 13, 14, 7 flakes": all flakes present, since all are enciphered afresh.
 fn move_tests(d: Drive, vol: &[u8], n: u32) -> Answer
-    requires { ⌜ Lent (shapeOf d) (now vol) × (n < d .n) ⌝ }
+    requires { ⌜ Shaped (shapeOf d) (now vol) × (n < d .n) ⌝ }
     ensures { λ r. ⌜ r ≡ moveTests d (now (vol .entry)) n ⌝ }
 {
     let r = records::read(vol, drive::shape_of(d), n);
@@ -61,7 +61,7 @@ fn move_tests(d: Drive, vol: &[u8], n: u32) -> Answer
 
 // "7 path, 12, 13, 14, 7 flakes"
 fn nugget_tests(d: Drive, vol: &[u8], n: u32) -> Answer
-    requires { ⌜ Lent (shapeOf d) (now vol) × (n < d .n) ⌝ }
+    requires { ⌜ Shaped (shapeOf d) (now vol) × (n < d .n) ⌝ }
     ensures { λ r. ⌜ r ≡ nuggetTests d (now (vol .entry)) n ⌝ }
 {
     let a = nuggets::test_path(d, vol, n);
@@ -91,7 +91,7 @@ pub fn sweep(d: Drive, vol: &[u8], n: u32) -> Answer
 
 // How many nuggets are still under the old secret.
 fn left_in(d: Drive, vol: &[u8]) -> u32
-    requires { ⌜ Lent (shapeOf d) (now vol) ⌝ }
+    requires { ⌜ Shaped (shapeOf d) (now vol) ⌝ }
     ensures { λ r. ⌜ r ≡ leftIn d (now (vol .entry)) ⌝ }
 {
     d.n - reports::moved_in(vol, drive::shape_of(d), d.epoch)
@@ -99,7 +99,7 @@ fn left_in(d: Drive, vol: &[u8]) -> u32
 
 // "7 whole, 11, 13"
 fn finish_tests(d: Drive, vol: &[u8]) -> Answer
-    requires { ⌜ Lent (shapeOf d) (now vol) ⌝ }
+    requires { ⌜ Shaped (shapeOf d) (now vol) ⌝ }
     ensures { λ r. ⌜ r ≡ finishTests d (now (vol .entry)) ⌝ }
 {
     let a = tree::whole(vol, drive::shape_of(d), drive::gauge_of(d));

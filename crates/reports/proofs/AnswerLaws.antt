@@ -24,11 +24,11 @@ use Rattle.records.specs.Record.{recordOf}
 use Rattle.reports.specs.Report.{reportAnswer}
 use Rattle.reports.specs.Stored.{isFlake, storedAnswer}
 use Rattle.answers.proofs.StageLaws.{both-stages, passed, accepted-is}
-use Rattle.layout.specs.Lent.{Lent}
+use Rattle.layout.specs.Shaped.{Shaped}
 
 -- an accepted report
 pub record Told (d : Drive) (v : List ℕ) : Type 0 where
-  pub lent : Lent (shapeOf d) v
+  pub lent : Shaped (shapeOf d) v
   pub masks : (m : ℕ) → m < d .n → recordOf (shapeOf d) v m .held < 2 ^ d .p
 
 pub report-is : (d : Drive) (v : List ℕ) → accepts (reportAnswer d v) ≡ true → Told d v
@@ -44,7 +44,7 @@ report-is d v h =
 
 -- a stored flake that is shown
 pub record Shown (d : Drive) (v : List ℕ) (n f : ℕ) : Type 0 where
-  pub lent : Lent (shapeOf d) v
+  pub lent : Shaped (shapeOf d) v
   pub nugget : n < d .n
   pub flake : f < d .p
 

@@ -11,7 +11,7 @@ use lib.Dec.{eqb}
 use borrow.Author.Tests.{eq-eqb, ne-eqb}
 use Rattle.base.specs.Pick.{pick}
 use Rattle.layout.specs.declared.Shape.{Shape}
-use Rattle.records.specs.Journal.{many, present}
+use Rattle.records.specs.Journal.{many, flakeCount}
 use Rattle.records.specs.Record.{recordOf}
 use Rattle.records.specs.declared.Record.{Record}
 use Rattle.records.proofs.CountLaws.{many-le, present-le, present-more}
@@ -48,12 +48,12 @@ unfolding countsIn
 counts-more s p e v i ec er ek em = rw (em, ec, ek, er, add-one i)
 
 -- of a record that has moved, and of one that has not
-pub count-one : (p e : ℕ) (r : Record) {k : ℕ} → k ≡ present p (r .held) → r .epoch ≡ e
+pub count-one : (p e : ℕ) (r : Record) {k : ℕ} → k ≡ flakeCount p (r .held) → r .epoch ≡ e
     → _≡_ {A = Counts} (record { moved = 1; flakes = k; done = k }) (countOf p e r)
 unfolding countOf
 count-one p e r ek ee = rw (eq-eqb (r .epoch) e ee, ek)
 
-pub count-none : (p e : ℕ) (r : Record) {k : ℕ} → k ≡ present p (r .held) → (r .epoch ≡ e → ⊥)
+pub count-none : (p e : ℕ) (r : Record) {k : ℕ} → k ≡ flakeCount p (r .held) → (r .epoch ≡ e → ⊥)
     → _≡_ {A = Counts} (record { moved = 0; flakes = k; done = 0 }) (countOf p e r)
 unfolding countOf
 count-none p e r ek ne = rw (ne-eqb (r .epoch) e ne, ek)
@@ -101,14 +101,14 @@ pub counts-stand : (s : Shape) (p e : ℕ) (v : List ℕ) (n : ℕ) → Counted 
 unfolding countsIn countOf
 counts-stand s p e v zero = record { moved-few = omega arith; flakes-few = omega arith; done-le = omega arith; done-all = λ e. refl }
 counts-stand s p e v (suc n) =
-    one-more p n (countsIn s p e v n) (isMoved s e v n) (present p (recordOf s v n .held)) (present-le p (recordOf s v n .held)) (counts-stand s p e v n)
+    one-more p n (countsIn s p e v n) (isMoved s e v n) (flakeCount p (recordOf s v n .held)) (present-le p (recordOf s v n .held)) (counts-stand s p e v n)
 
 -- no sum of a turn rolls over
 pub counts-fit : (s : Shape) (e : ℕ) (v : List ℕ) (i : ℕ) (r : Record) {c k : Counts} → i < 16384 → c ≡ countsIn s 64 e v i → k ≡ countOf 64 e r
     → (c .moved + k .moved < 2 ^ 32) × (c .flakes + k .flakes < 2 ^ 32) × (c .done + k .done < 2 ^ 32)
 unfolding countOf
 counts-fit s e v i r l ec ek =
-    let h = one-more 64 i (countsIn s 64 e v i) (eqb (r .epoch) e) (present 64 (r .held)) (present-le 64 (r .held)) (counts-stand s 64 e v i) in
+    let h = one-more 64 i (countsIn s 64 e v i) (eqb (r .epoch) e) (flakeCount 64 (r .held)) (present-le 64 (r .held)) (counts-stand s 64 e v i) in
     rw (ec, ek) (omega (arith, h .moved-few), omega (arith, h .flakes-few), omega (arith, h .flakes-few, h .done-le))
 
 -- where no record holds a flake at or above P, the ones of its word are its flakes below P

@@ -13,7 +13,7 @@ use Rattle.answers.specs.Numbers.{accepts}
 use Rattle.answers.proofs.StageLaws.{goes-on}
 use Rattle.layout.specs.Parts.{flakeAt}
 use Rattle.layout.proofs.Limits.{limits}
-use Rattle.records.specs.Journal.{many, present}
+use Rattle.records.specs.Journal.{many, flakeCount}
 use Rattle.records.specs.Record.{recordOf}
 use Rattle.layout.specs.declared.Shape.{Shape}
 use Rattle.drive.specs.declared.Drive.{Drive}
@@ -46,7 +46,7 @@ many-not n g = omega (arith, many-rest n g)
 -- "present flakes in moved nuggets", nugget by nugget
 unfoldable pub doneIn : Shape → ℕ → ℕ → List ℕ → ℕ → ℕ
 doneIn s p e v zero = 0
-doneIn s p e v (suc n) = doneIn s p e v n + pick (eqb (recordOf s v n .epoch) e) (present p (recordOf s v n .held)) 0
+doneIn s p e v (suc n) = doneIn s p e v n + pick (eqb (recordOf s v n .epoch) e) (flakeCount p (recordOf s v n .held)) 0
 
 done-is : (s : Shape) (p e : ℕ) (v : List ℕ) (n : ℕ) → doneIn s p e v n ≡ countsIn s p e v n .done
 unfolding countsIn countOf doneIn

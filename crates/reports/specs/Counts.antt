@@ -6,7 +6,7 @@ use lib.Dec.{eqb, ltb}
 use Rattle.base.specs.Pick.{pick}
 use Rattle.layout.specs.declared.Shape.{Shape}
 use Rattle.records.specs.declared.Record.{Record}
-use Rattle.records.specs.Journal.{many, present}
+use Rattle.records.specs.Journal.{many, flakeCount}
 use Rattle.records.specs.Record.{recordOf}
 use Rattle.reports.specs.declared.told.Counts.{Counts}
 
@@ -21,12 +21,12 @@ movedIn s epoch v k = many k (isMoved s epoch v)
 -- "flakes present": of each of the first k nuggets, how many flakes below p it holds
 unfoldable pub flakesIn : Shape → ℕ → List ℕ → ℕ → ℕ
 flakesIn s p v zero = 0
-flakesIn s p v (suc k) = flakesIn s p v k + present p (recordOf s v k .held)
+flakesIn s p v (suc k) = flakesIn s p v k + flakeCount p (recordOf s v k .held)
 
 -- what one record counts for: its nugget if that has moved, its present flakes, and these once more if the nugget has moved
 unfoldable pub countOf : ℕ → ℕ → Record → Counts
 countOf p epoch r =
-    let flakes = present p (r .held) in
+    let flakes = flakeCount p (r .held) in
     record { moved = pick (eqb (r .epoch) epoch) 1 0; flakes = flakes; done = pick (eqb (r .epoch) epoch) flakes 0 }
 
 abbrev pub none : Counts

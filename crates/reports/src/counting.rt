@@ -4,7 +4,7 @@ use layout::Shape;
 use records::Record;
 ghost use mathlib.Core.Path.{_≡_};
 ghost use Prim.Native.Nat.{_+_, _^_, _<_};
-ghost use Rattle.layout.specs.Lent.{Lent};
+ghost use Rattle.layout.specs.Shaped.{Shaped};
 ghost use Rattle.reports.specs.Counts.{countOf, plus, countsIn, capOf, exactOf, shareOf};
 
 pub fn count_of(r: Record, epoch: u16) -> Counts
@@ -38,7 +38,7 @@ fn plus(a: Counts, b: Counts) -> Counts
 
 // No shape has more nuggets, so no sum of counts rolls over.
 pub fn counts_in(vol: &[u8], s: Shape, epoch: u16) -> Counts
-    requires { ⌜ Lent s (now vol) ⌝ }
+    requires { ⌜ Shaped s (now vol) ⌝ }
     ensures { λ c. ⌜ c ≡ countsIn s 64 epoch (now (vol .entry)) (s .n) ⌝ }
 {
     let n = s.n;

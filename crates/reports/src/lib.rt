@@ -13,14 +13,14 @@ pub use told::Counts;
 pub use told::Report;
 ghost use mathlib.Core.Path.{_≡_};
 ghost use denote.Ref.{ptr};
-ghost use Rattle.layout.specs.Lent.{Lent};
+ghost use Rattle.layout.specs.Shaped.{Shaped};
 ghost use Rattle.reports.specs.Counts.{movedIn};
 ghost use Rattle.reports.specs.Report.{reportAnswer, reportOf};
 ghost use Rattle.reports.specs.Stored.{isFlake, storedAnswer, storedFlake, storedAt, onward};
 
 // How many nuggets have this epoch.
 pub fn moved_in(vol: &[u8], s: Shape, epoch: u16) -> u32
-    requires { ⌜ Lent s (now vol) ⌝ }
+    requires { ⌜ Shaped s (now vol) ⌝ }
     ensures { λ r. ⌜ r ≡ movedIn s epoch (now (vol .entry)) (s .n) ⌝ }
 {
     let n = s.n;

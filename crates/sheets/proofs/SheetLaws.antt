@@ -20,15 +20,15 @@ use Rattle.drive.specs.declared.Done.{Done}
 use Rattle.opening.specs.Mount.{mountDone}
 use Rattle.reports.specs.declared.told.Report.{Report}
 use Rattle.reports.specs.Report.{reportOf}
-use Rattle.sheets.specs.Sheet.{presentIn, oldIn, outsideIn, volumeIn, sized, reportedLine, mountedText, mountedBy, sheetLine}
+use Rattle.sheets.specs.Sheet.{presentIn, oldIn, outsideIn, volumeIn, inputSized, reportedLine, mountedText, mountedBy, sheetLine}
 
 -- the volume is all that follows
 pub volume-taken : (i : List ℕ) → take (length i - 72) (drop 72 i) ≡ volumeIn i
 volume-taken i = take-all (length i - 72) (drop 72 i) (rw (length-drop 72 i) (le-refl (length i - 72)))
 
 -- an input that fills a buffer of one byte more is too long
-pub over-long : (read : ℕ) (b : List ℕ) → 61513 ≤ length b → 61512 < read → sized (take read b) ≡ false
-unfolding sized
+pub over-long : (read : ℕ) (b : List ℕ) → 61513 ≤ length b → 61512 < read → inputSized (take read b) ≡ false
+unfolding inputSized
 over-long read b h k =
     let long : 61513 ≤ length (take read b) = simp length-take (omega (arith, h, k)) in
     both-on (le-leb 72 (length (take read b)) (omega (arith, long))) (lt-leb (length (take read b)) 61512 (omega (arith, long)))
@@ -67,7 +67,7 @@ mounted-short m v =
 pub sheet-short : (i : List ℕ) → length (sheetLine i) ≤ 106
 unfolding sheetLine
 sheet-short i =
-    pick-short (sized i) (mountedText (mountedBy i) (volumeIn i)) (refusalLine A.Length) 106 (mounted-short (mountedBy i) (volumeIn i)) (refusal-short A.Length)
+    pick-short (inputSized i) (mountedText (mountedBy i) (volumeIn i)) (refusalLine A.Length) 106 (mounted-short (mountedBy i) (volumeIn i)) (refusal-short A.Length)
 
 -- so it stands whole in 128 bytes
 pub line-fits : (i : List ℕ) {s x : List ℕ} {k : ℕ} → 128 ≤ length s → Put s 0 (sheetLine i) k x → (k ≤ length x) × (k ≡ length (take k x))

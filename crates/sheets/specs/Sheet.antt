@@ -33,8 +33,8 @@ abbrev pub volumeIn : List ℕ → List ℕ
 volumeIn i = drop 72 i
 
 -- not "under 72 or over 61,512 bytes"
-unfoldable pub sized : List ℕ → Bool
-sized i = both (leb 72 (length i)) (leb (length i) 61512)
+unfoldable pub inputSized : List ℕ → Bool
+inputSized i = both (leb 72 (length i)) (leb (length i) 61512)
 
 -- the line of a report, accepted or refused
 unfoldable pub reportedLine : Report → List ℕ
@@ -50,4 +50,4 @@ mountedBy i = mountDone (volumeIn i) (presentIn i) (oldIn i) (outsideIn i)
 
 -- the line for any input: "Input under 72 or over 61,512 bytes prints `refused=2 class=form`."
 unfoldable pub sheetLine : List ℕ → List ℕ
-sheetLine i = pick (sized i) (mountedText (mountedBy i) (volumeIn i)) (refusalLine A.Length)
+sheetLine i = pick (inputSized i) (mountedText (mountedBy i) (volumeIn i)) (refusalLine A.Length)

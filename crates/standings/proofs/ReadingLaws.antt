@@ -11,7 +11,7 @@ use lib.ListN.{length, getD, drop, length-drop, drop-of-length-le}
 use lib.Seq.{drop-drop}
 use borrow.Author.Tests.{leb-true, leb-false}
 use Rattle.base.proofs.PickLaws.{told}
-use Rattle.line.specs.Reading.{upTo, past, fieldAt, valueFrom, value}
+use Rattle.line.specs.Reading.{upTo, past, fieldAt, valueFrom, decimalValue}
 use Rattle.line.proofs.ReadLaws.{up-to-le, up-to-at, up-to-on, up-to-over, past-drop}
 use Rattle.standings.specs.Standing.{atMost}
 
@@ -91,9 +91,9 @@ field-on t k i at next h e q =
     rw e g
 
 pub field-end : (t : List ℕ) (k i at from : ℕ) {n : ℕ} → k ≤ i → drop from t ≡ past 61 (drop at t) → fieldAt (k - i) (drop at t) ≡ fieldAt k t
-    → n ≡ atMost (value (upTo 32 (drop from t))) → n ≡ atMost (value (fieldAt k t))
+    → n ≡ atMost (decimalValue (upTo 32 (drop from t))) → n ≡ atMost (decimalValue (fieldAt k t))
 unfolding fieldAt
 field-end t k i at from {n} h e q r =
     let f : k - i ≡ 0 = omega arith in
     let g : upTo 32 (past 61 (drop at t)) ≡ fieldAt k t = rw f at q in
-    r ∙ rw e (ap (λ (l : List ℕ). atMost (value l)) g)
+    r ∙ rw e (ap (λ (l : List ℕ). atMost (decimalValue l)) g)

@@ -7,7 +7,7 @@ use Rattle.base.specs.Pick.{pick, both}
 use Rattle.base.specs.Lists.{same}
 use Rattle.reports.specs.Counts.{shareOf}
 use Rattle.line.specs.Lines.{reportText}
-use Rattle.line.specs.Reading.{fieldAt, value}
+use Rattle.line.specs.Reading.{fieldAt, decimalValue}
 use Rattle.standings.specs.declared.Standing.{Standing}
 use Rattle.standings.specs.declared.Found.{Found}
 use Rattle.standings.specs.declared.Found.the-variants as F
@@ -28,7 +28,7 @@ possible t =
 
 -- what a line tells: its numbers but the left ones and the share, which follow from the others
 unfoldable pub standingIn : List ℕ → Standing
-standingIn l = record { n = value (fieldAt 0 l); counts = record { moved = value (fieldAt 1 l); flakes = value (fieldAt 3 l); done = value (fieldAt 5 l) } }
+standingIn l = record { n = decimalValue (fieldAt 0 l); counts = record { moved = decimalValue (fieldAt 1 l); flakes = decimalValue (fieldAt 3 l); done = decimalValue (fieldAt 5 l) } }
 
 -- a line is taken if what it tells is possible and it is the line of that, to the byte; not one "that is refused, that no
 -- volume within the limits could give"

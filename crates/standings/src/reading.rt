@@ -2,7 +2,7 @@
 ghost use mathlib.Core.Path.{_≡_};
 ghost use Prim.Native.Nat.{_+_, _-_, _*_, _≤_};
 ghost use lib.ListN.{length, drop};
-ghost use Rattle.line.specs.Reading.{upTo, past, fieldAt, value};
+ghost use Rattle.line.specs.Reading.{upTo, past, fieldAt, decimalValue};
 ghost use Rattle.standings.specs.Standing.{atMost};
 
 // The place of the first byte `mark` from `at` on; the end if there is none.
@@ -56,7 +56,7 @@ fn grown(a: u32, b: u8) -> u32
 // The number from `at` up to a space or the end.
 fn number(text: &[u8], at: usize) -> u32
     requires { ⌜ at ≤ length (now text) ⌝ }
-    ensures { λ r. ⌜ r ≡ atMost (value (upTo 32 (drop at (now (text .entry))))) ⌝ }
+    ensures { λ r. ⌜ r ≡ atMost (decimalValue (upTo 32 (drop at (now (text .entry))))) ⌝ }
 {
     let mut a = 0;
     let mut i = at;
@@ -73,7 +73,7 @@ fn number(text: &[u8], at: usize) -> u32
 
 // The number of field k.
 pub(crate) fn field(line: &[u8], k: u32) -> u32
-    ensures { λ r. ⌜ r ≡ atMost (value (fieldAt k (now (line .entry)))) ⌝ }
+    ensures { λ r. ⌜ r ≡ atMost (decimalValue (fieldAt k (now (line .entry)))) ⌝ }
 {
     let mut at = 0;
     let mut i = 0;

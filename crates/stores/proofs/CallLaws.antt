@@ -9,7 +9,7 @@ use Rattle.nuggets.specs.Nugget.{contentsOf}
 use Rattle.changes.specs.Write.{writeWay, writeAnswer, writes, newContents, writtenDrive, writeVolume}
 use Rattle.changes.specs.Rekey.{beginAnswer, begunDrive, beginVolume, sweepAnswer, sweepWays, sweptDrive, sweepVolume, finishAnswer, finishedDrive, finishVolume}
 use Rattle.history.specs.World.{mount, write, begin, sweep, finish, asks}
-use Rattle.history.specs.Step.{step, left, mounted}
+use Rattle.history.specs.Step.{step, worldAfter, mounted}
 use Rattle.stores.specs.Store.{applied}
 use Rattle.stores.specs.Calls.{writeStores, beginStores, sweepStores, finishStores, storesOf, StoresLaid}
 use Rattle.stores.proofs.WorkLaws.{applied-pick, head-stores, change-stores}
@@ -34,7 +34,7 @@ module _ (d : Drive) (v : List ℕ) where
   finish-stores = applied-pick (accepts (finishAnswer d v)) _ v (head-stores (finishedDrive d) v)
 
 pub stores-laid : StoresLaid
-unfolding step left mounted storesOf applied
+unfolding step worldAfter mounted storesOf applied
 stores-laid w (mount any) = refl
 stores-laid w (write o bytes) = sym (write-stores (w .drive) (w .vol) o bytes)
 stores-laid w (begin secret) = sym (begin-stores (w .drive) (w .vol) secret)

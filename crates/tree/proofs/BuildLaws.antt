@@ -16,7 +16,7 @@ use Rattle.nodes.specs.Made.{Good, storeNode}
 use Rattle.nodes.proofs.StoreLaws.{outside-refl, outside-trans, outside-lent, store-outside, store-other, store-good, made-outside}
 use Rattle.tree.specs.Renewed.{storedDown, built}
 use Rattle.tree.specs.Good.{AllGood}
-use Rattle.layout.specs.Lent.{Lent}
+use Rattle.layout.specs.Shaped.{Shaped}
 
 down-outside : (s : Shape) (k : ℕ) (v : List ℕ) → k < 2 * leaves (s .n) → Outside s v (storedDown s k v)
 unfolding storedDown
@@ -25,7 +25,7 @@ down-outside s (suc k) v h =
     outside-trans (store-outside s (suc k) v (omega arith) h) (down-outside s k (storeNode s (suc k) v) (omega arith))
 
 -- with every node above k good, storing k down to 1 makes all good
-down-good : (s : Shape) (k : ℕ) (v : List ℕ) → Lent s v → k < 2 * leaves (s .n) → ((i : ℕ) → k < i → i < 2 * leaves (s .n) → Good s v i) → AllGood s (storedDown s k v)
+down-good : (s : Shape) (k : ℕ) (v : List ℕ) → Shaped s v → k < 2 * leaves (s .n) → ((i : ℕ) → k < i → i < 2 * leaves (s .n) → Good s v i) → AllGood s (storedDown s k v)
 unfolding storedDown
 down-good s zero v l h g = λ i a b. g i a b
 down-good s (suc k) v l h g =
@@ -46,6 +46,6 @@ module _ (s : Shape) (v : List ℕ) where
   unfolding built
   built-outside = down-outside s (2 * leaves (s .n) - 1) v (omega (arith, leaves-some (s .n)))
 
-  pub built-good : Lent s v → AllGood s (built s v)
+  pub built-good : Shaped s v → AllGood s (built s v)
   unfolding built
   built-good l = down-good s (2 * leaves (s .n) - 1) v l (omega (arith, leaves-some (s .n))) (λ i a b. absurd (omega (arith, leaves-some (s .n))))

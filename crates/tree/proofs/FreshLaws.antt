@@ -8,13 +8,13 @@ use Rattle.layout.specs.declared.Shape.{Shape}
 use Rattle.nodes.specs.Nodes.{nodeIn, innerOf}
 use Rattle.nodes.specs.Alike.{Alike}
 use Rattle.nodes.proofs.MadeLaws.{made-inner, made-bottom, made-alike}
-use Rattle.tree.specs.Whole.{Stands}
+use Rattle.tree.specs.Whole.{HasHeight}
 use Rattle.tree.specs.Fresh.{treeFrom}
 use Rattle.tree.specs.Good.{AllGood}
 use Rattle.tree.proofs.Heights.{stands-left, stands-right, stands-inner, stands-last, stands-some, stands-bottom, stands-top}
 
 -- each node is the one worked out from the records and tags below it
-pub good-fresh : (s : Shape) (v : List ℕ) → AllGood s v → (h i : ℕ) → Stands s h i → nodeIn s v i ≡ treeFrom s v h i
+pub good-fresh : (s : Shape) (v : List ℕ) → AllGood s v → (h i : ℕ) → HasHeight s h i → nodeIn s v i ≡ treeFrom s v h i
 unfolding treeFrom
 good-fresh s v g zero i t = g i (stands-some s 0 i t) (stands-last s 0 i t) ∙ made-bottom s v i (stands-bottom s i t)
 good-fresh s v g (suc h) i t =

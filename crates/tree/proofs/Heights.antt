@@ -10,7 +10,7 @@ use Rattle.layout.specs.declared.Shape.{Shape}
 use Rattle.layout.proofs.Limits.{Limits, Small}
 use Rattle.layout.proofs.Height.{height-least}
 use Rattle.tree.specs.Path.{Rises}
-use Rattle.tree.specs.Whole.{Stands}
+use Rattle.tree.specs.Whole.{HasHeight}
 
 -- i * 2 ^ h is at least i, for a product of two variables
 pub times-pow : (i h : ℕ) → i ≤ i * 2 ^ h
@@ -35,31 +35,31 @@ rises-leaf s n q h =
     let e = pow-suc 2 (heightOf (s .n)) in
     record { reaches = omega (arith, e); ends = omega (arith, e, q .enough-leaves) }
 
-module _ (s : Shape) (h i : ℕ) (t : Stands s (suc h) i) where
-  pub stands-left : Stands s h (2 * i)
+module _ (s : Shape) (h i : ℕ) (t : HasHeight s (suc h) i) where
+  pub stands-left : HasHeight s h (2 * i)
   stands-left = record { first = omega (arith, rw (pow-suc 2 h) at (t .first)); last = omega (arith, rw (pow-suc 2 h) at (t .last)) }
 
-  pub stands-right : Stands s h (2 * i + 1)
+  pub stands-right : HasHeight s h (2 * i + 1)
   stands-right = record { first = omega (arith, rw (pow-suc 2 h) at (t .first)); last = omega (arith, rw (pow-suc 2 h) at (t .last)) }
 
   pub stands-inner : i < leaves (s .n)
   stands-inner = omega (arith, rw (pow-suc 2 h) at (t .last), times-pow (i + 1) h)
 
-pub stands-last : (s : Shape) (h i : ℕ) → Stands s h i → i < 2 * leaves (s .n)
+pub stands-last : (s : Shape) (h i : ℕ) → HasHeight s h i → i < 2 * leaves (s .n)
 stands-last s h i t = omega (arith, t .last, times-pow (i + 1) h)
 
-pub stands-some : (s : Shape) (h i : ℕ) → Stands s h i → 1 ≤ i
+pub stands-some : (s : Shape) (h i : ℕ) → HasHeight s h i → 1 ≤ i
 stands-some s h zero t = absurd (omega (arith, t .first, pow-pos (heightOf (s .n))))
 stands-some s h (suc i) t = omega arith
 
-pub stands-bottom : (s : Shape) (i : ℕ) → Stands s 0 i → leaves (s .n) ≤ i
+pub stands-bottom : (s : Shape) (i : ℕ) → HasHeight s 0 i → leaves (s .n) ≤ i
 stands-bottom s i t = omega (arith, t .first)
 
-pub stands-top : (s : Shape) → Stands s (heightOf (s .n)) 1
+pub stands-top : (s : Shape) → HasHeight s (heightOf (s .n)) 1
 stands-top s = record { first = omega arith; last = omega arith }
 
 -- with the height that the code hands on
-pub stands-down : (s : Shape) (h i : ℕ) → Stands s h i → 0 < h → Stands s (h - 1) (2 * i) × Stands s (h - 1) (2 * i + 1)
+pub stands-down : (s : Shape) (h i : ℕ) → HasHeight s h i → 0 < h → HasHeight s (h - 1) (2 * i) × HasHeight s (h - 1) (2 * i + 1)
 stands-down s zero i t l = absurd (omega arith)
 stands-down s (suc h) i t l = let e : suc h - 1 ≡ h = omega arith in rw e (stands-left s h i t, stands-right s h i t)
 

@@ -24,7 +24,7 @@ use Rattle.tree.specs.Path.{formed, goodRecord, climbed, pathOf, Rises}
 use Rattle.tree.specs.Good.{AllGood, upward}
 use Rattle.tree.proofs.Heights.{rises-some, rises-half, rises-leaf}
 use Rattle.tree.proofs.UpwardLaws.{upward-le}
-use Rattle.layout.specs.Lent.{Lent}
+use Rattle.layout.specs.Shaped.{Shaped}
 use Rattle.layout.proofs.Limits.{lent-small}
 
 -- an altered place is no acceptance
@@ -53,7 +53,7 @@ climbed-all s v (suc k) j e i u =
     go g (inl w) again = rw (eqb-true j i w) at g
     go g (inr w) again = again w
 
-pub path-belongs : (s : Shape) (gauge : Gauge) (v : List ℕ) (n : ℕ) → Lent s v → n < s .n → pathOf s gauge v n ≡ A.Accepted
+pub path-belongs : (s : Shape) (gauge : Gauge) (v : List ℕ) (n : ℕ) → Shaped s v → n < s .n → pathOf s gauge v n ≡ A.Accepted
     → Belongs s gauge v n
 unfolding pathOf goodRecord
 path-belongs s gauge v n l h e =
@@ -75,7 +75,7 @@ climbed-good s v g (suc k) j r h =
     yes _ (true-good s v j (g j (rises-some (suc k) j r (omega arith)) h)) (climbed-good s v g k (j / 2) (rises-half k j r) (omega arith))
 
 -- in a good tree every path over a well formed record is accepted
-pub good-path : (s : Shape) (gauge : Gauge) (v : List ℕ) (n : ℕ) → Lent s v → n < s .n → AllGood s v → formed s gauge v n ≡ true
+pub good-path : (s : Shape) (gauge : Gauge) (v : List ℕ) (n : ℕ) → Shaped s v → n < s .n → AllGood s v → formed s gauge v n ≡ true
     → pathOf s gauge v n ≡ A.Accepted
 unfolding pathOf goodRecord
 good-path s gauge v n l h g f =

@@ -19,7 +19,7 @@ use Rattle.tree.specs.Renewed.{storedUp, renewed}
 use Rattle.tree.specs.Good.{AllGood, upward, onPath, GoodBut}
 use Rattle.tree.proofs.Heights.{rises-some, rises-half, rises-leaf}
 use Rattle.tree.proofs.UpwardLaws.{upward-below, path-off}
-use Rattle.layout.specs.Lent.{Lent}
+use Rattle.layout.specs.Shaped.{Shaped}
 use Rattle.layout.proofs.Limits.{lent-small}
 
 -- the stores keep all that is outside the tree
@@ -38,7 +38,7 @@ stored-stands s (suc k) j i v off =
     stored-stands s k (j / 2) i (storeNode s j v) (q .1) ∙ store-other s j v i (eqb-false j i (q .0))
 
 -- those stored are good in the end: what is stored later stands above them
-stored-good : (s : Shape) (k j i : ℕ) (v : List ℕ) → Lent s v → Rises k j → j < 2 * leaves (s .n) → upward k j i ≡ true → Good s (storedUp s k j v) i
+stored-good : (s : Shape) (k j i : ℕ) (v : List ℕ) → Shaped s v → Rises k j → j < 2 * leaves (s .n) → upward k j i ≡ true → Good s (storedUp s k j v) i
 unfolding storedUp upward
 stored-good s zero j i v l r h on = absurd (clash on refl)
 stored-good s (suc k) j i v l r h on =
@@ -63,7 +63,7 @@ stored-good s (suc k) j i v l r h on =
     go (inr e) (inr x) again = again x
 
 -- the same for the path of nugget n
-module _ (s : Shape) (n : ℕ) (v : List ℕ) (l : Lent s v) (h : n < s .n) where
+module _ (s : Shape) (n : ℕ) (v : List ℕ) (l : Shaped s v) (h : n < s .n) where
   abbrev low : leaves (s .n) + n < 2 * leaves (s .n)
   low = omega (arith, lent-small l .enough-leaves)
 

@@ -22,7 +22,7 @@ use Rattle.tree.specs.Path.{goodRecord, climbed, pathOf, Rises}
 use Rattle.tree.specs.Whole.{recordsFrom, nuggetLeaf, badOf, worst, atNode, wholeOf}
 use Rattle.tree.specs.Renewed.{storedUp, renewed, storedDown}
 use Rattle.tree.proofs.Heights.{rises-leaf}
-use Rattle.layout.specs.Lent.{Lent}
+use Rattle.layout.specs.Shaped.{Shaped}
 use Rattle.layout.proofs.Limits.{lent-small}
 
 module _ (s : Shape) (v : List ℕ) where
@@ -150,8 +150,8 @@ module _ (s : Shape) (gauge : Gauge) (v : List ℕ) where
   whole-off ea e = ea ∙ sym (no _ (rw ea at e) refl)
 
 -- where the renewal begins
-pub renew-starts : {s : Shape} {v : List ℕ} (n : ℕ) {k i : ℕ} → Lent s v → n < s .n → k ≡ suc (heightOf (s .n)) → i ≡ leaves (s .n) + n
-    → Rises k i × (i < 2 * leaves (s .n)) × Lent s v × (length v ≡ length v) × (storedUp s k i v ≡ renewed s n v)
+pub renew-starts : {s : Shape} {v : List ℕ} (n : ℕ) {k i : ℕ} → Shaped s v → n < s .n → k ≡ suc (heightOf (s .n)) → i ≡ leaves (s .n) + n
+    → Rises k i × (i < 2 * leaves (s .n)) × Shaped s v × (length v ≡ length v) × (storedUp s k i v ≡ renewed s n v)
 unfolding renewed
 renew-starts {s} n l h ek ei =
     let q = lent-small l in

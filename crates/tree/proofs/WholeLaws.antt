@@ -23,7 +23,7 @@ use Rattle.tree.specs.Whole.{recordsFrom, nuggetLeaf, worst, atNode, who
 use Rattle.tree.specs.Good.{AllGood}
 use Rattle.tree.proofs.PathLaws.{accepted-pick, good-path}
 use Rattle.tree.proofs.WorstLaws.{Bad, under-root, root-some, worst-most, worst-bad}
-use Rattle.layout.specs.Lent.{Lent}
+use Rattle.layout.specs.Shaped.{Shaped}
 use Rattle.layout.proofs.Limits.{Small, lent-small}
 
 -- the node's answer is acceptance for no node
@@ -92,7 +92,7 @@ module _ (s : Shape) (gauge : Gauge) (v : List ℕ) where
           absurd (omega (arith, whole-stages e .1, worst-most s v (heightOf (s .n)) 1 i (record { within = under-root (heightOf (s .n)) i a b; other = x; bad = g })))
 
   -- and these two give acceptance
-  pub good-whole : Lent s v → AllGood s v → ((n : ℕ) → n < s .n → formed s gauge v n ≡ true) → wholeOf s gauge v ≡ A.Accepted
+  pub good-whole : Shaped s v → AllGood s v → ((n : ℕ) → n < s .n → formed s gauge v n ≡ true) → wholeOf s gauge v ≡ A.Accepted
   unfolding wholeOf goodRecord atNode
   good-whole l g f =
       yes _ (ap accepts records) (ap atNode (none (worst-bad s v (heightOf (s .n)) 1)))
@@ -113,5 +113,5 @@ module _ (s : Shape) (gauge : Gauge) (v : List ℕ) where
           absurd (clash (true-good s v _ (g _ (r .0) (r .1))) (x .bad))
 
   -- if the whole passes, every path passes
-  pub whole-paths : Lent s v → wholeOf s gauge v ≡ A.Accepted → (n : ℕ) → n < s .n → pathOf s gauge v n ≡ A.Accepted
+  pub whole-paths : Shaped s v → wholeOf s gauge v ≡ A.Accepted → (n : ℕ) → n < s .n → pathOf s gauge v n ≡ A.Accepted
   whole-paths l e n h = good-path s gauge v n l h (whole-good e) (whole-formed e n h)

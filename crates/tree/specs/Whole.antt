@@ -43,6 +43,6 @@ wholeOf s gauge v =
     pick (accepts a) (atNode (worst s v (heightOf (s .n)) 1)) a
 
 -- node i has height h: all that is h steps below it is a leaf
-pub record Stands (s : Shape) (h i : ℕ) : Type 0 where
+pub record HasHeight (s : Shape) (h i : ℕ) : Type 0 where
   pub first : leaves (s .n) ≤ i * 2 ^ h
   pub last : (i + 1) * 2 ^ h ≤ 2 * leaves (s .n)

@@ -9,13 +9,13 @@ ghost use mathlib.Core.Bool.{true};
 ghost use Prim.Native.Nat.{_*_, _<_, _≤_, max};
 ghost use Rattle.layout.specs.Shape.{inLimits, leaves};
 ghost use Rattle.tree.specs.Path.{goodRecord, climbed, pathOf, Rises};
-ghost use Rattle.tree.specs.Whole.{recordsFrom, nuggetLeaf, badOf, worst, atNode, wholeOf, Stands};
+ghost use Rattle.tree.specs.Whole.{recordsFrom, nuggetLeaf, badOf, worst, atNode, wholeOf, HasHeight};
 ghost use Rattle.tree.specs.Renewed.{renewed, built};
-ghost use Rattle.layout.specs.Lent.{Lent};
+ghost use Rattle.layout.specs.Shaped.{Shaped};
 
 // Whether record n is well formed and its leaf is node L + n.
 fn good_record(vol: &[u8], s: Shape, gauge: Gauge, n: u32) -> bool
-    requires { ⌜ Lent s (now vol) × (n < s .n) ⌝ }
+    requires { ⌜ Shaped s (now vol) × (n < s .n) ⌝ }
     ensures { λ r. ⌜ r ≡ goodRecord s gauge (now (vol .entry)) n ⌝ }
 {
     let r = records::read(vol, s, n);
@@ -28,7 +28,7 @@ fn good_record(vol: &[u8], s: Shape, gauge: Gauge, n: u32) -> bool
 
 // "then node i, from its parent up, that isn't made of its two"
 fn climb(vol: &[u8], s: Shape, count: u32, from: u32) -> Answer
-    requires { ⌜ Lent s (now vol) × Rises count from × (from < 2 * leaves (s .n)) ⌝ }
+    requires { ⌜ Shaped s (now vol) × Rises count from × (from < 2 * leaves (s .n)) ⌝ }
     ensures { λ r. ⌜ r ≡ climbed s (now (vol .entry)) count from ⌝ }
 {
     let mut k = count;
@@ -46,7 +46,7 @@ fn climb(vol: &[u8], s: Shape, count: u32, from: u32) -> Answer
 
 // The test "path" of nugget n.
 pub fn path(vol: &[u8], s: Shape, gauge: Gauge, n: u32) -> Answer
-    requires { ⌜ Lent s (now vol) × (n < s .n) ⌝ }
+    requires { ⌜ Shaped s (now vol) × (n < s .n) ⌝ }
     ensures { λ r. ⌜ r ≡ pathOf s gauge (now (vol .entry)) n ⌝ }
 {
     if good_record(vol, s, gauge, n) {
@@ -59,7 +59,7 @@ pub fn path(vol: &[u8], s: Shape, gauge: Gauge, n: u32) -> Answer
 
 // "records ascending"
 fn all_records(vol: &[u8], s: Shape, gauge: Gauge) -> Answer
-    requires { ⌜ Lent s (now vol) ⌝ }
+    requires { ⌜ Shaped s (now vol) ⌝ }
     ensures { λ r. ⌜ r ≡ recordsFrom s gauge (now (vol .entry)) (s .n) 0 ⌝ }
 {
     let count = s.n;
@@ -91,7 +91,7 @@ fn nugget_leaf(s: Shape, i: u32) -> bool
 
 // Node i if it is bad, else 0.
 fn bad(vol: &[u8], s: Shape, i: u32) -> u32
-    requires { ⌜ Lent s (now vol) × (1 ≤ i) × (i < 2 * leaves (s .n)) ⌝ }
+    requires { ⌜ Shaped s (now vol) × (1 ≤ i) × (i < 2 * leaves (s .n)) ⌝ }
     ensures { λ r. ⌜ r ≡ badOf s (now (vol .entry)) i ⌝ }
 {
     if nugget_leaf(s, i) {
@@ -108,7 +108,7 @@ fn greater(a: u32, b: u32) -> u32
 
 // "each node stands over the two nodes below it": the greatest bad node of the subtree of this height under node i.
 fn worst_under(vol: &[u8], s: Shape, height: u32, i: u32) -> u32
-    requires { ⌜ Lent s (now vol) × Stands s height i ⌝ }
+    requires { ⌜ Shaped s (now vol) × HasHeight s height i ⌝ }
     ensures { λ r. ⌜ r ≡ worst s (now (vol .entry)) height i ⌝ }
 {
     let own = bad(vol, s, i);
@@ -132,7 +132,7 @@ fn at_node(i: u32) -> Answer
 
 // The test "whole": "records ascending, then all other nodes from 2L - 1 down to 1".
 pub fn whole(vol: &[u8], s: Shape, gauge: Gauge) -> Answer
-    requires { ⌜ Lent s (now vol) ⌝ }
+    requires { ⌜ Shaped s (now vol) ⌝ }
     ensures { λ r. ⌜ r ≡ wholeOf s gauge (now (vol .entry)) ⌝ }
 {
     let a = all_records(vol, s, gauge);
@@ -145,7 +145,7 @@ pub fn whole(vol: &[u8], s: Shape, gauge: Gauge) -> Answer
 
 // The leaf of nugget n and the nodes above it, made anew from the leaf up.
 pub fn renew(vol: &mut [u8], s: Shape, n: u32)
-    requires { ⌜ Lent s (now vol) × (n < s .n) ⌝ }
+    requires { ⌜ Shaped s (now vol) × (n < s .n) ⌝ }
     ensures { λ _. ⌜ now (vol .exit) ≡ renewed s n (now (vol .entry)) ⌝ }
 {
     let mut k = layout::height_of(s.n) + 1;
@@ -159,7 +159,7 @@ pub fn renew(vol: &mut [u8], s: Shape, n: u32)
 
 // Every node made anew, from the last to the first.
 pub fn build(vol: &mut [u8], s: Shape)
-    requires { ⌜ Lent s (now vol) ⌝ }
+    requires { ⌜ Shaped s (now vol) ⌝ }
     ensures { λ _. ⌜ now (vol .exit) ≡ built s (now (vol .entry)) ⌝ }
 {
     let mut k = 2 * (layout::leaves_of(s.n) as u32) - 1;

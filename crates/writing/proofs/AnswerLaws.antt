@@ -11,7 +11,7 @@ use Rattle.base.proofs.PickLaws.{yes, no, both-on, both-off}
 use Rattle.layout.specs.declared.Shape.{Shape}
 use Rattle.layout.specs.Shape.{inLimits}
 use Rattle.layout.specs.Spots.{spotAt, capacity}
-use Rattle.layout.specs.Lent.{Lent}
+use Rattle.layout.specs.Shaped.{Shaped}
 use Rattle.layout.proofs.Limits.{limits}
 use Rattle.answers.specs.declared.Answer.{Answer}
 use Rattle.answers.specs.declared.Answer.the-variants as A
@@ -27,7 +27,7 @@ use Rattle.drive.specs.Opening.{openingOf}
 use Rattle.drive.proofs.OpeningLaws.{opening-lent}
 use Rattle.nuggets.specs.declared.Nugget.{Nugget}
 use Rattle.nuggets.specs.Nugget.{nuggetOf}
-use Rattle.nuggets.specs.Tests.{pathFor, flakesIn}
+use Rattle.nuggets.specs.Tests.{pathFor, flakesTested}
 use Rattle.nuggets.specs.Touched.{touchedOf, fitsIn}
 use Rattle.nuggets.proofs.TouchLaws.{fits-within}
 use Rattle.changes.specs.Change.{nuggetChange, testedTo, settled}
@@ -53,13 +53,13 @@ module _ (d : Drive) (v : List ℕ) (n : ℕ) where
       sym (goes-on (pathFor d v n) _ (ap accepts (sym e) ∙ h) ∙ yes _ (eq-eqb _ _ top) refl)
 
   pub rekey-flakes : {a r : Answer} {g : Nugget} {s : Shape} → a ≡ pathFor d v n → accepts a ≡ true → g ≡ nuggetOf d v n → (g .lock .keycount ≡ 2 ^ 64 - 1 → ⊥) → s ≡ shapeOf d
-      → r ≡ flakesIn s v g (g .held) → r ≡ nuggetChange d v n sweepWay
+      → r ≡ flakesTested s v g (g .held) → r ≡ nuggetChange d v n sweepWay
   unfolding nuggetChange atTop
   rekey-flakes {g = g} e h eg k es er =
       let low : recordOf (shapeOf d) v n .keycount ≡ 2 ^ 64 - 1 → ⊥ = λ q. k (ap (λ (x : Nugget). x .lock .keycount) eg ∙ q) in
       er
-      ∙ ap (λ (x : Shape). flakesIn x v g (g .held)) es
-      ∙ ap (λ (x : Nugget). flakesIn (shapeOf d) v x (x .held)) eg
+      ∙ ap (λ (x : Shape). flakesTested x v g (g .held)) es
+      ∙ ap (λ (x : Nugget). flakesTested (shapeOf d) v x (x .held)) eg
       ∙ sym (goes-on (pathFor d v n) _ (ap accepts (sym e) ∙ h) ∙ no _ (ne-eqb _ _ low) refl)
 
   pub change-idle : {way : Way} → way ≡ Idle → A.Accepted ≡ nuggetChange d v n way
@@ -127,7 +127,7 @@ module _ (d : Drive) (v : List ℕ) (o len : ℕ) where
       answer-tests z t e = e ∙ sym (goes-on (openingOf d v) _ opened ∙ yes _ within (no _ (ne-eqb len 0 z) (no _ (ne-eqb _ _ t) refl)))
 
       -- what the tests of nuggets may ask
-      pub answer-lent : Lent (shapeOf d) v × (o + len ≤ capacity (shapeOf d))
+      pub answer-lent : Shaped (shapeOf d) v × (o + len ≤ capacity (shapeOf d))
       answer-lent = (opening-lent d v opened, fits-within d o len refl within)
 
 -- the answer, with the drive and the volume that it leaves

@@ -11,7 +11,7 @@ use Rattle.base.proofs.TabLaws.{length-tab}
 use Rattle.layout.specs.declared.Shape.{Shape}
 use Rattle.layout.specs.Spots.{spotAt}
 use Rattle.layout.specs.Parts.{recordAt}
-use Rattle.layout.specs.Lent.{Lent}
+use Rattle.layout.specs.Shaped.{Shaped}
 use Rattle.layout.proofs.Limits.{limits}
 use Rattle.records.specs.declared.Record.{Record}
 use Rattle.records.specs.declared.Way.{Way}
@@ -60,7 +60,7 @@ abbrev pub tendsTo : Drive → List ℕ → ℕ → ℕ → ℕ → List ℕ
 tendsTo d v o len n = tendedTo (shapeOf d) (writeWay d v o len) n v
 
 -- the laying of flakes and tags
-module _ (d : Drive) (v : List ℕ) (o : ℕ) (bytes : List ℕ) (l : Lent (shapeOf d) v) where
+module _ (d : Drive) (v : List ℕ) (o : ℕ) (bytes : List ℕ) (l : Shaped (shapeOf d) v) where
   abbrev s : Shape
   s = shapeOf d
 
@@ -121,7 +121,7 @@ module _ (d : Drive) (v : List ℕ) (o : ℕ) (bytes : List ℕ) (l : Lent (shap
       (sym (still-to pads n (d .n) few (λ m a b. pads-idle-to way m (idle-above d v o (length bytes) (limits s (l .limited)) m some (omega (arith, past, a))) (d .p) (recordOf (shapeOf d) v) (d .present))))
 
 -- records, made of those that stand
-module _ (d : Drive) (v : List ℕ) (o len : ℕ) (l : Lent (shapeOf d) v) where
+module _ (d : Drive) (v : List ℕ) (o len : ℕ) (l : Shaped (shapeOf d) v) where
   abbrev marks : ℕ → List ℕ
   marks = marksTo d v o len
 
@@ -158,7 +158,7 @@ unfolding tended
 tend-alike s a b n w e = rw e refl
 
 -- leaves and paths
-module _ (d : Drive) (v : List ℕ) (o len : ℕ) (l : Lent (shapeOf d) v) where
+module _ (d : Drive) (v : List ℕ) (o len : ℕ) (l : Shaped (shapeOf d) v) where
   abbrev tends : ℕ → List ℕ
   tends = tendsTo d v o len
 
@@ -199,7 +199,7 @@ tends-alike d a b o len (suc n) w =
     ∙ ap (tended (shapeOf d) (writeWay d b o len n) n) (tends-alike d a b o len n w)
 
 -- the three loops one after another are the work of the write
-module _ (d : Drive) (v : List ℕ) (o : ℕ) (bytes : List ℕ) (l : Lent (shapeOf d) v) where
+module _ (d : Drive) (v : List ℕ) (o : ℕ) (bytes : List ℕ) (l : Shaped (shapeOf d) v) where
   pub room-after : {x : List ℕ} → x ≡ laidTo d v o bytes (d .n) → Room d v o (length bytes) → Room d x o (length bytes)
   room-after {x} ex room n h =
       room-told d v x o (length bytes) n refl (ap (λ (u : List ℕ). recordOf (shapeOf d) u n) ex ∙ laidTo-record d v o bytes l (d .n) n (omega arith) h) (room n h)

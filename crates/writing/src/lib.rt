@@ -9,7 +9,7 @@ ghost use mathlib.Core.Path.{_≡_};
 ghost use Prim.Native.Nat.{_+_, _<_, _≤_};
 ghost use lib.ListN.{length};
 ghost use Rattle.layout.specs.Spots.{capacity};
-ghost use Rattle.layout.specs.Lent.{Lent};
+ghost use Rattle.layout.specs.Shaped.{Shaped};
 ghost use Rattle.records.specs.Rule.{sweepWay};
 ghost use Rattle.drive.specs.Drive.{shapeOf, counterTop};
 ghost use Rattle.changes.specs.Laid.{laid};
@@ -19,7 +19,7 @@ ghost use Rattle.writing.specs.Room.{Room};
 
 // What the write does to nugget n.
 fn way_at(d: Drive, vol: &[u8], o: usize, len: usize, n: u32) -> Way
-    requires { ⌜ Lent (shapeOf d) (now vol) × (0 < len) × (o + len ≤ capacity (shapeOf d)) × (n < d .n) ⌝ }
+    requires { ⌜ Shaped (shapeOf d) (now vol) × (0 < len) × (o + len ≤ capacity (shapeOf d)) × (n < d .n) ⌝ }
     ensures { λ r. ⌜ r ≡ writeWay d (now (vol .entry)) o len n ⌝ }
 {
     let s = drive::shape_of(d);
@@ -30,7 +30,7 @@ fn way_at(d: Drive, vol: &[u8], o: usize, len: usize, n: u32) -> Way
 
 // "path; 14; flakes, ascending": "a rekey tests all of J", whatever it touches.
 fn test_rekey(d: Drive, vol: &[u8], n: u32) -> Answer
-    requires { ⌜ Lent (shapeOf d) (now vol) × (n < d .n) ⌝ }
+    requires { ⌜ Shaped (shapeOf d) (now vol) × (n < d .n) ⌝ }
     ensures { λ r. ⌜ r ≡ nuggetChange d (now (vol .entry)) n sweepWay ⌝ }
 {
     let a = nuggets::test_path(d, vol, n);
@@ -46,7 +46,7 @@ fn test_rekey(d: Drive, vol: &[u8], n: u32) -> Answer
 
 // "a write without rekey tests none": the path alone.
 fn test_nugget(d: Drive, vol: &[u8], n: u32, way: Way) -> Answer
-    requires { ⌜ Lent (shapeOf d) (now vol) × (n < d .n) ⌝ }
+    requires { ⌜ Shaped (shapeOf d) (now vol) × (n < d .n) ⌝ }
     ensures { λ r. ⌜ r ≡ nuggetChange d (now (vol .entry)) n way ⌝ }
 {
     match way {
@@ -58,7 +58,7 @@ fn test_nugget(d: Drive, vol: &[u8], n: u32, way: Way) -> Answer
 
 // "ascending, each": the nuggets that the range meets. Those outside it stay as they are and aren't tested.
 fn test_span(d: Drive, vol: &[u8], o: usize, len: usize) -> Answer
-    requires { ⌜ Lent (shapeOf d) (now vol) × (0 < len) × (o + len ≤ capacity (shapeOf d)) ⌝ }
+    requires { ⌜ Shaped (shapeOf d) (now vol) × (0 < len) × (o + len ≤ capacity (shapeOf d)) ⌝ }
     ensures { λ r. ⌜ r ≡ testedTo d (now (vol .entry)) (writeWay d (now (vol .entry)) o len) (d .n) ⌝ }
 {
     let span = nuggets::span_of(drive::shape_of(d), o, len);
@@ -97,7 +97,7 @@ fn admit(d: Drive, vol: &[u8], offset: u64, len: usize) -> Answer
 
 // Flakes and tags of the nuggets that the range meets; each nugget's own still stand as the tests saw them when its turn comes.
 fn lay_span(d: Drive, vol: &mut [u8], o: usize, bytes: &[u8])
-    requires { ⌜ Lent (shapeOf d) (now vol) × (0 < length (now bytes)) × (o + length (now bytes) ≤ capacity (shapeOf d))
+    requires { ⌜ Shaped (shapeOf d) (now vol) × (0 < length (now bytes)) × (o + length (now bytes) ≤ capacity (shapeOf d))
         × Room d (now vol) o (length (now bytes)) ⌝ }
     ensures { λ _. ⌜ now (vol .exit) ≡ laid (shapeOf d) (d .salt) (newContents d (now (vol .entry)) o (now (bytes .entry)))
         (padsFor d (now (vol .entry)) (writeWay d (now (vol .entry)) o (length (now (bytes .entry))))) (now (vol .entry)) ⌝ }
@@ -113,7 +113,7 @@ fn lay_span(d: Drive, vol: &mut [u8], o: usize, bytes: &[u8])
 
 // Their records.
 fn mark_span(d: Drive, vol: &mut [u8], o: usize, len: usize)
-    requires { ⌜ Lent (shapeOf d) (now vol) × (0 < len) × (o + len ≤ capacity (shapeOf d)) × Room d (now vol) o len ⌝ }
+    requires { ⌜ Shaped (shapeOf d) (now vol) × (0 < len) × (o + len ≤ capacity (shapeOf d)) × Room d (now vol) o len ⌝ }
     ensures { λ _. ⌜ now (vol .exit) ≡ markedTo (shapeOf d) (d .epoch) (writeWay d (now (vol .entry)) o len) (now (vol .entry)) (d .n) (now (vol .entry)) ⌝ }
 {
     let span = nuggets::span_of(drive::shape_of(d), o, len);
@@ -127,7 +127,7 @@ fn mark_span(d: Drive, vol: &mut [u8], o: usize, len: usize)
 
 // Their leaves and paths. The records are marked by now and may give another way; which nuggets are idle doesn't rest on them.
 fn tend_span(d: Drive, vol: &mut [u8], o: usize, len: usize)
-    requires { ⌜ Lent (shapeOf d) (now vol) × (0 < len) × (o + len ≤ capacity (shapeOf d)) ⌝ }
+    requires { ⌜ Shaped (shapeOf d) (now vol) × (0 < len) × (o + len ≤ capacity (shapeOf d)) ⌝ }
     ensures { λ _. ⌜ now (vol .exit) ≡ tendedTo (shapeOf d) (writeWay d (now (vol .entry)) o len) (d .n) (now (vol .entry)) ⌝ }
 {
     let s = drive::shape_of(d);
@@ -142,7 +142,7 @@ fn tend_span(d: Drive, vol: &mut [u8], o: usize, len: usize)
 
 // All stores, once all tests are passed.
 fn store(d: Drive, vol: &mut [u8], o: usize, bytes: &[u8]) -> Drive
-    requires { ⌜ Lent (shapeOf d) (now vol) × (0 < length (now bytes)) × (o + length (now bytes) ≤ capacity (shapeOf d))
+    requires { ⌜ Shaped (shapeOf d) (now vol) × (0 < length (now bytes)) × (o + length (now bytes) ≤ capacity (shapeOf d))
         × Room d (now vol) o (length (now bytes)) × (d .counter < counterTop) ⌝ }
     ensures { λ r. ⌜ (r ≡ writtenDrive d (now (vol .entry)) o (now (bytes .entry)))
         × (now (vol .exit) ≡ settled (writtenDrive d (now (vol .entry)) o (now (bytes .entry))) (writeWork d (now (vol .entry)) o (now (bytes .entry)))) ⌝ }

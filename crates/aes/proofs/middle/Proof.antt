@@ -3,14 +3,14 @@ use mathlib.Core.Path.{_≡_, refl}
 use Prim.Native.Nat.{_≤_, _-_}
 use native.Mathlib.Omega.{arith}
 use Rattle.aes.specs.Aes.{rounds}
-use Rattle.aes.specs.Code.{bytesOf}
+use Rattle.aes.specs.Code.{stateBytes}
 use Rattle.aes.proofs.RoundLaws.{rounds-more}
 use borrow.Author.Needs.{needs}
 use Rattle.aes.proofs.middle.Statement.{statement}
 use Rattle.aes.proofs.middle.Tie as tie
 
 abbrev Inv-loop : tie.InvT-loop
-Inv-loop t w x₀ n₀ x n = (n ≤ 13) × (bytesOf x ≡ rounds w n (bytesOf x₀))
+Inv-loop t w x₀ n₀ x n = (n ≤ 13) × (stateBytes x ≡ rounds w n (stateBytes x₀))
 
 abbrev μ-loop : tie.MeasureT-loop
 μ-loop t w x₀ n₀ x n = 13 - n

@@ -2,7 +2,7 @@
 use mathlib.Core.Path.{_≡_, refl}
 use Prim.Native.Nat.{_≤_}
 use native.Mathlib.Omega.{arith}
-use Rattle.aes.specs.Code.{bytesOf}
+use Rattle.aes.specs.Code.{stateBytes}
 use Rattle.aes_back.specs.InvAes.{eqRounds}
 use Rattle.aes_back.proofs.InvRoundLaws.{rounds-less, rounds-none}
 use borrow.Author.Needs.{needs}
@@ -10,7 +10,7 @@ use Rattle.aes_back.proofs.middle.Statement.{statement}
 use Rattle.aes_back.proofs.middle.Tie as tie
 
 abbrev Inv-loop : tie.InvT-loop
-Inv-loop t dw x₀ n₀ x n = (n ≤ 13) × (eqRounds dw n (bytesOf x) ≡ eqRounds dw 13 (bytesOf x₀))
+Inv-loop t dw x₀ n₀ x n = (n ≤ 13) × (eqRounds dw n (stateBytes x) ≡ eqRounds dw 13 (stateBytes x₀))
 
 abbrev μ-loop : tie.MeasureT-loop
 μ-loop t dw x₀ n₀ x n = n

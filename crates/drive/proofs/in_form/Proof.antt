@@ -12,12 +12,12 @@ shape-of-requires c κs = search needs
 in-limits-requires : tie.Need-in-limits-requires
 in-limits-requires c κs = search needs
 
-epoch-fits-requires : tie.Need-epoch-fits-requires
-epoch-fits-requires c κs = search needs
+state-fits-requires : tie.Need-state-fits-requires
+state-fits-requires c κs = search needs
 
 returns : tie.Need-returns
 unfolding inForm
-returns c = c .epoch-fits .ensures ∙ sym (both-on (sym (ap inLimits (c .before .before .before .shape-of .ensures)) ∙ sym (c .before .before .in-limits .ensures) ∙ c .before .if1 .taken) refl)
+returns c = c .state-fits .ensures ∙ sym (both-on (sym (ap inLimits (c .before .before .before .shape-of .ensures)) ∙ sym (c .before .before .in-limits .ensures) ∙ c .before .if1 .taken) refl)
 
 returns-2 : tie.Need-returns-2
 unfolding inForm
@@ -25,4 +25,4 @@ returns-2 c = sym (both-off _ (sym (ap inLimits (c .before .before .shape-of .en
 
 pub in-form-spec : {M : Type 1} → statement M
 in-form-spec =
-    tie.close (tie.spec shape-of-requires in-limits-requires epoch-fits-requires returns returns-2)
+    tie.close (tie.spec shape-of-requires in-limits-requires state-fits-requires returns returns-2)

@@ -1,5 +1,5 @@
 use Rattle.laying.proofs.ChangeLaws.{advanced-is}
-use Rattle.layout.specs.Lent.{Lent}
+use Rattle.layout.specs.Shaped.{Shaped}
 use Rattle.layout.specs.declared.Shape.{Shape}
 use mathlib.Core.Path.{sym, subst, _∙_}
 use borrow.Author.Needs.{needs}
@@ -12,7 +12,7 @@ shape-of-requires c κs = search needs
 first-requires : tie.Need-first-requires
 first-requires c κs =
     let a = c .before .before .args in
-    subst (λ (s : Shape). Lent s (a .vol .now)) (sym (c .shape-of .ensures)) (c .before .before .pre .0)
+    subst (λ (s : Shape). Shaped s (a .vol .now)) (sym (c .shape-of .ensures)) (c .before .before .pre .0)
 
 kept-old-requires : tie.Need-kept-old-requires
 kept-old-requires c κs = search needs

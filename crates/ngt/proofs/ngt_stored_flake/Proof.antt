@@ -1,4 +1,4 @@
-use Rattle.ngt.specs.Calls.{spanOf}
+use Rattle.ngt.specs.Calls.{spanImage}
 use Rattle.reports.specs.Stored.{storedAnswer}
 use Rattle.drive.specs.declared.Drive.{Drive}
 use Rattle.ngt.proofs.CallLaws.{tells-by}
@@ -13,8 +13,8 @@ opened-requires c κs = search needs
 stored-flake-answer-requires : tie.Need-stored-flake-answer-requires
 stored-flake-answer-requires c κs = search needs
 
-span-of-requires : tie.Need-span-of-requires
-span-of-requires c κs = search needs
+span-image-requires : tie.Need-span-image-requires
+span-image-requires c κs = search needs
 
 answer-image-requires : tie.Need-answer-image-requires
 answer-image-requires c κs = search needs
@@ -27,7 +27,7 @@ returns c =
     let a = c .before .before .before .before .before .before .before .args in
     record {
       tells = tells-by (c .before .before .before .stored-flake-answer .ensures ∙ ap (λ (d : Drive). storedAnswer d (a .vol .now) (a .nugget) (a .flake)) (c .before .before .before .before .opened .ensures)) (c .number .ensures) (c .before .answer-image .ensures);
-      part = c .before .before .span-of .ensures ∙ ap (λ (d : Drive). spanOf d (a .vol .now) (a .nugget) (a .flake)) (c .before .before .before .before .opened .ensures);
+      part = c .before .before .span-image .ensures ∙ ap (λ (d : Drive). spanImage d (a .vol .now) (a .nugget) (a .flake)) (c .before .before .before .before .opened .ensures);
     }
 
 pub ngt-stored-flake-spec : {M : Type 1} → statement M
@@ -36,7 +36,7 @@ ngt-stored-flake-spec =
     (tie.spec
     opened-requires
     stored-flake-answer-requires
-    span-of-requires
+    span-image-requires
     answer-image-requires
     number-requires
     returns)

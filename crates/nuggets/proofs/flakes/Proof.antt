@@ -1,6 +1,6 @@
 use Rattle.layout.proofs.Limits.{limits}
 use Rattle.nuggets.proofs.TestLaws.{up-on, up-off, up-end, up-start}
-use Rattle.nuggets.specs.Tests.{flakesUp, flakesIn}
+use Rattle.nuggets.specs.Tests.{flakesUp, flakesTested}
 use Prim.Native.Nat.{_-_, _≤_}
 use native.Mathlib.Omega.{arith}
 use mathlib.Core.Path.{_≡_, sym, _∙_}
@@ -8,7 +8,7 @@ use Rattle.nuggets.proofs.flakes.Statement.{statement}
 use Rattle.nuggets.proofs.flakes.Tie as tie
 
 abbrev Inv-loop : tie.InvT-loop
-Inv-loop vol s g mask count number f₀ f = (f ≤ s .p) × (flakesUp s vol g mask (s .p - f) f ≡ flakesIn s vol g mask)
+Inv-loop vol s g mask count number f₀ f = (f ≤ s .p) × (flakesUp s vol g mask (s .p - f) f ≡ flakesTested s vol g mask)
 
 abbrev μ-loop : tie.MeasureT-loop
 μ-loop vol s g mask count number f₀ f = s .p - f

@@ -7,8 +7,8 @@ use Rattle.packed.proofs.pack.Tie as tie
 state-byte-requires : tie.Need-state-byte-requires
 state-byte-requires c κs = search needs
 
-left-of-requires : tie.Need-left-of-requires
-left-of-requires c κs = search needs
+epoch-left-requires : tie.Need-epoch-left-requires
+epoch-left-requires c κs = search needs
 
 numbers-image-requires : tie.Need-numbers-image-requires
 numbers-image-requires c κs = search needs
@@ -20,14 +20,14 @@ whole-image-requires : tie.Need-whole-image-requires
 whole-image-requires c κs = search needs
 
 returns : tie.Need-returns
-returns c = c .whole-image .ensures ∙ rw (c .before .before .before .before .front-image .ensures, c .before .before .before .before .before .before .numbers-image .ensures, c .before .before .before .before .before .before .before .left-of .ensures, c .before .before .before .before .before .before .before .before .state-byte .ensures) (image-of _)
+returns c = c .whole-image .ensures ∙ rw (c .before .before .before .before .front-image .ensures, c .before .before .before .before .before .before .numbers-image .ensures, c .before .before .before .before .before .before .before .epoch-left .ensures, c .before .before .before .before .before .before .before .before .state-byte .ensures) (image-of _)
 
 pub pack-spec : {M : Type 1} → statement M
 pack-spec =
     tie.close
     (tie.spec
     state-byte-requires
-    left-of-requires
+    epoch-left-requires
     numbers-image-requires
     front-image-requires
     whole-image-requires

@@ -1,5 +1,5 @@
 use Rattle.pages.proofs.MountLaws.{mounted-room, mounted-reach, page-refused, page-alone, page-whole}
-use Rattle.sheets.specs.Sheet.{sized}
+use Rattle.sheets.specs.Sheet.{inputSized}
 use Rattle.sheets.proofs.SheetLaws.{volume-taken}
 use Rattle.line.proofs.PutLaws.{put-then, put-as}
 use Rattle.base.proofs.PickLaws.{both-on, both-off}
@@ -17,7 +17,7 @@ same-length : tie.Need-same-length
 same-length c = search needs
 
 returns : tie.Need-returns
-unfolding sized
+unfolding inputSized
 returns c = put-as _ _ (page-refused (c .before .before .before .before .before .before .before .args .input .now) (both-off _ (lt-leb _ _ (c .before .before .before .before .if1 .taken)))) (c .before .before .refusal-line .ensures)
 
 refusal-line-requires-2 : tie.Need-refusal-line-requires-2
@@ -27,7 +27,7 @@ same-length-2 : tie.Need-same-length-2
 same-length-2 c = search needs
 
 returns-2 : tie.Need-returns-2
-unfolding sized
+unfolding inputSized
 returns-2 c = put-as _ _ (page-refused (c .before .before .before .before .before .before .before .before .args .input .now) (both-on (le-leb _ _ (c .before .before .before .before .before .if1 .left)) (lt-leb _ _ (c .before .before .before .before .if2 .taken)))) (c .before .before .refusal-line2 .ensures)
 
 mounted-requires : tie.Need-mounted-requires
@@ -61,21 +61,21 @@ part-put-drive-end : tie.Need-part-put-drive-end
 part-put-drive-end c = search needs
 
 put-drive-requires : tie.Need-put-drive-requires
-unfolding sized
+unfolding inputSized
 put-drive-requires c κs = let room = mounted-room (c .before .before .before .before .before .before .before .before .before .before .before .before .before .before .before .before .args .input .now) (both-on (le-leb _ _ (c .before .before .before .before .before .before .before .before .before .before .before .before .before .if1 .left)) (le-leb _ _ (c .before .before .before .before .before .before .before .before .before .before .before .before .if2 .left))) (c .before .before .before .before .before .before .before .before .before .before .before .mounted .ensures) (volume-taken (c .before .before .before .before .before .before .before .before .before .before .before .before .before .before .before .before .args .input .now)) (sym (c .before .before .before .before .before .accepted .ensures) ∙ c .before .before .before .before .if3 .taken) in (room .0, omega (arith, room .1, mounted-reach (c .before .before .before .before .before .before .before .before .before .before .before .mounted .result) _ (c .before .before .before .before .before .before .before .before .put-mounted .ensures), c .before .before .before .before .before .before .before .before .put-mounted .kept .0, c .before .before .before .before .before .before .before .before .before .before .before .before .before .before .before .before .pre))
 
 same-length-3 : tie.Need-same-length-3
 same-length-3 c = search needs
 
 returns-3 : tie.Need-returns-3
-unfolding sized
+unfolding inputSized
 returns-3 c = put-as _ _ (page-whole (c .before .before .before .before .before .before .before .before .before .before .before .before .before .before .before .before .before .before .before .args .input .now) (both-on (le-leb _ _ (c .before .before .before .before .before .before .before .before .before .before .before .before .before .before .before .before .if1 .left)) (le-leb _ _ (c .before .before .before .before .before .before .before .before .before .before .before .before .before .before .before .if2 .left))) (c .before .before .before .before .before .before .before .before .before .before .before .before .before .before .mounted .ensures) (volume-taken (c .before .before .before .before .before .before .before .before .before .before .before .before .before .before .before .before .before .before .before .args .input .now)) (c .before .before .before .before .before .load .ensures .0) (sym (c .before .before .before .before .before .before .before .before .accepted .ensures) ∙ c .before .before .before .before .before .before .before .if3 .taken)) (put-then _ _ (c .before .before .before .before .before .before .before .before .before .before .before .put-mounted .ensures) (c .before .before .put-drive .ensures))
 
 same-length-4 : tie.Need-same-length-4
 same-length-4 c = search needs
 
 returns-4 : tie.Need-returns-4
-unfolding sized
+unfolding inputSized
 returns-4 c = put-as _ _ (page-alone (c .before .before .before .before .before .before .before .before .before .before .before .before .args .input .now) (both-on (le-leb _ _ (c .before .before .before .before .before .before .before .before .before .if1 .left)) (le-leb _ _ (c .before .before .before .before .before .before .before .before .if2 .left))) (c .before .before .before .before .before .before .before .mounted .ensures) (volume-taken (c .before .before .before .before .before .before .before .before .before .before .before .before .args .input .now)) (sym (c .before .accepted .ensures) ∙ c .if3 .left)) (c .before .before .before .before .put-mounted .ensures)
 
 pub put-page-spec : {M : Type 1} → statement M

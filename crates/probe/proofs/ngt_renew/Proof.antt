@@ -7,34 +7,34 @@ use borrow.Author.Needs.{needs}
 use Rattle.probe.proofs.ngt_renew.Statement.{statement}
 use Rattle.probe.proofs.ngt_renew.Tie as tie
 
-lent-nugget-requires : tie.Need-lent-nugget-requires
-lent-nugget-requires c κs = search needs
+shaped-nugget-requires : tie.Need-shaped-nugget-requires
+shaped-nugget-requires c κs = search needs
 
 accepted-requires : tie.Need-accepted-requires
 accepted-requires c κs = search needs
 
 renew-requires : tie.Need-renew-requires
-renew-requires c κs = nugget-told _ _ _ (sym (ap accepts (c .before .before .before .lent-nugget .ensures)) ∙ sym (c .before .before .accepted .ensures) ∙ c .before .if1 .taken)
+renew-requires c κs = nugget-told _ _ _ (sym (ap accepts (c .before .before .before .shaped-nugget .ensures)) ∙ sym (c .before .before .accepted .ensures) ∙ c .before .if1 .taken)
 
 same-length : tie.Need-same-length
 same-length c = search needs
 
 returns : tie.Need-returns
 unfolding renewedBytes
-returns c = c .before .before .renew .ensures ∙ sym (yes _ (sym (ap accepts (c .before .before .before .before .before .before .lent-nugget .ensures)) ∙ sym (c .before .before .before .before .before .accepted .ensures) ∙ c .before .before .before .before .if1 .taken) refl)
+returns c = c .before .before .renew .ensures ∙ sym (yes _ (sym (ap accepts (c .before .before .before .before .before .before .shaped-nugget .ensures)) ∙ sym (c .before .before .before .before .before .accepted .ensures) ∙ c .before .before .before .before .if1 .taken) refl)
 
 same-length-2 : tie.Need-same-length-2
 same-length-2 c = search needs
 
 returns-2 : tie.Need-returns-2
 unfolding renewedBytes
-returns-2 c = sym (no _ (sym (ap accepts (c .before .before .lent-nugget .ensures)) ∙ sym (c .before .accepted .ensures) ∙ c .if1 .left) refl)
+returns-2 c = sym (no _ (sym (ap accepts (c .before .before .shaped-nugget .ensures)) ∙ sym (c .before .accepted .ensures) ∙ c .if1 .left) refl)
 
 pub ngt-renew-spec : {M : Type 1} → statement M
 ngt-renew-spec =
     tie.close
     (tie.spec
-    lent-nugget-requires
+    shaped-nugget-requires
     accepted-requires
     renew-requires
     same-length

@@ -1,6 +1,6 @@
 use Rattle.sheets.proofs.SheetLaws.{volume-taken, mounted-told}
 use borrow.Author.Tests.{le-leb, lt-leb}
-use Rattle.sheets.specs.Sheet.{sized, sheetLine}
+use Rattle.sheets.specs.Sheet.{inputSized, sheetLine}
 use Rattle.line.proofs.PutLaws.{put-as}
 use Rattle.base.proofs.PickLaws.{yes, no, both-on, both-off}
 use mathlib.Core.Path.{refl, sym, _∙_}
@@ -15,7 +15,7 @@ same-length : tie.Need-same-length
 same-length c = search needs
 
 returns : tie.Need-returns
-unfolding sheetLine sized
+unfolding sheetLine inputSized
 returns c = put-as _ _ (sym (no _ (both-off _ (lt-leb _ _ (c .before .before .before .before .if1 .taken))) refl)) (c .before .before .refusal-line .ensures)
 
 refusal-line-requires-2 : tie.Need-refusal-line-requires-2
@@ -25,7 +25,7 @@ same-length-2 : tie.Need-same-length-2
 same-length-2 c = search needs
 
 returns-2 : tie.Need-returns-2
-unfolding sheetLine sized
+unfolding sheetLine inputSized
 returns-2 c = put-as _ _ (sym (no _ (both-on (le-leb _ _ (c .before .before .before .before .before .if1 .left)) (lt-leb _ _ (c .before .before .before .before .if2 .taken))) refl)) (c .before .before .refusal-line2 .ensures)
 
 mounted-requires : tie.Need-mounted-requires
@@ -47,7 +47,7 @@ same-length-3 : tie.Need-same-length-3
 same-length-3 c = search needs
 
 returns-3 : tie.Need-returns-3
-unfolding sheetLine sized
+unfolding sheetLine inputSized
 returns-3 c = put-as _ _ (mounted-told (c .before .before .before .before .before .before .before .before .before .before .args .input .now) (c .before .before .before .before .before .mounted .ensures) (volume-taken (c .before .before .before .before .before .before .before .before .before .before .args .input .now)) ∙ sym (yes _ (both-on (le-leb _ _ (c .before .before .before .before .before .before .before .if1 .left)) (le-leb _ _ (c .before .before .before .before .before .before .if2 .left))) refl)) (c .before .before .put-mounted .ensures)
 
 pub put-line-spec : {M : Type 1} → statement M

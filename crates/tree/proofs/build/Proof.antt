@@ -9,11 +9,11 @@ use Rattle.tree.specs.Renewed.{built, storedDown}
 use Rattle.tree.proofs.Steps.{storedDown-on, storedDown-end}
 use Rattle.tree.proofs.build.Statement.{statement}
 use Rattle.tree.proofs.build.Tie as tie
-use Rattle.layout.specs.Lent.{Lent}
+use Rattle.layout.specs.Shaped.{Shaped}
 use Rattle.layout.proofs.Limits.{lent-small}
 
 abbrev Inv-loop : tie.InvT-loop
-Inv-loop vol₀ s k₀ vol k = (k < 2 * leaves (s .n)) × Lent s vol × (length vol ≡ length vol₀) × (storedDown s k vol ≡ built s vol₀)
+Inv-loop vol₀ s k₀ vol k = (k < 2 * leaves (s .n)) × Shaped s vol × (length vol ≡ length vol₀) × (storedDown s k vol ≡ built s vol₀)
 
 abbrev μ-loop : tie.MeasureT-loop
 μ-loop vol₀ s k₀ vol k = k

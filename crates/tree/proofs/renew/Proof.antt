@@ -12,10 +12,10 @@ use Rattle.tree.proofs.Heights.{rises-some, rises-next, height-few}
 use Rattle.tree.proofs.Steps.{storedUp-on, storedUp-end, renew-starts}
 use Rattle.tree.proofs.renew.Statement.{statement}
 use Rattle.tree.proofs.renew.Tie as tie
-use Rattle.layout.specs.Lent.{Lent}
+use Rattle.layout.specs.Shaped.{Shaped}
 
 abbrev Inv-loop : tie.InvT-loop
-Inv-loop vol₀ s n k₀ i₀ vol k i = Rises k i × (i < 2 * leaves (s .n)) × Lent s vol × (length vol ≡ length vol₀) × (storedUp s k i vol ≡ renewed s n vol₀)
+Inv-loop vol₀ s n k₀ i₀ vol k i = Rises k i × (i < 2 * leaves (s .n)) × Shaped s vol × (length vol ≡ length vol₀) × (storedUp s k i vol ≡ renewed s n vol₀)
 
 abbrev μ-loop : tie.MeasureT-loop
 μ-loop vol₀ s n k₀ i₀ vol k i = k

@@ -1,7 +1,7 @@
 use Rattle.nuggets.proofs.SpanLaws.{inside, span-of-drive, span-few}
 use Rattle.nuggets.specs.declared.Span.{Span}
 use Rattle.drive.specs.Drive.{shapeOf}
-use Rattle.layout.specs.Lent.{Lent}
+use Rattle.layout.specs.Shaped.{Shaped}
 use lib.ListN.{length}
 use Prim.Native.Nat.{_-_, _≤_}
 use native.Mathlib.Omega.{arith}
@@ -12,7 +12,7 @@ use Rattle.writing.proofs.tend_span.Statement.{statement}
 use Rattle.writing.proofs.tend_span.Tie as tie
 
 abbrev Inv-loop : tie.InvT-loop
-Inv-loop d vol₀ o len s span n₀ vol n = (n ≤ d .n) × Lent (shapeOf d) vol × (length vol ≡ length vol₀) × (vol ≡ tendsTo d vol₀ o len n)
+Inv-loop d vol₀ o len s span n₀ vol n = (n ≤ d .n) × Shaped (shapeOf d) vol × (length vol ≡ length vol₀) × (vol ≡ tendsTo d vol₀ o len n)
 
 abbrev μ-loop : tie.MeasureT-loop
 μ-loop d vol₀ o len s span n₀ vol n = span .end - n

@@ -6,7 +6,7 @@ use lib.Dec.{lit≤}
 use lib.ListN.{length}
 use Rattle.limbs.specs.Limbs.{value, p}
 use Rattle.limbs.specs.Bounds.{stepsBy}
-use Rattle.limbs.specs.Lanes.{weighed, Fits}
+use Rattle.limbs.specs.Lanes.{weighed, LanesFit}
 use Rattle.limbs.proofs.TurnLaws.{wider}
 use Rattle.limbs.proofs.GroupLaws.{power-is, first-lanes, more-lanes, multiplies, turned-fits}
 use Rattle.limbs.proofs.lanes.run_four.Statement.{statement}
@@ -16,7 +16,7 @@ abbrev Inv-loop : tie.InvT-loop
 Inv-loop r v m g q f h₀ i₀ h i =
     (i ≤ g)
     × (length h ≡ 20)
-    × Fits h
+    × LanesFit h
     × ((a : ℕ) → weighed (value r) h₀ % p ≡ stepsBy (2 ^ 24) (4 * 1) (value r) a m → weighed (value r) h % p ≡ stepsBy (2 ^ 24) (4 * i) (value r) a m)
 
 abbrev μ-loop : tie.MeasureT-loop

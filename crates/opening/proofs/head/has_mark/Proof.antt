@@ -1,4 +1,4 @@
-use Rattle.opening.specs.Mount.{marked}
+use Rattle.opening.specs.Mount.{markFits}
 use lib.Dec.{eqb}
 use Rattle.base.proofs.PickLaws.{both-on, both-off}
 use Prim.Native.Nat.{ℕ}
@@ -26,11 +26,11 @@ load-requires : tie.Need-load-requires
 load-requires c κs = search needs
 
 returns : tie.Need-returns
-unfolding marked
+unfolding markFits
 returns c = ap (λ (x : ℕ). eqb x 1) (c .load .ensures .0) ∙ sym (both-on (sym (c .before .before .equal .ensures) ∙ c .before .if1 .taken) refl)
 
 returns-2 : tie.Need-returns-2
-unfolding marked
+unfolding markFits
 returns-2 c = sym (both-off _ (sym (c .before .equal .ensures) ∙ c .if1 .left))
 
 pub has-mark-spec : {M : Type 1} → statement M

@@ -1,5 +1,5 @@
 use Rattle.opening.specs.Mount.{headFits, stateByteIn}
-use Rattle.drive.specs.Opening.{epochFits}
+use Rattle.drive.specs.Opening.{stateFits}
 use Rattle.drive.specs.declared.State.{State}
 use Rattle.layout.specs.Shape.{inLimits}
 use Rattle.layout.specs.declared.Shape.{Shape}
@@ -31,12 +31,12 @@ state-in-requires c κs = search needs
 epoch-in-requires : tie.Need-epoch-in-requires
 epoch-in-requires c κs = search needs
 
-epoch-fits-requires : tie.Need-epoch-fits-requires
-epoch-fits-requires c κs = search needs
+state-fits-requires : tie.Need-state-fits-requires
+state-fits-requires c κs = search needs
 
 returns-2 : tie.Need-returns-2
 unfolding headFits
-returns-2 c = c .epoch-fits .ensures ∙ ap₂ (λ (s : State) (e : ℕ). epochFits s e) (c .before .before .state-in .ensures) (c .before .epoch-in .ensures)
+returns-2 c = c .state-fits .ensures ∙ ap₂ (λ (s : State) (e : ℕ). stateFits s e) (c .before .before .state-in .ensures) (c .before .epoch-in .ensures)
     ∙ sym (both-on (sym (ap (λ (s : Shape). inLimits s) (c .before .before .before .before .before .before .before .shape-in .ensures)) ∙ sym (c .before .before .before .before .before .before .in-limits .ensures) ∙ c .before .before .before .before .before .if1 .taken) (both-on (le-leb (stateByteIn (c .before .before .before .before .before .before .before .before .before .args .vol .now)) 1 (omega (arith, c .before .before .before .if2 .left, c .before .before .before .before .load .ensures .0))) refl))
 
 returns-3 : tie.Need-returns-3
@@ -53,6 +53,6 @@ head-fits-spec =
     returns
     state-in-requires
     epoch-in-requires
-    epoch-fits-requires
+    state-fits-requires
     returns-2
     returns-3)

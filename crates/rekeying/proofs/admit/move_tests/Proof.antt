@@ -1,7 +1,7 @@
 use Rattle.changes.specs.Rekey.{moveTests}
 use Rattle.nuggets.specs.declared.Nugget.{Nugget}
 use Rattle.nuggets.specs.Nugget.{nuggetOf}
-use Rattle.nuggets.specs.Tests.{flakesIn}
+use Rattle.nuggets.specs.Tests.{flakesTested}
 use Rattle.records.specs.declared.Record.{Record}
 use Rattle.records.specs.Record.{recordOf}
 use Rattle.records.specs.Rule.{sweepWay, atTop}
@@ -66,7 +66,7 @@ returns-4 c =
     let v = c .before .before .before .before .before .before .before .before .before .before .before .before .before .args .vol .now in
     let r : c .before .before .before .before .before .before .before .before .before .before .read .result ≡ recordOf (shapeOf d) v (c .before .before .before .before .before .before .before .before .before .before .before .before .before .args .n) = c .before .before .before .before .before .before .before .before .before .before .read .ensures ∙ ap (λ (x : Shape). recordOf x v (c .before .before .before .before .before .before .before .before .before .before .before .before .before .args .n)) (c .before .before .before .before .before .before .before .before .before .before .before .shape-of .ensures) in
     let e : c .before .before .before .before .before .before .before .before .before .before .read .result .epoch ≡ recordOf (shapeOf d) v (c .before .before .before .before .before .before .before .before .before .before .before .before .before .args .n) .epoch = ap (λ (x : Record). x .epoch) r in
-    let f : c .flakes .result ≡ flakesIn (shapeOf d) v (nuggetOf d v (c .before .before .before .before .before .before .before .before .before .before .before .before .before .args .n)) (recordOf (shapeOf d) v (c .before .before .before .before .before .before .before .before .before .before .before .before .before .args .n) .held) = c .flakes .ensures ∙ ap (λ (x : Shape). flakesIn x v (c .before .before .nugget-of .result) (c .before .before .before .before .before .before .before .before .before .before .read .result .held)) (c .before .shape-of2 .ensures) ∙ ap (λ (x : Nugget). flakesIn (shapeOf d) v x (c .before .before .before .before .before .before .before .before .before .before .read .result .held)) (c .before .before .nugget-of .ensures) ∙ ap (λ (x : Record). flakesIn (shapeOf d) v (nuggetOf d v (c .before .before .before .before .before .before .before .before .before .before .before .before .before .args .n)) (x .held)) r in
+    let f : c .flakes .result ≡ flakesTested (shapeOf d) v (nuggetOf d v (c .before .before .before .before .before .before .before .before .before .before .before .before .before .args .n)) (recordOf (shapeOf d) v (c .before .before .before .before .before .before .before .before .before .before .before .before .before .args .n) .held) = c .flakes .ensures ∙ ap (λ (x : Shape). flakesTested x v (c .before .before .nugget-of .result) (c .before .before .before .before .before .before .before .before .before .before .read .result .held)) (c .before .shape-of2 .ensures) ∙ ap (λ (x : Nugget). flakesTested (shapeOf d) v x (c .before .before .before .before .before .before .before .before .before .before .read .result .held)) (c .before .before .nugget-of .ensures) ∙ ap (λ (x : Record). flakesTested (shapeOf d) v (nuggetOf d v (c .before .before .before .before .before .before .before .before .before .before .before .before .before .args .n)) (x .held)) r in
     f ∙ sym (no _ (ne-eqb _ _ (λ q. c .before .before .before .before .before .before .before .if1 .left (e ∙ q))) (no _ (ne-eqb _ _ (c .before .before .before .before .before .if2 .left)) (no _ (ap (λ (x : Record). atTop sweepWay x) (sym r) ∙ sym (c .before .before .before .before .at-top .ensures) ∙ c .before .before .before .if3 .left) refl)))
 
 pub move-tests-spec : {M : Type 1} → statement M

@@ -1,6 +1,6 @@
 use Rattle.standings.proofs.ReadingLaws.{number-on, number-at, number-over}
 use Rattle.standings.specs.Standing.{atMost}
-use Rattle.line.specs.Reading.{upTo, valueFrom, value}
+use Rattle.line.specs.Reading.{upTo, valueFrom, decimalValue}
 use lib.ListN.{length, drop}
 use native.Mathlib.Omega.{arith}
 use mathlib.Core.Path.{_≡_, refl, _∙_}
@@ -10,7 +10,7 @@ use Rattle.standings.proofs.reading.number.Statement.{statement}
 use Rattle.standings.proofs.reading.number.Tie as tie
 
 abbrev Inv-loop : tie.InvT-loop
-Inv-loop text at a₀ i₀ a i = (i ≤ length text) × (a ≤ 2097152) × (atMost (valueFrom a (upTo 32 (drop i text))) ≡ atMost (value (upTo 32 (drop at text))))
+Inv-loop text at a₀ i₀ a i = (i ≤ length text) × (a ≤ 2097152) × (atMost (valueFrom a (upTo 32 (drop i text))) ≡ atMost (decimalValue (upTo 32 (drop at text))))
 
 abbrev μ-loop : tie.MeasureT-loop
 μ-loop text at a₀ i₀ a i = length text - i

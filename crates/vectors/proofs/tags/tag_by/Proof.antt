@@ -3,13 +3,13 @@ use Prim.Native.Nat.{_≤_, _-_}
 use borrow.Author.Needs.{needs}
 use native.Mathlib.Omega.{arith}
 use lib.ListN.{length}
-use Rattle.poly1305.specs.State.{Good}
+use Rattle.poly1305.specs.State.{GoodState}
 use Rattle.poly1305.proofs.StateLaws.{start-good, absorbed-good}
 use Rattle.vectors.proofs.tags.tag_by.Statement.{statement}
 use Rattle.vectors.proofs.tags.tag_by.Tie as tie
 
 abbrev Inv-loop : tie.InvT-loop
-Inv-loop m step s₀ i₀ s i = (i ≤ length m) × Good s
+Inv-loop m step s₀ i₀ s i = (i ≤ length m) × GoodState s
 
 abbrev μ-loop : tie.MeasureT-loop
 μ-loop m step s₀ i₀ s i = length m - i

@@ -6,8 +6,8 @@ use Rattle.layout.specs.Parts.{flakeAt, tagAt}
 use native.Mathlib.Omega.{arith}
 use mathlib.Core.Path.{_≡_, _∙_}
 use borrow.Author.Needs.{needs}
-use Rattle.nuggets.proofs.flake_good.Statement.{statement}
-use Rattle.nuggets.proofs.flake_good.Tie as tie
+use Rattle.nuggets.proofs.good_flake.Statement.{statement}
+use Rattle.nuggets.proofs.good_flake.Tie as tie
 
 flake-at-requires : tie.Need-flake-at-requires
 flake-at-requires c κs = search needs
@@ -84,8 +84,8 @@ returns c =
     let tag : c .before .before .before .before .before .tag-at .result ≡ tagAt s (a .g .lock .number) (a .f) = c .before .before .before .before .before .tag-at .ensures ∙ inside s (lent .limited) in
     good-is s (a .vol .now) (a .g) (a .f) (c .before .before .before .before .before .before .before .flake-at .result) (c .before .before .before .before .before .tag-at .result) (c .equal .ensures) (c .before .before .before .tag-of .ensures) at tag
 
-pub flake-good-spec : {M : Type 1} → statement M
-flake-good-spec =
+pub good-flake-spec : {M : Type 1} → statement M
+good-flake-spec =
     tie.close
     (tie.spec
     flake-at-requires

@@ -3,8 +3,8 @@ use Rattle.base.proofs.PickLaws.{both-on, both-off}
 use borrow.Author.Tests.{lt-leb, le-leb}
 use mathlib.Core.Path.{refl, sym}
 use borrow.Author.Needs.{needs}
-use Rattle.drive.proofs.epoch_fits.Statement.{statement}
-use Rattle.drive.proofs.epoch_fits.Tie as tie
+use Rattle.drive.proofs.state_fits.Statement.{statement}
+use Rattle.drive.proofs.state_fits.Tie as tie
 
 enum-told : tie.Need-enum-told
 enum-told c = search needs
@@ -24,6 +24,6 @@ returns-2 c = rw (c .enum-told .given .1) refl
 returns-3 : tie.Need-returns-3
 returns-3 c = rw (c .before .before .state .given .1) (sym (both-on (le-leb 2 (c .before .before .before .before .args .epoch) (c .if1 .left)) (left-test (c .before .before .state .given .0 .0) (c .before .before .before .before .args .epoch) (c .if1 .left))))
 
-pub epoch-fits-spec : {M : Type 1} → statement M
-epoch-fits-spec =
+pub state-fits-spec : {M : Type 1} → statement M
+state-fits-spec =
     tie.close (tie.spec enum-told enum-known-state returns sub-result returns-2 returns-3)

@@ -9,6 +9,6 @@ use Rattle.layout.specs.Parts.{lengthOf}
 use Rattle.layout.specs.declared.Shape.{Shape}
 
 -- the shape is in limits, and the volume's length is "the sum of the parts"
-pub record Lent (s : Shape) (v : List ℕ) : Type 0 where
+pub record Shaped (s : Shape) (v : List ℕ) : Type 0 where
   pub limited : inLimits s ≡ true
   pub size : length v ≡ lengthOf s

@@ -1,4 +1,4 @@
-use Rattle.ngt.specs.Calls.{spanOf}
+use Rattle.ngt.specs.Calls.{spanImage}
 use Rattle.words.specs.Le.{le}
 use Rattle.drive.specs.Drive.{shapeOf}
 use Rattle.layout.proofs.Limits.{inside}
@@ -12,8 +12,8 @@ use mathlib.Core.List.{_++_}
 use Rattle.ngt.proofs.CallLaws.{stored-limits}
 use mathlib.Core.Path.{refl, sym, _∙_, ap}
 use borrow.Author.Needs.{needs}
-use Rattle.ngt.proofs.span_of.Statement.{statement}
-use Rattle.ngt.proofs.span_of.Tie as tie
+use Rattle.ngt.proofs.span_image.Statement.{statement}
+use Rattle.ngt.proofs.span_image.Tie as tie
 
 stored-flake-answer-requires : tie.Need-stored-flake-answer-requires
 stored-flake-answer-requires c κs = search needs
@@ -31,7 +31,7 @@ two-requires : tie.Need-two-requires
 two-requires c κs = search needs
 
 returns : tie.Need-returns
-unfolding spanOf
+unfolding spanImage
 returns c =
     let a = c .before .before .before .before .before .before .before .args in
     let ok = sym (ap accepts (c .before .before .before .before .before .stored-flake-answer .ensures)) ∙ sym (c .before .before .before .before .accepted .ensures) ∙ c .before .before .before .if1 .taken in
@@ -40,11 +40,11 @@ returns c =
     c .two .ensures ∙ ap (λ (x : ℕ). le 8 x ++ le 8 (a .d .f)) at ∙ sym (yes _ ok refl)
 
 returns-2 : tie.Need-returns-2
-unfolding spanOf
+unfolding spanImage
 returns-2 c = sym (no _ (sym (ap accepts (c .before .before .stored-flake-answer .ensures)) ∙ sym (c .before .accepted .ensures) ∙ c .if1 .left) refl)
 
-pub span-of-spec : {M : Type 1} → statement M
-span-of-spec =
+pub span-image-spec : {M : Type 1} → statement M
+span-image-spec =
     tie.close
     (tie.spec
     stored-flake-answer-requires
