@@ -1,5 +1,5 @@
 /* A host in C that links the archive as it is shipped: it formats, mounts, reads, writes, changes the secret, reports and shows
- * a stored flake, and sees refusals leave everything as it came. Its last line counts the checks. */
+ * a stored flake, sees refusals leave everything as it came, and makes a fleet's line. Its last line counts the checks. */
 #include "../include/ngt.h"
 #include <stdio.h>
 #include <string.h>
@@ -130,6 +130,17 @@ static void spent(void) {
     holds("an empty write is accepted all the same", ngt_write(drive, vol, LENGTH, 0, &byte, 0, answer) == 0 && as_kept());
 }
 
+static void fleet(void) {
+    static const char lines[] = "nuggets=3 moved=1 left=2 flakes=2 share=50.00 done=1\nnuggets=1 moved=1 left=0 flakes=0 share=100.00 done=0\n";
+    static const char both[] = "drives=2 nuggets=4 moved=2 left=2 flakes=2 share=50.00 done=1 last=1\n";
+    uint8_t line[192];
+    memset(line, 7, sizeof line);
+    holds("a fleet's line is made", ngt_fleet((const uint8_t *)lines, sizeof lines - 1, line) == sizeof both - 1 && memcmp(line, both, sizeof both - 1) == 0);
+    holds("and no byte behind it", line[sizeof both - 1] == 7 && line[191] == 7);
+    holds("a line cut short is open", ngt_fleet((const uint8_t *)lines, sizeof lines - 3, line) == 7 && memcmp(line, "open=2\n", 7) == 0);
+    holds("no line is open too", ngt_fleet(NULL, 0, line) == 7 && memcmp(line, "open=0\n", 7) == 0);
+}
+
 int main(void) {
     static uint8_t contents[ALL];
     memset(salt, 1, 16), memset(secret, 2, 32), memset(other, 3, 32);
@@ -138,6 +149,7 @@ int main(void) {
     writes(contents);
     changes_secret(contents);
     spent();
+    fleet();
     printf("%d passed, %d failed\n", passed, failed);
     return failed ? 1 : 0;
 }
