@@ -1,12 +1,11 @@
-"""README.md does as written: its program in C is built against the header and the shipped archive, and prints what it says;
-so does its program in Rattle, on the interpreter and compiled three ways.
+"""README.md does as written: its program in C is built against the header and the shipped archive, and prints what it says.
+Its program in Rattle is that of crate `recorder`, and what it prints is that crate's stdout, to which `rt ci` holds it.
 
 The picture of the crates is the one that crates.txt draws, and every crate has its row.
 """
 import pathlib
 import platform
 import re
-import shutil
 import subprocess
 import sys
 
@@ -31,21 +30,9 @@ def built(source):
     return ([] if native else ["qemu-x86_64"]) + [str(MADE / "example")]
 
 
-def runs_in_rattle(page):
-    """The program in Rattle, as one more crate of a repository whose other crates are those here."""
-    mine = MADE / "rattle"
-    shutil.rmtree(mine, ignore_errors=True)
-    (mine / "crates" / "recorder" / "src").mkdir(parents=True)
-    for crate in (ROOT / "crates").iterdir():
-        (mine / "crates" / crate.name).symlink_to(crate)
-    line = re.search(r"Its line is `([^`]*)`", page).group(1)
-    (mine / "crates.txt").write_text((ROOT / "crates.txt").read_text() + line + "\n")
-    (mine / "crates" / "recorder" / "src" / "main.rt").write_text(block(page, "rust"))
-    (mine / "crates" / "recorder" / "stdout").write_text(block(page, "output"))
-    ran = subprocess.run(["rt", "try", "recorder"], cwd=mine, capture_output=True, text=True)
-    if ran.returncode:
-        print(ran.stdout + ran.stderr)
-    return ran.returncode == 0
+def is_the_recorder(page):
+    crate = ROOT / "crates" / "recorder"
+    return block(page, "rust") == (crate / "src" / "main.rt").read_text() and block(page, "output") == (crate / "stdout").read_text()
 
 
 def main():
@@ -57,7 +44,7 @@ def main():
     checks = {
         "the program in C ends well": said.returncode == 0,
         "it prints what the page says": said.stdout == block(page, "text"),
-        "the program in Rattle prints what the page says": runs_in_rattle(page),
+        "the program in Rattle and what it prints are those of crate recorder": is_the_recorder(page),
         "the picture is that of crates.txt": drawn.returncode == 0,
         "every crate has its row, and no other": named == rows,
     }

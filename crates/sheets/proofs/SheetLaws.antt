@@ -42,10 +42,10 @@ mounted-is i ev ep eo ek er = rw (er, ek, eo, ep, ev)
 pub mounted-told : (i : List ℕ) {m : Done} {v : List ℕ} → m ≡ mountedBy i → v ≡ volumeIn i → mountedText m v ≡ mountedText (mountedBy i) (volumeIn i)
 mounted-told i em ev = rw (em, ev)
 
-report-short : (n m l k h d : ℕ) → length (reportLine n m l k h d) ≤ 106
+pub report-short : (n m l k h d : ℕ) → length (reportLine n m l k h d) ≤ 106
 report-short n m l k h d = omega (arith, length-append (reportText n m l k h d) newline, report-le n m l k h d)
 
-refusal-short : (a : Answer) → length (refusalLine a) ≤ 106
+pub refusal-short : (a : Answer) → length (refusalLine a) ≤ 106
 unfolding refusalLine
 refusal-short a = simp length-append (omega (arith, decimal-le (numberOf a), class-le (classOf (numberOf a)), carried-le (carriedOf a)))
 
@@ -70,8 +70,11 @@ sheet-short i =
     pick-short (inputSized i) (mountedText (mountedBy i) (volumeIn i)) (refusalLine A.Length) 106 (mounted-short (mountedBy i) (volumeIn i)) (refusal-short A.Length)
 
 -- so it stands whole in 128 bytes
-pub line-fits : (i : List ℕ) {s x : List ℕ} {k : ℕ} → 128 ≤ length s → Put s 0 (sheetLine i) k x → (k ≤ length x) × (k ≡ length (take k x))
-line-fits i {s} {x} {k} h f =
-    let long : length x ≡ length s = ap length (f .stored) ∙ length-sets s 0 (sheetLine i) in
-    let fits : k ≤ length x = omega (arith, f .behind, sheet-short i) in
+pub text-fits : (text : List ℕ) → length text ≤ 106 → {s x : List ℕ} {k : ℕ} → 128 ≤ length s → Put s 0 text k x → (k ≤ length x) × (k ≡ length (take k x))
+text-fits text short {s} {x} {k} h f =
+    let long : length x ≡ length s = ap length (f .stored) ∙ length-sets s 0 text in
+    let fits : k ≤ length x = omega (arith, f .behind, short) in
     (fits, sym (length-take-le k x fits))
+
+pub line-fits : (i : List ℕ) {s x : List ℕ} {k : ℕ} → 128 ≤ length s → Put s 0 (sheetLine i) k x → (k ≤ length x) × (k ≡ length (take k x))
+line-fits i = text-fits (sheetLine i) (sheet-short i)
