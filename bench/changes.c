@@ -1,5 +1,5 @@
-/* Writes and reads of a whole volume, the proved calls beside plain C peers of the same design; and what a small write costs on
- * a drive of many nuggets against one of few. All sides' volumes and drives are compared to the byte after every pass. */
+/* Writes and reads of a whole volume, the proved calls beside plain C peers of the same design; what a small write costs on a
+ * drive of many nuggets against one of few; and what a queue of small writes costs against the single calls. All sides' volumes and drives are compared to the byte after every pass. */
 #define _POSIX_C_SOURCE 200809L
 #include "least.h"
 #include "sides.h"
@@ -7,7 +7,7 @@
 #include <stdlib.h>
 #include <string.h>
 
-enum { PIECE = 65536, SLICE = 16, ROUNDS = 5, SMALL = 4096, BATCH = 16 };
+enum { PIECE = 65536, SLICE = 16, ROUNDS = 5, SMALL = 4096, BATCH = 16, QUEUED = 64, PART = 512, QUEUES = 40 };
 
 typedef struct {
     uint32_t n, p, f;
@@ -156,8 +156,42 @@ static void growth(void) {
     tell_growth("first", &few_first, &many_first), tell_growth("overwrite", &few_over, &many_over);
 }
 
+/* 64 writes of 512 bytes into one nugget of 64 flakes: in one queue, and by single calls on another volume. */
+static void queue_pass(Volumes *v, Queue *queue, Write *write, const uint8_t *requests, double *queued, double *singly) {
+    uint8_t done[8];
+    double a = now();
+    must(queue(v->drive[0], v->vol[0], v->length, requests, 16 * QUEUED, text, PART * QUEUED, done, answer) == 0 && done[0] == QUEUED, "a queue is refused");
+    double b = now();
+    for (size_t k = 0; k < QUEUED; k++)
+        must(write(v->drive[1], v->vol[1], v->length, PART * k, text + PART * k, PART, answer) == 0, "a queued write is refused");
+    keep_least(queued, b - a), keep_least(singly, now() - b);
+    must(memcmp(v->drive[0], v->drive[1], 144) == 0 && memcmp(v->vol[0], v->vol[1], v->length) == 0, "a queue differs from its writes");
+}
+
+static void queues(void) {
+    static Queue *const calls[] = {ngt_queue, here_ngt_queue};
+    uint8_t requests[16 * QUEUED] = {0};
+    Volumes v;
+    for (size_t k = 0; k < QUEUED; k++)
+        requests[16 * k + 1] = (uint8_t)(2 * k), requests[16 * k + 9] = PART >> 8;
+    allocate(&v, 16, QUEUED, PART);
+    printf("a queue of 64 writes of 512 bytes into one nugget of 64 flakes, in microseconds, and the single calls' time over the queue's\n");
+    printf("%-10s%24s%24s\n", "", "proved, as built", "for this processor");
+    double first[2][2] = {{1e9, 1e9}, {1e9, 1e9}}, over[2][2] = {{1e9, 1e9}, {1e9, 1e9}};
+    for (uint64_t i = 0; i < QUEUES; i++)
+        for (int side = PROVED; side <= HERE; side++) {
+            format(&v), fill(i);
+            queue_pass(&v, calls[side], writes[side], requests, &first[side][0], &first[side][1]);
+            queue_pass(&v, calls[side], writes[side], requests, &over[side][0], &over[side][1]);
+        }
+    printf("%-10s%8.0f%8.0f  (%.2f)%8.0f%8.0f  (%.2f)\n", "first", 1e6 * first[0][0], 1e6 * first[0][1], first[0][1] / first[0][0], 1e6 * first[1][0], 1e6 * first[1][1], first[1][1] / first[1][0]);
+    printf("%-10s%8.0f%8.0f  (%.2f)%8.0f%8.0f  (%.2f)\n", "overwrite", 1e6 * over[0][0], 1e6 * over[0][1], over[0][1] / over[0][0], 1e6 * over[1][0], 1e6 * over[1][1], over[1][1] / over[1][0]);
+    release(&v);
+}
+
 int main(void) {
     throughput();
     growth();
+    queues();
     return 0;
 }

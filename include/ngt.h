@@ -30,13 +30,23 @@ uint32_t ngt_mount(const uint8_t *vol, size_t vol_len, const uint8_t present[32]
 uint32_t ngt_read(const uint8_t drive[144], const uint8_t *vol, size_t vol_len, uint64_t offset,
                   uint8_t *buf, size_t buf_len, uint8_t answer[16]);
 
-/* These change volume and drive where they stand, if the call is accepted. A refusal stores no byte of either, and neither does
- * an accepted write of no bytes: both may then lie on pages that can't be written. A change stores the whole image anew, so
+/* These, but for a queue, change volume and drive where they stand, if the call is accepted. A refusal stores no byte of either, and
+ * neither does an accepted write of no bytes: both may then lie on pages that can't be written. A change stores the whole image anew, so
  * bytes of it that mean nothing are zeros then. */
 uint32_t ngt_write(uint8_t drive[144], uint8_t *vol, size_t vol_len, uint64_t offset, const uint8_t *bytes, size_t bytes_len,
                    uint8_t answer[16]);
 uint32_t ngt_begin(uint8_t drive[144], uint8_t *vol, size_t vol_len, const uint8_t secret[32], uint8_t answer[16]);
 uint32_t ngt_sweep(uint8_t drive[144], uint8_t *vol, size_t vol_len, uint32_t nugget, uint8_t answer[16]);
+
+/* A queue of writes: requests of 16 bytes each, offset and length, with their bytes joined in one buffer. It does as the writes one
+ * after another, each of the next part of bytes, up to the first refusal, which is the answer. done: how many were done, 8
+ * bytes, always stored. 1, 2, then 8 if the list's length is no multiple of 16 or the lengths don't add up to bytes_len (as
+ * plain numbers: a sum past 2^64 - 1 is answered 8 too); these come before the first write, and nothing is done. An empty list
+ * with no bytes is accepted without a look at the volume's head; a request of no bytes is a write of none and counts as done.
+ * A refusal leaves drive and volume as the writes before it left them; no byte of the drive's image is stored if none of them
+ * changed it. */
+uint32_t ngt_queue(uint8_t drive[144], uint8_t *vol, size_t vol_len, const uint8_t *requests, size_t requests_len,
+                   const uint8_t *bytes, size_t bytes_len, uint8_t done[8], uint8_t answer[16]);
 
 /* Only an accepted finish is leave to destroy the old secret. Until then every mount asks for it, even with no nugget left. */
 uint32_t ngt_finish(uint8_t drive[144], uint8_t *vol, size_t vol_len, uint8_t answer[16]);

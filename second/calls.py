@@ -1,6 +1,7 @@
-"""The nine calls. Each takes a volume as bytes, changes nothing in place and gives a Result.
+"""The nine calls, and document 02's queue of writes. Each takes a volume as bytes, changes nothing in place and gives a Result.
 
-A refused call gives everything back as it came; a refused format or mount, the blank drive.
+A refused call gives everything back as it came; a refused format or mount, the blank drive; a
+queue what the writes before the refused one left.
 """
 
 from typing import NamedTuple
@@ -12,7 +13,7 @@ from drive import (BLANK, CHANGING, MARK, NO_SECRET, STEADY, Drive, counter_test
                    seal_change, shape_and_length_test, state_in_limits)
 from layout import EPOCH_TOP, HEAD, Record, layout, read_record, shape_in_limits
 from nuggets import change, contents, path_answer, read_tests, rekey_tests, touched, write_tests
-from primitives import number
+from primitives import le, number
 
 
 class Report(NamedTuple):
@@ -25,7 +26,8 @@ class Report(NamedTuple):
 
 
 class Result(NamedTuple):
-    """`span` is where a stored flake begins and its length; `pads` the encipherings."""
+    """`span` is where a stored flake begins and its length; `pads` the encipherings; `done` how
+    many writes of a queue were done."""
     answer: Answer
     drive: Drive
     volume: bytes
@@ -33,6 +35,7 @@ class Result(NamedTuple):
     report: Report = Report()
     span: tuple = (0, 0)
     pads: tuple = ()
+    done: int = 0
 
 
 def share_of(nuggets, moved, flakes, done):
@@ -140,6 +143,39 @@ def write(drive, volume, offset, data):
         pads += change(work, drive, n, pieces[n], data)
     after = seal_change(drive, work)
     return Result(ACCEPTED, after, bytes(work), pads=tuple(pads))
+
+
+def request_bytes(requests):
+    """A list of requests as bytes: 16 each, offset and length."""
+    return b"".join(le(offset, 8) + le(length, 8) for offset, length in requests)
+
+
+def requests_in(image):
+    return [(number(image[at:at + 8]), number(image[at + 8:at + 16]))
+            for at in range(0, len(image), 16)]
+
+
+def queue_tests(drive, volume, image, data):
+    """1, 2, then 8 for a list that ends within a request or lengths that don't add up."""
+    bad = shape_and_length_test(drive, volume)
+    if not bad and (len(image) % 16
+                    or sum(length for _, length in requests_in(image)) != len(data)):
+        bad = Answer(8)
+    return bad
+
+
+def queue(drive, volume, image, data):
+    """The writes one after another, each of the next part of the data, up to the first refusal."""
+    bad = queue_tests(drive, volume, image, data)
+    if bad:
+        return Result(bad, drive, volume)
+    at, pads = 0, ()
+    for done, (offset, length) in enumerate(requests_in(image)):
+        got = write(drive, volume, offset, data[at:at + length])
+        if got.answer.number:
+            return Result(got.answer, drive, volume, pads=pads, done=done)
+        drive, volume, at, pads = got.drive, got.volume, at + length, pads + got.pads
+    return Result(ACCEPTED, drive, volume, pads=pads, done=len(image) // 16)
 
 
 def begin_tests(drive, secret):

@@ -68,7 +68,7 @@ class Machine:
         self.kept[name] = self.volume
 
     def call(self, name, values):
-        """Makes one of the nine calls and takes over what it leaves."""
+        """Makes a call and takes over what it leaves."""
         if name in ("format", "mount"):
             result = getattr(calls, name)(self.volume, *values)
         else:
@@ -84,6 +84,7 @@ CALLS = {
     "mount": (32, 32, "u64"),
     "read": ("u64", "size"),
     "write": ("u64", "bytes"),
+    "queue": ("bytes", "bytes"),
     "begin": (32,),
     "sweep": ("u32",),
     "finish": (),
@@ -107,6 +108,8 @@ def told(name, result):
               f"volume={short(result.volume)}"]
     pads = [f"{pad.nugget}/{pad.keycount}/{pad.flake}/{short(pad.secret)}" for pad in result.pads]
     words.append("pads=" + (",".join(pads) or "-"))
+    if name == "queue":
+        words.append(f"done={result.done}")
     if name == "read" and not answer.number:
         words.append(f"bytes={result.buffer.hex()}")
     if name == "report" and not answer.number:

@@ -16,7 +16,7 @@ import calls  # noqa: E402
 from drive import STEADY  # noqa: E402
 
 U32, U64, SIZE = ctypes.c_uint32, ctypes.c_uint64, ctypes.c_size_t
-NAMES = ("format", "mount", "read", "write", "begin", "sweep", "finish", "report", "stored_flake")
+NAMES = ("format", "mount", "read", "write", "queue", "begin", "sweep", "finish", "report", "stored_flake")
 
 
 def given_image(drive):
@@ -92,6 +92,12 @@ class Beside:
 
     def write(self, want, drive, volume, offset, data):
         return self.changes(self.proved.ngt_write, want, drive, volume, U64(offset), bytes(data), SIZE(len(data)))
+
+    def queue(self, want, drive, volume, image, data):
+        done = room(size=8)
+        values = bytes(image), SIZE(len(image)), bytes(data), SIZE(len(data)), done
+        given, got = self.on_drive(self.proved.ngt_queue, drive, volume, values, [done])
+        return got, (left_image(given, drive, want), want.volume, struct.pack("<Q", want.done))
 
     def begin(self, want, drive, volume, secret):
         return self.changes(self.proved.ngt_begin, want, drive, volume, secret)

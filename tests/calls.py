@@ -2,7 +2,7 @@
 
 Each call that is made of the second program here is made of the proved library too: random volumes with a history, garbage,
 and all that the second program's own checks make (each refusal alone and in pairs, one flipped bit in every byte, the tree's
-places). NGT_SEED sets the seed; a failure prints it with the smallest case. `histories.py` has the histories.
+places, queues beside their writes). NGT_SEED sets the seed; a failure prints it with the smallest case. `histories.py` has the histories.
 """
 import random
 import sys
@@ -12,7 +12,7 @@ from proved import SEED, Tally, library
 
 import calls
 import checks.tally
-from checks import edges, figures, flips, garbage, places, refusals
+from checks import edges, figures, flips, garbage, places, queues, refusals
 from checks.make import SALT, flipped
 from layout import layout
 
@@ -21,7 +21,7 @@ SHAPES = [(n, p, f) for n in (1, 2, 3, 4, 5, 6, 33) for p, f in ((1, 64), (2, 64
 
 
 def every(source, drive, volume):
-    """All nine calls, with arguments at the edges and past them."""
+    """All calls, with arguments at the edges and past them."""
     number, other = source.choice(garbage.WORDS), source.choice(garbage.WORDS)
     counter = source.choice((drive.counter, drive.counter, 0, TOP))
     shape = source.choice(((drive.n, drive.p, drive.f), (number, other, 64), (number, 2, other)))
@@ -35,6 +35,10 @@ def every(source, drive, volume):
         at = (0, 1, 63, 64, capacity, capacity - length, TOP, source.randrange(capacity + 1), source.getrandbits(64))
         calls.read(drive, volume, source.choice(at) % 2**64, source.randbytes(length))
         calls.write(drive, volume, source.choice(at) % 2**64, source.randbytes(length))
+    requests = [(source.choice((0, 64, capacity, source.randrange(capacity + 1))), source.choice((0, 1, 65, 200))) for _ in range(source.randrange(9))]
+    image, data = calls.request_bytes(requests), source.randbytes(sum(length for _, length in requests))
+    calls.queue(drive, volume, image, source.choice((data, data, data, data + b"!", data[1:])))
+    calls.queue(drive, volume, image + source.randbytes(source.randrange(1, 16)), data)
     calls.begin(drive, volume, source.choice((drive.present, drive.old, source.randbytes(32))))
     calls.sweep(drive, volume, source.choice((0, drive.n - 1, drive.n, number)) % 2**32)
     calls.finish(drive, volume)
@@ -71,7 +75,7 @@ def main():
         for i in range(20):
             source = random.Random(f"{SEED} {shape} {i}")
             every(source, *lived(source, shape))
-    for group in (figures, refusals, edges, flips, places):
+    for group in (figures, refusals, edges, queues, flips, places):
         group.run(checks.tally.Tally(str(SEED)))
     return tally.close()
 

@@ -1,4 +1,4 @@
-/* A host in C that links the archive as it is shipped: it formats, mounts, reads, writes, changes the secret, reports and shows
+/* A host in C that links the archive as it is shipped: it formats, mounts, reads, writes, queues writes, changes the secret, reports and shows
  * a stored flake, sees refusals leave everything as it came, and makes a fleet's line. Its last line counts the checks. */
 #include "../include/ngt.h"
 #include <stdio.h>
@@ -98,6 +98,30 @@ static void writes(uint8_t *contents) {
     vol[FLAKES + F] ^= 1;
 }
 
+static void request(uint8_t *at, uint64_t offset, uint64_t length) {
+    for (int i = 0; i < 8; i++)
+        at[i] = (uint8_t)(offset >> 8 * i), at[8 + i] = (uint8_t)(length >> 8 * i);
+}
+
+static void queues(uint8_t *contents) {
+    uint8_t requests[48], done[8], text[ALL], bytes[30];
+    memset(bytes, 77, sizeof bytes), keep();
+    request(requests, 300, 10), request(requests + 16, ALL - 1, 0), request(requests + 32, 310, 20);
+    holds("a queue too short is refused by 8", ngt_queue(drive, vol, LENGTH, requests, 48, bytes, 29, done, answer) == 8 && number(done, 8) == 0 && as_kept());
+    holds("half a request is refused by 8", ngt_queue(drive, vol, LENGTH, requests, 40, bytes, 30, done, answer) == 8 && number(done, 8) == 0 && as_kept());
+    request(requests, 300, 1ull << 63), request(requests + 32, 310, (1ull << 63) + 30);
+    holds("a sum past 2^64 is refused by 8", ngt_queue(drive, vol, LENGTH, requests, 48, bytes, 30, done, answer) == 8 && as_kept());
+    holds("an empty queue is accepted", ngt_queue(drive, vol, LENGTH, NULL, 0, NULL, 0, done, answer) == 0 && number(done, 8) == 0 && as_kept());
+    request(requests, 300, 10), request(requests + 32, 310, 20);
+    holds("a queue is accepted", ngt_queue(drive, vol, LENGTH, requests, 48, bytes, 30, done, answer) == 0 && number(done, 8) == 3);
+    holds("it is its writes", number(drive + 40, 8) == number(again + 40, 8) + 2 && ngt_write(again, copy, LENGTH, 300, bytes, 10, answer) == 0 && ngt_write(again, copy, LENGTH, 310, bytes, 20, answer) == 0 && as_kept());
+    request(requests, 330, 10), request(requests + 16, ALL, 10), request(requests + 32, 340, 10);
+    holds("it stops at the first refusal", ngt_queue(drive, vol, LENGTH, requests, 48, bytes, 30, done, answer) == 8 && number(done, 8) == 1);
+    holds("what came before stays", ngt_write(again, copy, LENGTH, 330, bytes, 10, answer) == 0 && as_kept());
+    memset(contents + 300, 77, 40);
+    holds("what is queued is read", ngt_read(drive, vol, LENGTH, 0, text, ALL, answer) == 0 && memcmp(text, contents, ALL) == 0);
+}
+
 static void changes_secret(const uint8_t *contents) {
     uint8_t text[ALL], report[20], opened[144];
     holds("begin is accepted", ngt_begin(drive, vol, LENGTH, other, answer) == 0);
@@ -107,9 +131,9 @@ static void changes_secret(const uint8_t *contents) {
     holds("a second begin is refused by 9", ngt_begin(drive, vol, LENGTH, secret, answer) == 9 && as_kept());
     holds("finish with nuggets left is refused by 11", ngt_finish(drive, vol, LENGTH, answer) == 11 && number(answer + 8, 4) == 3 && as_kept());
     holds("no such nugget is refused by 8", ngt_sweep(drive, vol, LENGTH, N, answer) == 8 && as_kept());
-    holds("sweep is accepted", ngt_sweep(drive, vol, LENGTH, 0, answer) == 0 && record_is(0, 2, 3, 2) && number(drive + 40, 8) == 14);
+    holds("sweep is accepted", ngt_sweep(drive, vol, LENGTH, 0, answer) == 0 && record_is(0, 2, 3, 2) && number(drive + 40, 8) == 17);
     holds("both secrets are read at once", ngt_read(drive, vol, LENGTH, 0, text, ALL, answer) == 0 && memcmp(text, contents, ALL) == 0);
-    holds("a report counts what has moved", ngt_report(drive, vol, LENGTH, report, answer) == 0 && report[4] == 1 && report[8] == 2 && report[12] == 3 && number(report + 16, 4) == 6666);
+    holds("a report counts what has moved", ngt_report(drive, vol, LENGTH, report, answer) == 0 && report[4] == 1 && report[8] == 2 && report[12] == 5 && number(report + 16, 4) == 4000);
     keep();
     holds("a nugget moved is refused by 12", ngt_sweep(drive, vol, LENGTH, 0, answer) == 12 && as_kept());
     holds("the other sweeps are accepted", ngt_sweep(drive, vol, LENGTH, 1, answer) == 0 && ngt_sweep(drive, vol, LENGTH, 2, answer) == 0);
@@ -117,8 +141,8 @@ static void changes_secret(const uint8_t *contents) {
     holds("finish is accepted", ngt_finish(drive, vol, LENGTH, answer) == 0 && drive[12] == 0 && number(drive + 14, 2) == 2);
     holds("no old secret is left", memcmp(drive + 112, blank, 32) == 0 && memcmp(vol + 40, blank, 32) == 0);
     holds("all is read under the new secret", ngt_read(drive, vol, LENGTH, 0, text, ALL, answer) == 0 && memcmp(text, contents, ALL) == 0);
-    holds("it mounts", ngt_mount(vol, LENGTH, other, blank, 17, opened, answer) == 0 && memcmp(opened, drive, 144) == 0);
-    holds("the image left before is refused by 6", ngt_mount(copy, LENGTH, other, secret, 17, opened, answer) == 6 && memcmp(opened, blank, 144) == 0);
+    holds("it mounts", ngt_mount(vol, LENGTH, other, blank, 20, opened, answer) == 0 && memcmp(opened, drive, 144) == 0);
+    holds("the image left before is refused by 6", ngt_mount(copy, LENGTH, other, secret, 20, opened, answer) == 6 && memcmp(opened, blank, 144) == 0);
 }
 
 static void spent(void) {
@@ -147,6 +171,7 @@ int main(void) {
     opens();
     looks();
     writes(contents);
+    queues(contents);
     changes_secret(contents);
     spent();
     fleet();

@@ -17,11 +17,11 @@
 #include <unistd.h>
 
 /* how many refusals */
-enum { WANTED = 100000, ROOM = 256, SHOWN = 10, KINDS = 9 };
-enum kind { FORMAT, MOUNT, READ, WRITE, BEGIN, SWEEP, FINISH, REPORT, STORED };
-static const char *const names[KINDS] = {"format", "mount", "read", "write", "begin", "sweep", "finish", "report", "stored_flake"};
+enum { WANTED = 100000, ROOM = 256, SHOWN = 10, KINDS = 10 };
+enum kind { FORMAT, MOUNT, READ, WRITE, QUEUE, BEGIN, SWEEP, FINISH, REPORT, STORED };
+static const char *const names[KINDS] = {"format", "mount", "read", "write", "queue", "begin", "sweep", "finish", "report", "stored_flake"};
 /* The answers that each call can give, with 0 where it may be accepted and change nothing. */
-static const char *const reached[KINDS] = {"1 2 13", "1 2 3 4 5 6 7", "0 1 2 7 8", "0 1 2 7 8 13 14", "1 2 7 9 10 13 15", "1 2 7 8 9 12 13 14", "1 2 7 9 11 13", "0 1 2 7", "0 1 2 8"};
+static const char *const reached[KINDS] = {"1 2 13", "1 2 3 4 5 6 7", "0 1 2 7 8", "0 1 2 7 8 13 14", "0 1 2 7 8 13 14", "1 2 7 9 10 13 15", "1 2 7 8 9 12 13 14", "1 2 7 9 11 13", "0 1 2 7", "0 1 2 8"};
 
 /* What a call is given, beside drive and volume. */
 struct given {
@@ -89,6 +89,7 @@ static uint32_t make(const struct given *g, const struct place *at) {
     case MOUNT: return ngt_mount(at->vol, at->length, at->one, at->two, g->number, at->made, at->answer);
     case READ: return ngt_read(at->image, at->vol, at->length, g->number, end, g->length, at->answer);
     case WRITE: return ngt_write(at->image, at->vol, at->length, g->number, end, g->length, at->answer);
+    case QUEUE: return ngt_queue(at->image, at->vol, at->length, at->two + 16, 16, end, g->length, at->span + 8, at->answer);
     case BEGIN: return ngt_begin(at->image, at->vol, at->length, at->one, at->answer);
     case SWEEP: return ngt_sweep(at->image, at->vol, at->length, g->n, at->answer);
     case FINISH: return ngt_finish(at->image, at->vol, at->length, at->answer);
@@ -99,6 +100,11 @@ static uint32_t make(const struct given *g, const struct place *at) {
 
 static uint32_t word(const uint8_t *at) {
     return at[0] | (uint32_t)at[1] << 8 | (uint32_t)at[2] << 16 | (uint32_t)at[3] << 24;
+}
+
+static void store(uint8_t *at, uint64_t x) {
+    for (int i = 0; i < 8; i++)
+        at[i] = (uint8_t)(x >> 8 * i);
 }
 
 static uint32_t near(uint32_t x) {
@@ -128,9 +134,11 @@ static struct given some(const uint8_t *image) {
             g.n = near(g.n), g.f = any() % 2 ? g.f : near(g.f);
     } else if (g.kind == MOUNT) {
         g.number = any() % 3 ? counter : any() % 2 ? counter + 1 : any();
-    } else if (g.kind == READ || g.kind == WRITE) {
+    } else if (g.kind == READ || g.kind == WRITE || g.kind == QUEUE) {
         const uint64_t choice[] = {0, all, all - g.length, UINT64_MAX, any(), all ? any() % all : 0, all ? any() % all : 0};
         g.number = choice[any() % 7];
+        if (g.kind == QUEUE) /* one request, in the last 16 bytes; at times its length is off */
+            store(g.two + 16, g.number), store(g.two + 24, g.length + (any() % 8 == 0));
     } else {
         g.n = near(g.n), g.p = near(g.p);
     }

@@ -20,14 +20,14 @@ LINE = re.compile(rb"(nuggets=\d+ moved=\d+ left=\d+ flakes=\d+ share=\d+\.\d\d 
 # Which numbers each call may give at all.
 POSSIBLE = {
     "format": {0, 1, 2, 13}, "mount": {0, 1, 2, 3, 4, 5, 6, 7}, "read": {0, 1, 2, 7, 8},
-    "write": {0, 1, 2, 7, 8, 13, 14}, "begin": {0, 1, 2, 7, 9, 10, 13, 15},
+    "write": {0, 1, 2, 7, 8, 13, 14}, "queue": {0, 1, 2, 7, 8, 13, 14}, "begin": {0, 1, 2, 7, 9, 10, 13, 15},
     "sweep": {0, 1, 2, 7, 8, 9, 12, 13, 14}, "finish": {0, 1, 2, 7, 9, 11, 13},
     "report": {0, 1, 2, 7}, "stored_flake": {0, 1, 2, 8},
 }
 # Which places each call's 7 may carry. Mount tests the head by its seal.
 PLACES = {
     "mount": {RECORD, NODE}, "read": {HEAD, RECORD, NODE, FLAKE},
-    "write": {HEAD, RECORD, NODE, FLAKE}, "begin": {HEAD}, "sweep": {HEAD, RECORD, NODE, FLAKE},
+    "write": {HEAD, RECORD, NODE, FLAKE}, "queue": {HEAD, RECORD, NODE, FLAKE}, "begin": {HEAD}, "sweep": {HEAD, RECORD, NODE, FLAKE},
     "finish": {HEAD, RECORD, NODE}, "report": {HEAD, RECORD, NODE},
 }
 
@@ -83,6 +83,9 @@ def every_call(chance, drive, volume):
     yield "mount", BLANK, calls.mount(volume, drive.present, drive.old, counter), b""
     yield "read", drive, calls.read(drive, volume, offset, data), data
     yield "write", drive, calls.write(drive, volume, offset, data), b""
+    size = chance.choice((len(data), len(data), len(data) + 1)) // 2
+    requests = calls.request_bytes(((offset, size), (chance.choice((0, 64)), len(data) - size)))
+    yield "queue", drive, calls.queue(drive, volume, requests, data), b""
     secret = chance.choice((drive.present, data[:32].ljust(32, b"s")))
     yield "begin", drive, calls.begin(drive, volume, secret), b""
     yield "sweep", drive, calls.sweep(drive, volume, chance.choice((0, 0, number))), b""
@@ -93,7 +96,7 @@ def every_call(chance, drive, volume):
 
 def judged(tally, words, name, given, volume, got, buffer):
     tally.holds(f"{words} {name} answers {got.answer}", got.answer.number in POSSIBLE[name])
-    if got.answer.number:
+    if got.answer.number and not got.done:
         tally.same(f"{words} {name} refused", got, calls.Result(got.answer, given, volume, buffer))
     else:
         tally.same(f"{words} {name} length", (len(got.volume), len(got.buffer)),

@@ -70,11 +70,14 @@ def damage(chance, history):
 
 
 def step(chance, history):
-    kind = chance.choices(("change", "read", "report", "stored", "stale", "wrong", "damage"),
-                          (12, 4, 1, 1, 2, 1, 4))[0]
+    kind = chance.choices(("change", "queue", "read", "report", "stored", "stale", "wrong",
+                           "damage"), (12, 1, 4, 1, 1, 2, 1, 4))[0]
     model = history.model
     if kind == "change":
         history.change(*a_change(chance, history))
+    elif kind == "queue":
+        requests = [a_range(chance, model.size()) for _ in range(chance.randint(0, 5))]
+        history.queue(requests, chance.randbytes(sum(length for _, length in requests)))
     elif kind == "read":
         history.read(*a_range(chance, model.size()))
     elif kind == "report":

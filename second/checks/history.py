@@ -31,7 +31,7 @@ class History:
             self.same("how many left", got.answer.left, self.model.left())
         if want or (name == "write" and not values[1]):
             self.same(f"{name} leaves all", (got.drive, got.volume), (self.drive, self.volume))
-            return
+            return got
         self.images.append(self.volume)
         before, self.drive, self.volume = self.volume, got.drive, got.volume
         self.secrets += [self.model.present] if name == "begin" else []
@@ -39,6 +39,22 @@ class History:
         self.ledger.changed(before, self.volume, got.pads, self.model)
         self.mount()
         self.stale_mount(before, self.model.present, self.model.old)
+        return got
+
+    def queue(self, requests, data):
+        """A queue is its writes: what they leave one after another, up to the first refusal."""
+        given, image = (self.drive, self.volume), calls.request_bytes(requests)
+        self.same("a queue too short", calls.queue(*given, image, data + b"!"),
+                  calls.Result(calls.Answer(8), *given))
+        at, done, answer, pads = 0, 0, calls.ACCEPTED, ()
+        for offset, length in requests:
+            got = self.change("write", offset, data[at:at + length])
+            if got.answer.number:
+                answer = got.answer
+                break
+            at, done, pads = at + length, done + 1, pads + got.pads
+        self.same("a queue and its writes", calls.queue(*given, image, data),
+                  calls.Result(answer, self.drive, self.volume, pads=pads, done=done))
 
     def mount(self):
         """With the right secrets and counter: accepted, and the very drive."""

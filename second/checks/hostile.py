@@ -16,8 +16,9 @@ from checks.garbage import WORDS, judged
 from checks.make import flipped
 
 FIELDS = ("n", "p", "f", "state", "leaving", "epoch", "counter")
-CALLS = ("format", "mount", "read", "write", "begin", "sweep", "finish", "report", "stored_flake")
-WEIGHTS = (1, 3, 5, 8, 1, 6, 4, 2, 1)
+CALLS = ("format", "mount", "read", "write", "queue", "begin", "sweep", "finish", "report",
+         "stored_flake")
+WEIGHTS = (1, 3, 5, 8, 4, 1, 6, 4, 2, 1)
 
 
 class Hostile:
@@ -179,6 +180,11 @@ class Hostile:
         if name in ("read", "write"):
             offset, length = self.a_range()
             return drive, volume, offset, chance.randbytes(length)
+        if name == "queue":
+            requests = [self.a_range() for _ in range(chance.randint(0, 4))]
+            off = chance.choice((0, 0, 0, 0, 1))
+            data = chance.randbytes(sum(length for _, length in requests) + off)
+            return drive, volume, calls.request_bytes(requests), data
         if name == "begin":
             return drive, volume, chance.choice((*self.secrets, secret(chance), drive.present))
         if name == "sweep":
@@ -188,7 +194,7 @@ class Hostile:
         return drive, volume
 
     def step(self):
-        """Perhaps a mischief; then one of the nine calls with any arguments."""
+        """Perhaps a mischief; then one of the calls with any arguments."""
         if self.chance.random() < 0.4:
             self.mischief()
         name = self.chance.choices(CALLS, WEIGHTS)[0]

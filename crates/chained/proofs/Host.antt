@@ -24,7 +24,7 @@ use Rattle.history.proofs.Steps.{start-sound, step-sound, run-sound, mount-back
 use Rattle.chained.specs.Host.{Host, Got, Makes, Starts, Chain, TypedCall, Typed, hostOf, HostFollows, HostIsTold}
 use Rattle.chained.proofs.Back.{format-fits, write-fits, begin-fits, sweep-fits, finish-fits}
 
-host-is : {h : Host} {i v : List ℕ} → h .image ≡ i → h .vol ≡ v → h ≡ record { image = i; vol = v }
+pub host-is : {h : Host} {i v : List ℕ} → h .image ≡ i → h .vol ≡ v → h ≡ record { image = i; vol = v }
 host-is p q = λ i. record { image = p i; vol = q i }
 
 report-picked : (b : Bool) (r s : Report) → r .answer ≡ s .answer → pick b r s .answer ≡ s .answer
@@ -42,7 +42,7 @@ after-image true new d = refl
 after-image false new d = refl
 
 module _ (w : World) (x : Sound w) where
-  step-fits : (c : Call) → TypedCall c → DriveFits (w .drive) → DriveFits (step w c .drive)
+  pub step-fits : (c : Call) → TypedCall c → DriveFits (w .drive) → DriveFits (step w c .drive)
   unfolding step worldAfter
   step-fits (mount any) t f = rw (mount-same w x any) f
   step-fits (write o bytes) t f = write-fits (w .drive) (w .vol) o bytes f
@@ -52,7 +52,7 @@ module _ (w : World) (x : Sound w) where
   step-fits (asks q) t f = f
 
   module _ (f : DriveFits (w .drive)) where
-    back : driveIn (driveImage (w .drive)) ≡ w .drive
+    pub back : driveIn (driveImage (w .drive)) ≡ w .drive
     back = drive-back (w .drive) f
 
     changed : {changes : Bool} {done : Done} {after : List ℕ} {number : ℕ} {answer : List ℕ} {k : Host} (new : Drive) → done .drive ≡ pick changes new (w .drive)
@@ -61,7 +61,7 @@ module _ (w : World) (x : Sound w) where
         host-is (p .drive ∙ ap (λ (z : Drive). imageAfter changes z (driveImage (w .drive))) e ∙ after-image changes new (w .drive) ∙ ap driveImage (sym e)) (p .volume)
 
     -- what a function promises on what the host carries for a world is what it carries for the next one
-    made : (c : Call) (g : Got) (k : Host) → Makes w (hostOf w) c g k → k ≡ hostOf (step w c)
+    pub made : (c : Call) (g : Got) (k : Host) → Makes w (hostOf w) c g k → k ≡ hostOf (step w c)
     unfolding step worldAfter writeDone beginDone sweepDone finishDone
     made (mount any) g k p =
         rw (mount-same w x any) (host-is (p .0 .drive ∙ ap (λ (z : Done). driveImage (z .drive)) (mount-back w x any)) (p .1))
@@ -92,11 +92,11 @@ follows w [] h k x f t e p = (p ∙ e, f)
 follows w (c ∷ calls) h k x f t e (g, m, p, rest) =
     follows (step w c) calls m k (step-sound w c x) (step-fits w x c (t .0) f) (t .1) (made w x f c g m (rw e at p)) rest
 
-started : (start : Start) (h : Host) → Starts start h → h ≡ hostOf (begun start)
+pub started : (start : Start) (h : Host) → Starts start h → h ≡ hostOf (begun start)
 unfolding begun
 started start h p = host-is (p .1 .drive) (p .1 .volume)
 
-begun-fits : (start : Start) → length (start .secret) ≡ 32 → DriveFits (begun start .drive)
+pub begun-fits : (start : Start) → length (start .secret) ≡ 32 → DriveFits (begun start .drive)
 unfolding begun
 begun-fits start wide = format-fits (start .shape) (start .salt) (start .secret) (start .given) (start .outside) (start .salted) wide (start .low)
 

@@ -75,3 +75,9 @@ finish-at-post κs a r e = claim (λ w. fn.finish_at.clauses (w .𝓤) (w .H) (w
 
 pub finish-at : OneOutcome fn.finish_at.ended finish-at-post
 finish-at κs a x y u v p q = (agree (p .0) (q .0), agree (p .1 .0) (q .1 .0) ∥ agree (p .1 .1) (q .1 .1) ∥ refl)
+
+abbrev queue-at-post : Promise fn.queue_at.ended
+queue-at-post κs a r e = claim (λ w. fn.queue_at.clauses (w .𝓤) (w .H) (w .𝓖 .A) (w .𝓜 .mem) (w .𝓡 .run) κs a .ensures tt r e) (λ w. r-last _) (λ w. refl)
+
+pub queue-at : OneOutcome fn.queue_at.ended queue-at-post
+queue-at κs a x y u v p q = (agree (p .0) (q .0), agree (p .1 .0) (q .1 .0) ∥ agree (p .1 .1) (q .1 .1) ∥ refl)

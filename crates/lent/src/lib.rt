@@ -1,8 +1,10 @@
 // The calls on a drive that is lent: "The open drive is one record that the calls change where it stands".
-// It touches `opening`, `reading`, `reports`, `writing` and `rekeying`, whose by-value calls the functions here wrap, and `drive`, `layout` and `answers`.
+// It touches `opening`, `reading`, `reports`, `writing`, `rekeying` and `queues`, whose by-value calls the functions here wrap, and `drive`, `layout` and `answers`.
 use answers::Answer;
 use drive::Drive;
 use layout::Shape;
+use queues::Outcome;
+use queues::Request;
 use reports::Report;
 ghost use mathlib.Core.Path.{_≡_};
 ghost use lib.ListN.{length};
@@ -14,6 +16,7 @@ ghost use Rattle.reports.specs.Report.{reportOf};
 ghost use Rattle.reports.specs.Stored.{storedAnswer, storedFlake, storedAt, onward};
 ghost use Rattle.changes.specs.Write.{writeDone, writeVolume};
 ghost use Rattle.changes.specs.Rekey.{beginDone, beginVolume, sweepDone, sweepVolume, finishDone, finishVolume};
+ghost use Rattle.queues.specs.Queue.{queueDone, queueVolume};
 
 // "Format takes N, P, F, salt, secret and the outside counter."
 pub fn format_at(
@@ -123,4 +126,16 @@ pub fn finish_at(d: &mut Drive, vol: &mut [u8]) -> Answer
     let r = rekeying::finish(c, vol);
     *d = r.drive;
     r.answer
+}
+
+// "a list of requests, each an offset and a length, with the bytes joined in one buffer"
+pub fn queue_at(d: &mut Drive, vol: &mut [u8], rs: &[Request], bytes: &[u8]) -> Outcome
+    ensures { λ r. ⌜ (r ≡ queueDone (now (d .entry)) (now (vol .entry)) (now (rs .entry)) (now (bytes .entry)) .outcome)
+        × ((now (d .exit) ≡ queueDone (now (d .entry)) (now (vol .entry)) (now (rs .entry)) (now (bytes .entry)) .drive)
+        × (now (vol .exit) ≡ queueVolume (now (d .entry)) (now (vol .entry)) (now (rs .entry)) (now (bytes .entry)))) ⌝ }
+{
+    let c = *d;
+    let r = queues::queue(c, vol, rs, bytes);
+    *d = r.drive;
+    r.outcome
 }

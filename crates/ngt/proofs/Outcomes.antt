@@ -31,5 +31,8 @@ ngt-finish κs a x y u v p q = (agree (p .tells .told) (q .tells .told), agree (
 pub ngt-write : OneOutcome fn.ngt_write.ended fn.ngt_write.Reads.Post
 ngt-write κs a x y u v p q = (agree (p .tells .told) (q .tells .told), agree (p .drive) (q .drive) ∥ agree (p .volume) (q .volume) ∥ refl ∥ refl ∥ agree (p .tells .shown) (q .tells .shown) ∥ refl)
 
+pub ngt-queue : OneOutcome fn.ngt_queue.ended fn.ngt_queue.Reads.Post
+ngt-queue κs a x y u v p q = (agree (p .tells .told) (q .tells .told), agree (p .drive) (q .drive) ∥ agree (p .volume) (q .volume) ∥ refl ∥ refl ∥ agree (p .counts) (q .counts) ∥ agree (p .tells .shown) (q .tells .shown) ∥ refl)
+
 pub ngt-fleet : OneOutcome fn.ngt_fleet.ended fn.ngt_fleet.Reads.Post
 ngt-fleet κs a x y u v p q = (agree (p .behind) (q .behind), refl ∥ agree (p .stored) (q .stored) ∥ refl)

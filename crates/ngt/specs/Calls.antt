@@ -1,9 +1,10 @@
 -- What each function of the C interface answers and what each lent byte holds at the end. "The answer's image, 16 bytes,
 -- always stored"; "Each function also returns the number."
 use mathlib.Core.Path.{_≡_}
-use mathlib.Core.Bool.{Bool}
+use mathlib.Core.Bool.{Bool, not}
 use mathlib.Core.List.{List, _++_}
 use Prim.Native.Nat.{ℕ}
+use lib.Dec.{eqb}
 use Rattle.base.specs.Pick.{pick}
 use Rattle.words.specs.Le.{le}
 use Rattle.answers.specs.declared.Answer.{Answer}
@@ -24,6 +25,8 @@ use Rattle.reports.specs.Report.{reportOf}
 use Rattle.reports.specs.Stored.{storedAnswer}
 use Rattle.changes.specs.Rekey.{beginDone, beginVolume, sweepDone, sweepVolume, finishDone, finishVolume}
 use Rattle.changes.specs.Write.{writes, writeDone, writeVolume}
+use Rattle.queues.specs.declared.Queued.{Queued}
+use Rattle.queues.specs.Images.{imagesDone, imagesVolume}
 
 -- the number and the answer's image tell this answer
 pub record Tells (a : Answer) (number : ℕ) (answer : List ℕ) : Type 0 where
@@ -85,3 +88,17 @@ Swept d v n = Rekeyed (sweepDone d v n) (sweepVolume d v n)
 -- a write changes the drive if it is accepted and not empty
 abbrev pub Written : Drive → List ℕ → ℕ → List ℕ → List ℕ → ℕ → List ℕ → List ℕ → List ℕ → Type 0
 Written d v offset bytes = Changed (writeDone d v offset bytes) (writes (writeDone d v offset bytes .answer) bytes) (writeVolume d v offset bytes)
+
+-- "no byte of it if none of them changed the drive": each write that changes the drive adds 1 to the counter, so the counter tells
+abbrev pub counterRose : Drive → Drive → Bool
+counterRose d next = not (eqb (d .counter) (next .counter))
+
+-- what a queue leaves, where `queued` is what it handed back and `after` the volume; "a queue's `done` says how many were done"
+pub record Queues (d : Drive) (queued : Queued) (after given : List ℕ) (number : ℕ) (vol image done answer : List ℕ) : Type 0 where
+  pub tells : Tells (queued .outcome .answer) number answer
+  pub volume : vol ≡ after
+  pub drive : image ≡ imageAfter (counterRose d (queued .drive)) (queued .drive) given
+  pub counts : done ≡ le 8 (queued .outcome .done)
+
+abbrev pub QueuedBy : Drive → List ℕ → List ℕ → List ℕ → List ℕ → ℕ → List ℕ → List ℕ → List ℕ → List ℕ → Type 0
+QueuedBy d v requests bytes = Queues d (imagesDone d v requests bytes) (imagesVolume d v requests bytes)

@@ -11,7 +11,7 @@ ghost use Rattle.packed.specs.Image.{driveIn};
 ghost use Rattle.line.specs.Lines.{Put};
 ghost use Rattle.fleets.specs.Lines.{fleetLine};
 ghost use Rattle.changes.specs.Write.{writes};
-ghost use Rattle.ngt.specs.Calls.{Formatted, Mounted, Filled, Reported, Shown, spanImage, imageAfter, Begun, Swept, Finished, Written};
+ghost use Rattle.ngt.specs.Calls.{Formatted, Mounted, Filled, Reported, Shown, spanImage, imageAfter, Begun, Swept, Finished, Written, counterRose, QueuedBy};
 
 // Format, with the image of the drive that it hands back.
 #[no_mangle]
@@ -245,6 +245,45 @@ pub extern "C" fn ngt_write(
     let a = done.answer;
     let next = done.drive;
     keep(image, writes_by(a, bytes), next);
+    *answer = images::answer_image(a);
+    answers::number(a)
+}
+
+// Whether drives differ: each write that changes one adds to its counter.
+fn counter_rose(d: Drive, next: Drive) -> bool
+    ensures { λ r. ⌜ r ≡ counterRose d next ⌝ }
+{
+    d.counter != next.counter
+}
+
+fn eight(x: u64) -> [u8; 8]
+    ensures { λ r. ⌜ r ≡ le 8 x ⌝ }
+{
+    let mut out = [0u8; 8];
+    words::store(&mut out, 0, 8, x);
+    out
+}
+
+// A queue of writes, "requests: 16 bytes each, offset and length".
+#[no_mangle]
+pub extern "C" fn ngt_queue(
+    image: &mut [u8; 144],
+    vol: &mut [u8],
+    requests: &[u8],
+    bytes: &[u8],
+    done: &mut [u8; 8],
+    answer: &mut [u8; 16],
+) -> u32
+    ensures { λ r. ⌜ QueuedBy (driveIn (now (image .entry))) (now (vol .entry)) (now (requests .entry)) (now (bytes .entry))
+        (now (image .entry)) r (now (vol .exit)) (now (image .exit)) (now (done .exit)) (now (answer .exit)) ⌝ }
+{
+    let d = opened(*image);
+    let queued = queues::queue_images(d, vol, requests, bytes);
+    let outcome = queued.outcome;
+    let next = queued.drive;
+    let a = outcome.answer;
+    keep(image, counter_rose(d, next), next);
+    *done = eight(outcome.done);
     *answer = images::answer_image(a);
     answers::number(a)
 }
