@@ -14,8 +14,8 @@ use Rattle.base.proofs.PickLaws.{told, both-off, both-no}
 use Rattle.line.specs.Reading.{upTo, past}
 use Rattle.standings.specs.Standing.{standingIn, taken}
 use Rattle.standings.proofs.TakenLaws.{taken-short}
-use Rattle.fleets.specs.declared.joining.Fleet.{Fleet}
-use Rattle.fleets.specs.Fleet.{nobody, joined}
+use Rattle.totals.specs.declared.Fleet.{Fleet}
+use Rattle.totals.specs.Fleet.{nobody, joined}
 use Rattle.fleets.specs.Lines.{linesOf, goes, gatherFrom, gatheredIn, printed, fleetLine}
 use Rattle.fleets.proofs.GatherLaws.{lines-first}
 

@@ -19,12 +19,12 @@ use Rattle.standings.specs.declared.Found.the-variants as F
 use Rattle.standings.specs.Standing.{possible, standingIn, taken, foundIn}
 use Rattle.standings.proofs.StandingLaws.{is-possible}
 use Rattle.standings.proofs.TakenLaws.{taken-possible}
-use Rattle.fleets.specs.declared.joining.Fleet.{Fleet}
-use Rattle.fleets.specs.declared.joining.Gathered.{Gathered}
-use Rattle.fleets.specs.declared.joining.Gathered.the-variants as G
-use Rattle.fleets.specs.Fleet.{nobody, joined, Summed}
+use Rattle.totals.specs.declared.Fleet.{Fleet}
+use Rattle.fleets.specs.declared.Gathered.{Gathered}
+use Rattle.fleets.specs.declared.Gathered.the-variants as G
+use Rattle.totals.specs.Fleet.{nobody, joined, Summed}
 use Rattle.fleets.specs.Lines.{before, linesOf, goes, withLine, gatherFrom, gatheredIn}
-use Rattle.fleets.proofs.FleetLaws.{summed-none, summed-more}
+use Rattle.totals.proofs.FleetLaws.{summed-none, summed-more}
 
 -- a text that isn't empty has a first line, and the lines behind it
 pub lines-first : (b : ℕ) (t : List ℕ) → linesOf (b ∷ t) ≡ upTo 10 (b ∷ t) ∷ linesOf (past 10 (b ∷ t))

@@ -14,9 +14,9 @@ use Rattle.line.specs.Lines.{Put, newline}
 use Rattle.line.proofs.PutLaws.{decimal-le}
 use Rattle.standings.specs.Standing.{standingText}
 use Rattle.standings.proofs.StandingLaws.{standing-le}
-use Rattle.fleets.specs.declared.joining.Fleet.{Fleet}
-use Rattle.fleets.specs.declared.joining.Gathered.{Gathered}
-use Rattle.fleets.specs.declared.joining.Gathered.the-variants as G
+use Rattle.totals.specs.declared.Fleet.{Fleet}
+use Rattle.fleets.specs.declared.Gathered.{Gathered}
+use Rattle.fleets.specs.declared.Gathered.the-variants as G
 use Rattle.fleets.specs.Texts.{t-drives, t-last, t-open}
 use Rattle.fleets.specs.Lines.{gatheredIn, openLine, closedLine, printed, fleetLine}
 

@@ -13,9 +13,9 @@ use Rattle.base.specs.Lists.{fold}
 use Rattle.base.proofs.PickLaws.{yes, no, both-on, both-off, told}
 use Rattle.standings.specs.declared.Standing.{Standing}
 use Rattle.standings.specs.Standing.{standingIn, taken}
-use Rattle.fleets.specs.declared.joining.Fleet.{Fleet}
-use Rattle.fleets.specs.declared.joining.Gathered.the-variants as G
-use Rattle.fleets.specs.Fleet.{nobody, joined, fleetOf}
+use Rattle.totals.specs.declared.Fleet.{Fleet}
+use Rattle.fleets.specs.declared.Gathered.the-variants as G
+use Rattle.totals.specs.Fleet.{nobody, joined, fleetOf}
 use Rattle.fleets.specs.Lines.{linesOf, goes, gatherFrom, gatheredIn, openLine, closedLine, fleetLine}
 use Rattle.fleets.specs.Claims.{drivesIn, AllTaken, FirstBad}
 use Rattle.fleets.proofs.LineLaws.{printed-open, printed-none, printed-closed}

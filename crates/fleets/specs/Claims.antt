@@ -1,22 +1,17 @@
 -- What the fleet's line says of the lines that were read.
-use Prim.Native.Nat.{ℕ, _+_, _≤_, _<_}
+use Prim.Native.Nat.{ℕ, _≤_, _<_}
 use mathlib.Core.Path.{_≡_}
 use mathlib.Core.Bool.{true, false}
 use mathlib.Core.Logic.{_⊎_}
-use mathlib.Core.List.{List, [], _∷_, map}
+use mathlib.Core.List.{List, [], map}
 use lib.ListN.{length, getD}
 use Rattle.standings.specs.declared.Standing.{Standing}
 use Rattle.standings.specs.Standing.{standingIn, taken}
-use Rattle.fleets.specs.Fleet.{nothing, isBehind}
 use Rattle.fleets.specs.Lines.{linesOf}
 
 -- the drives of a text, line by line
 abbrev pub drivesIn : List ℕ → List Standing
 drivesIn i = map standingIn (linesOf i)
-
--- drive k of a list, from 0 on
-abbrev pub driveAt : List Standing → ℕ → Standing
-driveAt ts k = getD ts k nothing
 
 -- every line is taken, and there are so many at most
 pub record AllTaken (most : ℕ) (ls : List (List ℕ)) : Type 0 where
@@ -29,14 +24,3 @@ pub record FirstBad (most : ℕ) (ls : List (List ℕ)) (k : ℕ) : Type 0 where
   pub few : k ≤ most
   pub before : (j : ℕ) → j < k → taken (getD ls j []) ≡ true
   pub bad : (taken (getD ls k []) ≡ false) ⊎ (k ≡ most)
-
--- a column's total
-unfoldable pub totalOf : (Standing → ℕ) → List Standing → ℕ
-totalOf g [] = 0
-totalOf g (t ∷ ts) = g t + totalOf g ts
-
--- drive k is "the drive furthest behind": no fraction is smaller, and "the earliest line wins a tie": all before it are greater
-pub record Furthest (ts : List Standing) (k : ℕ) : Type 0 where
-  pub inside : k < length ts
-  pub least : (j : ℕ) → j < length ts → isBehind (driveAt ts j) (driveAt ts k) ≡ false
-  pub earliest : (j : ℕ) → j < k → isBehind (driveAt ts k) (driveAt ts j) ≡ true

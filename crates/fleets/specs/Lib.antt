@@ -1,4 +1,3 @@
 pub mod Texts
-pub mod Fleet
 pub mod Lines
 pub mod Claims

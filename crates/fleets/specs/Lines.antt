@@ -7,11 +7,11 @@ use Rattle.base.specs.Pick.{pick, both}
 use Rattle.line.specs.Decimal.{decimal}
 use Rattle.line.specs.Lines.{newline}
 use Rattle.standings.specs.Standing.{standingText, standingIn, taken}
-use Rattle.fleets.specs.declared.joining.Fleet.{Fleet}
-use Rattle.fleets.specs.declared.joining.Gathered.{Gathered}
-use Rattle.fleets.specs.declared.joining.Gathered.the-variants as G
+use Rattle.totals.specs.declared.Fleet.{Fleet}
+use Rattle.fleets.specs.declared.Gathered.{Gathered}
+use Rattle.fleets.specs.declared.Gathered.the-variants as G
 use Rattle.fleets.specs.Texts.{t-drives, t-last, t-open}
-use Rattle.fleets.specs.Fleet.{nobody, joined}
+use Rattle.totals.specs.Fleet.{nobody, joined}
 
 -- a byte in front of the first line
 abbrev pub before : ℕ → List (List ℕ) → List (List ℕ)

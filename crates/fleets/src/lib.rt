@@ -1,25 +1,44 @@
 // The fleet's line for any input: what the program prints, as a function on slices.
-// It touches `standings` to read each drive's line, `line` to put the fleet's, and `reports` for the counts.
-mod joining;
-
-pub use joining::Fleet;
-pub use joining::Gathered;
+// It touches `standings` to read each drive's line, `totals` to join the drives, and `line` to put the fleet's line.
+use standings::Found;
+use totals::Fleet;
 ghost use mathlib.Core.Path.{_≡_};
 ghost use Prim.Native.Nat.{_≤_};
 ghost use lib.ListN.{length, take};
 ghost use Rattle.line.specs.Lines.{Put};
-ghost use Rattle.fleets.specs.Fleet.{Summed};
-ghost use Rattle.fleets.specs.Lines.{closedLine, openLine, gatheredIn, fleetLine};
+ghost use Rattle.totals.specs.Fleet.{Summed};
+ghost use Rattle.fleets.specs.Lines.{withLine, closedLine, openLine, gatheredIn, fleetLine};
+
+// All lines taken, or the number of the first that isn't.
+pub enum Gathered {
+    Whole(Fleet),
+    Open(u32),
+}
+
+// The fleet with one line more: there is no 257th, and a line that isn't taken ends it.
+fn with_line(f: Fleet, line: &[u8]) -> Gathered
+    requires { ⌜ (f .drives ≤ 256) × Summed f ⌝ }
+    ensures { λ r. ⌜ r ≡ withLine f (now (line .entry)) ⌝ }
+{
+    if f.drives < 256 {
+        let found = standings::found_in(line);
+        return match found {
+            Found::Taken(t) => Gathered::Whole(totals::joined(f, t)),
+            Found::Bad => Gathered::Open(f.drives + 1),
+        };
+    }
+    Gathered::Open(f.drives + 1)
+}
 
 // Every line in turn, up to the first that isn't taken.
-fn gathered(input: &[u8]) -> Gathered
+fn gather(input: &[u8]) -> Gathered
     ensures { λ r. ⌜ r ≡ gatheredIn (now (input .entry)) ⌝ }
 {
-    let mut f = joining::nobody();
+    let mut f = totals::nobody();
     let mut at = 0;
     while at < input.len() {
         let end = standings::find(input, at, 10);
-        let g = joining::with_line(f, &input[at..end]);
+        let g = with_line(f, &input[at..end]);
         match g {
             Gathered::Open(k) => return Gathered::Open(k),
             Gathered::Whole(next) => f = next,
@@ -54,7 +73,7 @@ fn put_fleet(input: &[u8], out: &mut [u8]) -> usize
     requires { ⌜ 192 ≤ length (now out) ⌝ }
     ensures { λ r. ⌜ Put (now (out .entry)) 0 (fleetLine (now (input .entry))) r (now (out .exit)) ⌝ }
 {
-    let g = gathered(input);
+    let g = gather(input);
     match g {
         Gathered::Open(k) => put_open(out, k),
         Gathered::Whole(f) => {

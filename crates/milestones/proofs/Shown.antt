@@ -18,13 +18,13 @@ use Rattle.reports.specs.Counts.{shareOf}
 use Rattle.reports.proofs.ShareLaws.{share-le}
 use Rattle.standings.specs.declared.Standing.{Standing}
 use Rattle.standings.specs.Standing.{standingText, standingIn, taken}
-use Rattle.fleets.specs.declared.joining.Fleet.{Fleet}
-use Rattle.fleets.specs.Fleet.{fleetOf}
+use Rattle.totals.specs.declared.Fleet.{Fleet}
+use Rattle.totals.specs.Fleet.{fleetOf, driveAt}
 use Rattle.fleets.specs.Lines.{linesOf, closedLine, fleetLine}
-use Rattle.fleets.specs.Claims.{drivesIn, driveAt, AllTaken}
+use Rattle.fleets.specs.Claims.{drivesIn, AllTaken}
 use Rattle.fleets.proofs.GatherLaws.{line-possible}
 use Rattle.fleets.proofs.OpenLaws.{fleet-closed}
-use Rattle.fleets.proofs.FullLaws.{AllPossible, fleet-full}
+use Rattle.totals.proofs.FullLaws.{AllPossible, fleet-full}
 
 -- a share is read back: whole percents up to the point, hundredths behind it
 abbrev shareIn : List ℕ → ℕ

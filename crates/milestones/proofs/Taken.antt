@@ -33,7 +33,7 @@ use Rattle.standings.specs.declared.Standing.{Standing}
 use Rattle.standings.specs.Standing.{standingText, standingIn, taken}
 use Rattle.standings.proofs.StandingLaws.{Possible}
 use Rattle.standings.proofs.TakenLaws.{taken-possible, text-tells, text-taken}
-use Rattle.fleets.specs.Fleet.{fleetOf}
+use Rattle.totals.specs.Fleet.{fleetOf}
 use Rattle.fleets.specs.Lines.{linesOf, closedLine, fleetLine}
 use Rattle.fleets.specs.Claims.{AllTaken}
 use Rattle.fleets.proofs.GatherLaws.{lines-first}

@@ -1,8 +1,8 @@
-use Rattle.fleets.proofs.FleetLaws.{last-first, last-later}
+use Rattle.totals.proofs.FleetLaws.{last-first, last-later}
 use mathlib.Core.Path.{_∙_}
 use borrow.Author.Needs.{needs}
-use Rattle.fleets.proofs.joining.is_last.Statement.{statement}
-use Rattle.fleets.proofs.joining.is_last.Tie as tie
+use Rattle.totals.proofs.is_last.Statement.{statement}
+use Rattle.totals.proofs.is_last.Tie as tie
 
 returns : tie.Need-returns
 returns c = last-first (c .before .before .args .f) (c .before .before .args .t) (c .if1 .taken)

@@ -16,11 +16,10 @@ use Rattle.base.proofs.FoldLaws.{fold-append}
 use Rattle.standings.specs.declared.Standing.{Standing}
 use Rattle.standings.specs.Standing.{possible}
 use Rattle.standings.proofs.StandingLaws.{possible-is}
-use Rattle.fleets.specs.declared.joining.Fleet.{Fleet}
-use Rattle.fleets.specs.Fleet.{fractionOf, isBehind, nothing, nobody, isLast, joined, fleetOf}
-use Rattle.fleets.specs.Claims.{driveAt, Furthest}
-use Rattle.fleets.proofs.FleetLaws.{fraction-empty, fraction-flakes, last-first, last-later}
-use Rattle.fleets.proofs.FullLaws.{AllPossible}
+use Rattle.totals.specs.declared.Fleet.{Fleet}
+use Rattle.totals.specs.Fleet.{fractionOf, isBehind, nothing, nobody, isLast, joined, fleetOf, driveAt, Furthest}
+use Rattle.totals.proofs.FleetLaws.{fraction-empty, fraction-flakes, last-first, last-later}
+use Rattle.totals.proofs.FullLaws.{AllPossible}
 
 -- a possible drive's fraction is of something
 all-some : (t : Standing) → possible t ≡ true → 1 ≤ fractionOf t .all

@@ -1,8 +1,8 @@
 use Rattle.fleets.proofs.GatherLaws.{found-possible, with-yes, with-no, with-many}
 use mathlib.Core.Path.{sym, _∙_}
 use borrow.Author.Needs.{needs}
-use Rattle.fleets.proofs.joining.with_line.Statement.{statement}
-use Rattle.fleets.proofs.joining.with_line.Tie as tie
+use Rattle.fleets.proofs.with_line.Statement.{statement}
+use Rattle.fleets.proofs.with_line.Tie as tie
 
 found-in-requires : tie.Need-found-in-requires
 found-in-requires c κs = search needs

@@ -1,14 +1,16 @@
 -- Document 02, Item 11: the drives of a fleet, their totals, and the drive furthest behind.
-use Prim.Native.Nat.{_+_, _*_, _≤_}
-use mathlib.Core.Bool.{Bool}
-use mathlib.Core.List.{List}
+use Prim.Native.Nat.{ℕ, _+_, _*_, _≤_, _<_}
+use mathlib.Core.Path.{_≡_}
+use mathlib.Core.Bool.{Bool, true, false}
+use mathlib.Core.List.{List, [], _∷_}
 use lib.Dec.{eqb, ltb}
+use lib.ListN.{length, getD}
 use Rattle.base.specs.Pick.{pick, either}
 use Rattle.base.specs.Lists.{fold}
 use Rattle.reports.specs.Counts.{none, plus}
 use Rattle.standings.specs.declared.Standing.{Standing}
-use Rattle.fleets.specs.declared.joining.Fleet.{Fleet}
-use Rattle.fleets.specs.declared.joining.Fraction.{Fraction}
+use Rattle.totals.specs.declared.Fleet.{Fleet}
+use Rattle.totals.specs.declared.Fraction.{Fraction}
 
 -- "the smallest exact fraction, Item 1's before rounding and cap": present flakes in moved nuggets of all present flakes; with
 -- no flake present moved nuggets of all
@@ -53,3 +55,18 @@ pub record Summed (f : Fleet) : Type 0 where
   pub sum-moved : f .total .counts .moved ≤ f .total .n
   pub sum-flakes : f .total .counts .flakes ≤ f .drives * 1048576
   pub sum-done : f .total .counts .done ≤ f .total .counts .flakes
+
+-- drive k of a list, from 0 on
+abbrev pub driveAt : List Standing → ℕ → Standing
+driveAt ts k = getD ts k nothing
+
+-- a column's total
+unfoldable pub sumOf : (Standing → ℕ) → List Standing → ℕ
+sumOf g [] = 0
+sumOf g (t ∷ ts) = g t + sumOf g ts
+
+-- drive k is "the drive furthest behind": no fraction is smaller, and "the earliest line wins a tie": all before it are greater
+pub record Furthest (ts : List Standing) (k : ℕ) : Type 0 where
+  pub inside : k < length ts
+  pub least : (j : ℕ) → j < length ts → isBehind (driveAt ts j) (driveAt ts k) ≡ false
+  pub earliest : (j : ℕ) → j < k → isBehind (driveAt ts k) (driveAt ts j) ≡ true

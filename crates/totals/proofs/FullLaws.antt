@@ -12,19 +12,18 @@ use Rattle.reports.proofs.ShareLaws.{moved-full, full-moved}
 use Rattle.standings.specs.declared.Standing.{Standing}
 use Rattle.standings.specs.Standing.{possible}
 use Rattle.standings.proofs.StandingLaws.{possible-is}
-use Rattle.fleets.specs.declared.joining.Fleet.{Fleet}
-use Rattle.fleets.specs.Fleet.{nothing, nobody, joined, fleetOf}
-use Rattle.fleets.specs.Claims.{driveAt, totalOf}
+use Rattle.totals.specs.declared.Fleet.{Fleet}
+use Rattle.totals.specs.Fleet.{nothing, nobody, joined, fleetOf, driveAt, sumOf}
 
 -- each column of the totals is that column's sum
 pub record Totals (f : Fleet) (ts : List Standing) (t : Standing) : Type 0 where
-  pub total-n : t .n ≡ f .total .n + totalOf (λ x. x .n) ts
-  pub total-moved : t .counts .moved ≡ f .total .counts .moved + totalOf (λ x. x .counts .moved) ts
-  pub total-flakes : t .counts .flakes ≡ f .total .counts .flakes + totalOf (λ x. x .counts .flakes) ts
-  pub total-done : t .counts .done ≡ f .total .counts .done + totalOf (λ x. x .counts .done) ts
+  pub total-n : t .n ≡ f .total .n + sumOf (λ x. x .n) ts
+  pub total-moved : t .counts .moved ≡ f .total .counts .moved + sumOf (λ x. x .counts .moved) ts
+  pub total-flakes : t .counts .flakes ≡ f .total .counts .flakes + sumOf (λ x. x .counts .flakes) ts
+  pub total-done : t .counts .done ≡ f .total .counts .done + sumOf (λ x. x .counts .done) ts
 
 fold-totals : (ts : List Standing) (f : Fleet) → Totals f ts (fold joined f ts .total)
-unfolding fold joined totalOf
+unfolding fold joined sumOf
 fold-totals [] f = record { total-n = omega arith; total-moved = omega arith; total-flakes = omega arith; total-done = omega arith }
 fold-totals (t ∷ ts) f =
     let h = fold-totals ts (joined f t) in
@@ -70,15 +69,15 @@ stands-counted t h =
     }
 
 -- nothing is left in all exactly if nothing is left of each
-moved-sum : (ts : List Standing) → AllPossible ts → totalOf (λ x. x .counts .moved) ts ≤ totalOf (λ x. x .n) ts
-unfolding totalOf
+moved-sum : (ts : List Standing) → AllPossible ts → sumOf (λ x. x .counts .moved) ts ≤ sumOf (λ x. x .n) ts
+unfolding sumOf
 moved-sum [] all = omega arith
 moved-sum (t ∷ ts) all =
     let p = possible-is t (all 0 (omega arith)) in
     omega (arith, p .moved-few, moved-sum ts (λ k s. all (suc k) (omega arith)))
 
-each-moved : (ts : List Standing) → AllPossible ts → totalOf (λ x. x .counts .moved) ts ≡ totalOf (λ x. x .n) ts → (k : ℕ) → k < length ts → driveAt ts k .n - driveAt ts k .counts .moved ≡ 0
-unfolding totalOf
+each-moved : (ts : List Standing) → AllPossible ts → sumOf (λ x. x .counts .moved) ts ≡ sumOf (λ x. x .n) ts → (k : ℕ) → k < length ts → driveAt ts k .n - driveAt ts k .counts .moved ≡ 0
+unfolding sumOf
 each-moved [] all e k h = absurd (omega arith)
 each-moved (t ∷ ts) all e zero h =
     let p = possible-is t (all 0 (omega arith)) in
@@ -88,15 +87,15 @@ each-moved (t ∷ ts) all e (suc k) h =
     let rest : AllPossible ts = λ k s. all (suc k) (omega arith) in
     each-moved ts rest (omega (arith, e, p .moved-few, moved-sum ts rest)) k (omega arith)
 
-all-moved : (ts : List Standing) → AllPossible ts → ((k : ℕ) → k < length ts → driveAt ts k .n - driveAt ts k .counts .moved ≡ 0) → totalOf (λ x. x .counts .moved) ts ≡ totalOf (λ x. x .n) ts
-unfolding totalOf
+all-moved : (ts : List Standing) → AllPossible ts → ((k : ℕ) → k < length ts → driveAt ts k .n - driveAt ts k .counts .moved ≡ 0) → sumOf (λ x. x .counts .moved) ts ≡ sumOf (λ x. x .n) ts
+unfolding sumOf
 all-moved [] all e = refl
 all-moved (t ∷ ts) all e =
     let p = possible-is t (all 0 (omega arith)) in
     omega (arith, p .moved-few, e 0 (omega arith), all-moved ts (λ k s. all (suc k) (omega arith)) (λ k s. e (suc k) (omega arith)))
 
-some-sum : (ts : List Standing) → AllPossible ts → 1 ≤ length ts → 1 ≤ totalOf (λ x. x .n) ts
-unfolding totalOf
+some-sum : (ts : List Standing) → AllPossible ts → 1 ≤ length ts → 1 ≤ sumOf (λ x. x .n) ts
+unfolding sumOf
 some-sum [] all h = absurd (omega arith)
 some-sum (t ∷ ts) all h = let p = possible-is t (all 0 (omega arith)) in omega (arith, p .some)
 

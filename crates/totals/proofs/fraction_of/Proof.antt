@@ -1,6 +1,6 @@
-use Rattle.fleets.proofs.FleetLaws.{fraction-empty, fraction-flakes}
-use Rattle.fleets.proofs.joining.fraction_of.Statement.{statement}
-use Rattle.fleets.proofs.joining.fraction_of.Tie as tie
+use Rattle.totals.proofs.FleetLaws.{fraction-empty, fraction-flakes}
+use Rattle.totals.proofs.fraction_of.Statement.{statement}
+use Rattle.totals.proofs.fraction_of.Tie as tie
 
 returns : tie.Need-returns
 returns c = fraction-empty (c .before .before .before .args .t) (c .if1 .taken)

@@ -1,5 +1,5 @@
 use Rattle.fleets.proofs.GatherLaws.{line-cut, gather-starts, gather-nears, gather-turn, gather-stops, gather-ends, goes-keeps}
-use Rattle.fleets.specs.Fleet.{Summed}
+use Rattle.totals.specs.Fleet.{Summed}
 use Rattle.fleets.specs.Lines.{linesOf, gatherFrom, gatheredIn}
 use Rattle.standings.proofs.ReadingLaws.{found-le}
 use lib.ListN.{length, drop}
@@ -7,8 +7,8 @@ use native.Mathlib.Omega.{arith}
 use mathlib.Core.Path.{_≡_, sym, _∙_}
 use Prim.Native.Nat.{_-_, _≤_}
 use borrow.Author.Needs.{needs}
-use Rattle.fleets.proofs.gathered.Statement.{statement}
-use Rattle.fleets.proofs.gathered.Tie as tie
+use Rattle.fleets.proofs.gather.Statement.{statement}
+use Rattle.fleets.proofs.gather.Tie as tie
 
 abbrev Inv-loop : tie.InvT-loop
 Inv-loop input f₀ at₀ f at = (at ≤ length input) × (f .drives ≤ 256) × Summed f × (gatherFrom f (linesOf (drop at input)) ≡ gatheredIn input)
@@ -68,8 +68,8 @@ loop-again c =
 returns-2 : tie.Need-returns-2 Inv-loop μ-loop
 returns-2 c = gather-ends (c .before .loop .f) (c .before .before .before .before .args .input .now) (c .before .loop .at) (c .loop-test .left) (c .before .loop .inv .3)
 
-pub gathered-spec : {M : Type 1} → statement M
-gathered-spec =
+pub gather-spec : {M : Type 1} → statement M
+gather-spec =
     tie.close
     (tie.spec
     Inv-loop

@@ -1,7 +1,7 @@
-use Rattle.fleets.proofs.FleetLaws.{behind-is}
+use Rattle.totals.proofs.FleetLaws.{behind-is}
 use borrow.Author.Needs.{needs}
-use Rattle.fleets.proofs.joining.is_behind.Statement.{statement}
-use Rattle.fleets.proofs.joining.is_behind.Tie as tie
+use Rattle.totals.proofs.is_behind.Statement.{statement}
+use Rattle.totals.proofs.is_behind.Tie as tie
 
 fraction-of-requires : tie.Need-fraction-of-requires
 fraction-of-requires c κs = search needs

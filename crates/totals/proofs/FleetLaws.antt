@@ -10,9 +10,9 @@ use Rattle.base.proofs.PickLaws.{yes, no}
 use Rattle.standings.specs.declared.Standing.{Standing}
 use Rattle.standings.specs.Standing.{possible}
 use Rattle.standings.proofs.StandingLaws.{possible-is, flakes-few}
-use Rattle.fleets.specs.declared.joining.Fleet.{Fleet}
-use Rattle.fleets.specs.declared.joining.Fraction.{Fraction}
-use Rattle.fleets.specs.Fleet.{fractionOf, isBehind, together, nobody, isLast, joined, Summed}
+use Rattle.totals.specs.declared.Fleet.{Fleet}
+use Rattle.totals.specs.declared.Fraction.{Fraction}
+use Rattle.totals.specs.Fleet.{fractionOf, isBehind, together, nobody, isLast, joined, Summed}
 
 pub fraction-empty : (t : Standing) → t .counts .flakes ≡ 0 → _≡_ {A = Fraction} (record { done = t .counts .moved; all = t .n }) (fractionOf t)
 unfolding fractionOf

@@ -1,8 +1,8 @@
-use Rattle.fleets.proofs.FleetLaws.{sums-fit, joined-last, joined-other}
+use Rattle.totals.proofs.FleetLaws.{sums-fit, joined-last, joined-other}
 use mathlib.Core.Path.{sym, _∙_}
 use borrow.Author.Needs.{needs}
-use Rattle.fleets.proofs.joining.joined.Statement.{statement}
-use Rattle.fleets.proofs.joining.joined.Tie as tie
+use Rattle.totals.proofs.joined.Statement.{statement}
+use Rattle.totals.proofs.joined.Tie as tie
 
 add-k : tie.Need-add-k
 add-k c = search needs

@@ -1,13 +1,12 @@
-// The drives of a fleet, one after the other.
+// The drives of a fleet: their totals, and the drive furthest behind.
+// It touches `standings` for how a drive stands, and `reports` for its counts.
 use reports::Counts;
-use standings::Found;
 use standings::Standing;
 ghost use mathlib.Core.Path.{_≡_};
 ghost use mathlib.Core.Bool.{true};
 ghost use Prim.Native.Nat.{_+_, _*_, _^_, _<_, _≤_};
 ghost use Rattle.standings.specs.Standing.{possible};
-ghost use Rattle.fleets.specs.Fleet.{fractionOf, isBehind, together, nobody, isLast, joined, Summed};
-ghost use Rattle.fleets.specs.Lines.{withLine};
+ghost use Rattle.totals.specs.Fleet.{fractionOf, isBehind, together, nobody, isLast, joined, Summed};
 
 // How many drives, their totals, and the line number and standing of the drive furthest behind.
 pub struct Fleet {
@@ -15,12 +14,6 @@ pub struct Fleet {
     pub total: Standing,
     pub last: u32,
     pub least: Standing,
-}
-
-// All lines taken, or the number of the first that isn't.
-pub enum Gathered {
-    Whole(Fleet),
-    Open(u32),
 }
 
 // So much done of all.
@@ -78,7 +71,7 @@ fn together(a: Standing, b: Standing) -> Standing
     }
 }
 
-pub(crate) fn nobody() -> Fleet
+pub fn nobody() -> Fleet
     ensures { λ r. ⌜ r ≡ nobody ⌝ }
 {
     let none = Standing {
@@ -109,7 +102,7 @@ fn is_last(f: Fleet, t: Standing) -> bool
 }
 
 // The fleet with one drive more.
-fn joined(f: Fleet, t: Standing) -> Fleet
+pub fn joined(f: Fleet, t: Standing) -> Fleet
     requires { ⌜ (f .drives < 256) × Summed f × (possible t ≡ true) ⌝ }
     ensures { λ r. ⌜ r ≡ joined f t ⌝ }
 {
@@ -131,19 +124,4 @@ fn joined(f: Fleet, t: Standing) -> Fleet
         last: f.last,
         least: least,
     }
-}
-
-// The fleet with one line more: there is no 257th, and a line that isn't taken ends it.
-pub(crate) fn with_line(f: Fleet, line: &[u8]) -> Gathered
-    requires { ⌜ (f .drives ≤ 256) × Summed f ⌝ }
-    ensures { λ r. ⌜ r ≡ withLine f (now (line .entry)) ⌝ }
-{
-    if f.drives < 256 {
-        let found = standings::found_in(line);
-        return match found {
-            Found::Taken(t) => Gathered::Whole(joined(f, t)),
-            Found::Bad => Gathered::Open(f.drives + 1),
-        };
-    }
-    Gathered::Open(f.drives + 1)
 }

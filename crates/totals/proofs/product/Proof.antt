@@ -1,8 +1,8 @@
-use Rattle.fleets.proofs.FleetLaws.{product-fits}
+use Rattle.totals.proofs.FleetLaws.{product-fits}
 use native.Mathlib.Omega.{arith}
 use borrow.Author.Needs.{needs}
-use Rattle.fleets.proofs.joining.product.Statement.{statement}
-use Rattle.fleets.proofs.joining.product.Tie as tie
+use Rattle.totals.proofs.product.Statement.{statement}
+use Rattle.totals.proofs.product.Tie as tie
 
 mul-result : tie.Need-mul-result
 mul-result c = omega (arith, product-fits (c .args .a) (c .args .b) (c .fits .a .fits) (c .fits .b .fits))

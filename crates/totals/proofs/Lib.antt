@@ -1,0 +1,4 @@
+pub mod FleetLaws
+pub mod FullLaws
+pub mod LastLaws
+pub mod Outcomes
