@@ -84,6 +84,21 @@ def each_change(source):
         yield f"columns {columns}", text + b"\n"
 
 
+def edges(source):
+    """Each number at its bound and one past it, in a line spelt as the sheet would spell it."""
+    for case in range(60):
+        nuggets = source.choice((1, 2, 16383, 16384, source.randint(1, 16384)))
+        moved = source.choice((0, nuggets, source.randint(0, nuggets)))
+        most, rest = 64 * moved, 64 * (nuggets - moved)
+        done = source.choice((0, most, source.randint(0, most)))
+        for past in (0, 1):
+            yield f"nuggets, case {case}, {past} past", line_of(16384 + past, moved, done, done) + b"\n"
+            yield f"done, case {case}, {past} past", line_of(nuggets, moved, most + past + rest, most + past) + b"\n"
+            yield f"the rest, case {case}, {past} past", line_of(nuggets, moved, done + rest + past, done) + b"\n"
+            if done:
+                yield f"done of flakes, case {case}, {past} past", line_of(nuggets, moved, done - past, done) + b"\n"
+
+
 def many_lines(source):
     """Around 256 lines, and an input that goes on far behind them."""
     for count in (255, 256, 257, 258, 300):
@@ -106,7 +121,7 @@ def many_lines(source):
 def ties(source):
     """Equal fractions, and fractions that only rounding makes equal."""
     for case in range(200):
-        k = source.randint(1, 300)
+        k = source.randint(1, 213)
         alike = [line_of(10 * m, 10 * m, 3 * m * k, 3 * m * k) if source.randrange(9) == 0 else line_of(100 * m, 50 * m, 2 * m * k, m * k)
                  for m in (source.randint(1, 9) for _ in range(source.randint(1, 6)))]
         near = [line_of(16384, 8192, total, total // 2 - source.randrange(2)) for total in (source.randint(20000, 1000000) for _ in range(4))]
@@ -132,7 +147,7 @@ def through_c(tally):
     """Every input by ngt_fleet: the line, and the bytes behind it as they were."""
     proved = library("ngt")
     source = random.Random(f"{SEED} fleet")
-    for make in (each_change(source), many_lines(source), ties(source), mixed(source, 3000)):
+    for make in (each_change(source), edges(source), many_lines(source), ties(source), mixed(source, 3000)):
         for name, data in make:
             given = source.randbytes(ROOM)
             out = room(given)
@@ -144,7 +159,7 @@ def through_c(tally):
 def some(source):
     """For the built program: around 256 lines, and some of all the rest."""
     yield from many_lines(source)
-    for make in (each_change, ties, lambda source: mixed(source, 40)):
+    for make in (each_change, edges, ties, lambda source: mixed(source, 40)):
         every = list(make(source))
         yield from source.sample(every, min(len(every), 40))
     yield "no input", b""

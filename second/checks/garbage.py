@@ -83,8 +83,9 @@ def every_call(chance, drive, volume):
     yield "mount", BLANK, calls.mount(volume, drive.present, drive.old, counter), b""
     yield "read", drive, calls.read(drive, volume, offset, data), data
     yield "write", drive, calls.write(drive, volume, offset, data), b""
-    size = chance.choice((len(data), len(data), len(data) + 1)) // 2
-    requests = calls.request_bytes(((offset, size), (chance.choice((0, 64)), len(data) - size)))
+    size = len(data) // 2
+    rest = len(data) - size + chance.choice((0, 0, 1))
+    requests = calls.request_bytes(((offset, size), (chance.choice((0, 64)), rest)))
     yield "queue", drive, calls.queue(drive, volume, requests, data), b""
     secret = chance.choice((drive.present, data[:32].ljust(32, b"s")))
     yield "begin", drive, calls.begin(drive, volume, secret), b""

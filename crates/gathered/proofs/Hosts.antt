@@ -31,7 +31,7 @@ use Rattle.chained.specs.Host.{Host, Got, Typed, Starts, hostOf}
 use Rattle.chained.proofs.Host.{host-is, step-fits, made, started, begun-fits}
 use Rattle.history.specs.Step.{step}
 use Rattle.gathered.specs.Runs.{writesOf, doneOf, UserHolds}
-use Rattle.gathered.specs.Hosts.{Ask, call, queue, callsOf, allCalls, Asks, AskChain, TypedAsk, TypedAsks, HostQueues, QueueIsTold, CounterTells}
+use Rattle.gathered.specs.Hosts.{HostCall, call, queue, callsOf, allCalls, Asks, AskChain, TypedAsk, TypedAsks, HostQueues, QueueIsTold, CounterTells}
 use Rattle.gathered.proofs.Runs.{idle, queue-run}
 
 -- a write hands back the very drive, or one with a higher counter
@@ -114,12 +114,12 @@ run-fits [] w s t f = f
 run-fits (c ∷ calls) w s t f = run-fits calls (step w c) (step-sound w c s) (t .1) (step-fits w s c (t .0) f)
 
 module _ (w : World) (s : Sound w) (f : DriveFits (w .drive)) where
-  ask-fits : (a : Ask) → TypedAsk a → DriveFits (run w (callsOf w a) .drive)
+  ask-fits : (a : HostCall) → TypedAsk a → DriveFits (run w (callsOf w a) .drive)
   unfolding Typed
   ask-fits (call c) t = run-fits (c ∷ []) w s (t, tt) f
   ask-fits (queue requests bytes) t = run-fits (callsOf w (queue requests bytes)) w s (typed-writes (x w requests bytes .done) (requestsIn requests) bytes) f
 
-  ask-made : (a : Ask) (g : Got) (k : Host) → Asks w (hostOf w) a g k → k ≡ hostOf (run w (callsOf w a))
+  ask-made : (a : HostCall) (g : Got) (k : Host) → Asks w (hostOf w) a g k → k ≡ hostOf (run w (callsOf w a))
   unfolding run
   ask-made (call c) g k p = made w s f c g k p
   ask-made (queue requests bytes) g k p =
@@ -127,7 +127,7 @@ module _ (w : World) (s : Sound w) (f : DriveFits (w .drive)) where
       let r : QueuedBy (w .drive) (w .vol) requests bytes (driveImage (w .drive)) (g .number) (k .vol) (k .image) (g .filled) (g .answer) = rw (drive-back (w .drive) f) at p in
       host-is (r .drive ∙ image-left (w .drive) (x w requests bytes .drive) (h .1) ∙ ap driveImage (sym (h .0 .drive))) (r .volume ∙ sym (h .0 .vol))
 
-follows : (asks : List Ask) (w : World) (h k : Host) → Sound w → DriveFits (w .drive) → TypedAsks asks → h ≡ hostOf w → AskChain w h asks k
+follows : (asks : List HostCall) (w : World) (h k : Host) → Sound w → DriveFits (w .drive) → TypedAsks asks → h ≡ hostOf w → AskChain w h asks k
     → (k ≡ hostOf (run w (allCalls w asks))) × DriveFits (run w (allCalls w asks) .drive)
 unfolding AskChain TypedAsks allCalls run
 follows [] w h k s f t e p = (p ∙ e, f)
@@ -135,7 +135,7 @@ follows (a ∷ asks) w h k s f t e (g, m, p, rest) =
     rw (run-append w (callsOf w a) (allCalls (run w (callsOf w a)) asks))
     (follows asks (run w (callsOf w a)) m k (run-sound w (callsOf w a) s) (ask-fits w s f a (t .0)) (t .1) (ask-made w s f a g m (rw e at p)) rest)
 
-carries : (start : Start) (asks : List Ask) (first last : Host) → length (start .secret) ≡ 32 → TypedAsks asks → Starts start first → AskChain (begun start) first asks last
+carries : (start : Start) (asks : List HostCall) (first last : Host) → length (start .secret) ≡ 32 → TypedAsks asks → Starts start first → AskChain (begun start) first asks last
     → (last ≡ hostOf (history start (allCalls (begun start) asks))) × DriveFits (history start (allCalls (begun start) asks) .drive)
 carries start asks first last wide typed p chain =
     follows asks (begun start) first last (start-sound start) (begun-fits start wide) typed (started start first p) chain

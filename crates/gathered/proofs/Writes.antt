@@ -17,10 +17,10 @@ use Rattle.changes.specs.Write.{writeAnswer, writeDone, writeVolume, writePads}
 use Rattle.queues.specs.declared.Request.{Request}
 use Rattle.queues.specs.Queue.{lengthsOf, After, noneDone, oneMore, writesFrom, beforeWrites, queueAfter}
 use Rattle.queues.proofs.QueueLaws.{writes-on, writes-stop, queue-first, queue-goes-on}
-use Rattle.gathered.specs.Writes.{requestOf, bytesFor, Standing, standingBy, answerAt, standingIn, QueueWrites, Stops, QueueStops, QueueRefusedFirst}
+use Rattle.gathered.specs.Writes.{requestOf, bytesFor, QueueStanding, standingBy, answerAt, queueStanding, QueueWrites, Stops, QueueStops, QueueRefusedFirst}
 
 -- with these pads before its own
-abbrev behind : List Entry → Standing → Standing
+abbrev behind : List Entry → QueueStanding → QueueStanding
 behind pads w = record { drive = w .drive; vol = w .vol; pads = pads ++ w .pads }
 
 module _ (d : Drive) (v : List ℕ) (q : Request) (qs : List Request) (bytes : List ℕ) where
@@ -51,7 +51,7 @@ module _ (d : Drive) (v : List ℕ) (q : Request) (qs : List Request) (bytes : L
   left-shift (suc k) =
       let w = standingBy next after qs rest k in
       let o = requestOf qs k .offset in
-      let made : Standing → List ℕ → Standing = λ x l. record { drive = writeDone (x .drive) (x .vol) o l .drive; vol = writeVolume (x .drive) (x .vol) o l; pads = x .pads ++ writePads (x .drive) (x .vol) o l } in
+      let made : QueueStanding → List ℕ → QueueStanding = λ x l. record { drive = writeDone (x .drive) (x .vol) o l .drive; vol = writeVolume (x .drive) (x .vol) o l; pads = x .pads ++ writePads (x .drive) (x .vol) o l } in
       (λ i. made (left-shift k i) (bytes-shift k i))
       ∙ ap (λ (p : List Entry). record { drive = writeDone (w .drive) (w .vol) o (bytesFor qs rest k) .drive; vol = writeVolume (w .drive) (w .vol) o (bytesFor qs rest k); pads = p })
       (append-assoc pads (w .pads) (writePads (w .drive) (w .vol) o (bytesFor qs rest k)))
@@ -61,7 +61,7 @@ module _ (d : Drive) (v : List ℕ) (q : Request) (qs : List Request) (bytes : L
 
 -- what both statements say of the writes
 abbrev Is : Drive → List ℕ → List Request → List ℕ → After → Type 0
-Is d v qs bytes x = (standingIn x ≡ standingBy d v qs bytes (x .done)) × Stops d v qs bytes x
+Is d v qs bytes x = (queueStanding x ≡ standingBy d v qs bytes (x .done)) × Stops d v qs bytes x
 
 none : (d : Drive) (v bytes : List ℕ) → Is d v [] bytes (noneDone d v A.Accepted)
 unfolding standingBy
@@ -80,7 +80,7 @@ module _ (d : Drive) (v : List ℕ) (q : Request) (qs : List Request) (bytes : L
 
     onward : Is d v (q ∷ qs) bytes (oneMore (pads d v q qs bytes) y)
     onward = (
-      ap (λ (w : Standing). behind (pads d v q qs bytes) w) (ih .0) ∙ sym (left-shift d v q qs bytes (y .done)),
+      ap (λ (w : QueueStanding). behind (pads d v q qs bytes) w) (ih .0) ∙ sym (left-shift d v q qs bytes (y .done)),
       record {
         few = omega (arith, ih .1 .few);
         accepted = each;

@@ -24,12 +24,12 @@ abbrev pub bytesFor : List Request → List ℕ → ℕ → List ℕ
 bytesFor qs bytes k = part (lengthsOf (take k qs)) (requestOf qs k .length) bytes
 
 -- what the single writes of the first k requests leave, each made on what the one before it left
-pub record Standing : Type 0 where
+pub record QueueStanding : Type 0 where
   pub drive : Drive
   pub vol : List ℕ
   pub pads : List Entry
 
-unfoldable pub standingBy : Drive → List ℕ → List Request → List ℕ → ℕ → Standing
+unfoldable pub standingBy : Drive → List ℕ → List Request → List ℕ → ℕ → QueueStanding
 standingBy d v qs bytes zero = record { drive = d; vol = v; pads = [] }
 standingBy d v qs bytes (suc k) =
     let w = standingBy d v qs bytes k in
@@ -47,8 +47,8 @@ answerAt d v qs bytes k =
     let w = standingBy d v qs bytes k in
     writeAnswer (w .drive) (w .vol) (requestOf qs k .offset) (length (bytesFor qs bytes k))
 
-abbrev pub standingIn : After → Standing
-standingIn x = record { drive = x .drive; vol = x .vol; pads = x .pads }
+abbrev pub queueStanding : After → QueueStanding
+queueStanding x = record { drive = x .drive; vol = x .vol; pads = x .pads }
 
 -- Drive, volume and pads of a queue are those of as many single writes as it says were done: "a refusal leaves drive and volume
 -- as the writes before it left them".
@@ -56,7 +56,7 @@ abbrev pub QueueWrites : Type 0
 QueueWrites =
     (d : Drive) (v : List ℕ) (qs : List Request) (bytes : List ℕ) → beforeWrites d v qs bytes ≡ A.Accepted
     → let x = queueAfter d v qs bytes in
-    standingIn x ≡ standingBy d v qs bytes (x .done)
+    queueStanding x ≡ standingBy d v qs bytes (x .done)
 
 -- It does those that are accepted, up to the first that isn't, and answers that one's refusal.
 pub record Stops (d : Drive) (v : List ℕ) (qs : List Request) (bytes : List ℕ) (x : After) : Type 0 where
