@@ -12,10 +12,13 @@ use Rattle.base.proofs.PickLaws.{clash}
 use Rattle.base.proofs.TabLaws.{length-tab}
 use Rattle.layout.specs.Parts.{recordAt}
 use Rattle.layout.proofs.Limits.{limits}
+use Rattle.records.specs.declared.Record.{Record}
 use Rattle.records.specs.declared.Way.{Way}
+use Rattle.records.specs.declared.Way.the-variants.{Idle, Add, Rekey}
 use Rattle.records.specs.Journal.{bit}
 use Rattle.records.specs.Record.{Codes, recordOf}
-use Rattle.records.specs.Rule.{touchedBy, turned, atTop}
+use Rattle.records.specs.Rule.{touchedBy, enciphered, heldAfter, turned, atTop}
+use Rattle.records.proofs.BitLaws.{bit-empty}
 use Rattle.drive.specs.declared.Drive.{Drive}
 use Rattle.drive.specs.declared.State.{State}
 use Rattle.drive.specs.declared.State.the-variants.{Steady, Changing}
@@ -26,6 +29,7 @@ use Rattle.ledger.specs.Ledger.{Ledger}
 use Rattle.ledger.specs.Step.{WayFits, Step}
 use Rattle.ledger.proofs.StepLaws.{keeps}
 use Rattle.ledger.proofs.OnwardLaws.{onward-step}
+use Rattle.ledger.proofs.TurnLaws.{absent-after}
 use Rattle.history.specs.World.{World}
 use Rattle.history.specs.Step.{worldAfter}
 use Rattle.history.specs.Demands.{plainIn}
@@ -35,6 +39,13 @@ use Rattle.history.proofs.After.{Due, record-after, put-after, kept-aft
 use Rattle.history.proofs.Sound.{Sound, Keeps, counter-room}
 use Rattle.records.proofs.RuleLaws.{formed-spent, formed-held, formed-epoch}
 use Rattle.records.proofs.RecordLaws.{read-one}
+
+-- a flake absent afterwards isn't enciphered
+not-laid : (way : Way) (r : Record) (f : ℕ) → bit (heldAfter way r) f ≡ false → bit (enciphered way r) f ≡ false
+unfolding heldAfter enciphered
+not-laid Idle r f e = bit-empty f
+not-laid (Add t) r f e = absent-after (Add t) r f e .1
+not-laid (Rekey t) r f e = e
 
 kept-twice : (s : State) (a b : List ℕ) → keptOld s a ≡ b → keptOld s b ≡ b
 kept-twice Steady a b e = e
@@ -148,4 +159,5 @@ module _ (w : World) (x : Sound w) (way : ℕ → Way) (new : ℕ → ℕ → Li
             inv = keeps (kitOf d) way (ledgerOf w) after-work (x .inv) moves;
           };
           onward = onward-step (kitOf d) way (ledgerOf w) after-work moves;
+          rests = λ n f h l gone. kept-after d v way new due n f h l (not-laid (way n) (recordOf (shapeOf d) v n) f (rw (worked-turns n h) at gone));
         }

@@ -44,7 +44,7 @@ use Rattle.opening.proofs.FormatLaws.{format-lent}
 use Rattle.opening.proofs.FreshLaws.{fresh-by}
 use Rattle.records.specs.Record.{recordOf}
 
-begun-base : (x : Start) → baseOf (begun x .drive) ≡ (x .shape, x .salt)
+pub begun-base : (x : Start) → baseOf (begun x .drive) ≡ (x .shape, x .salt)
 unfolding begun formatDone freshDrive
 begun-base x =
     let (lent, top) = format-lent (x .shape) (x .outside) (x .given) (ap accepts (x .accepted)) in

@@ -73,8 +73,8 @@ module _ (d : Drive) (v : List ℕ) (x : Untouched d v) (salted : length (d .sal
   pub headed-record : (n : ℕ) → recordOf (shapeOf d) (settled e v) n ≡ recordOf (shapeOf d) v n
   headed-record n = settled-record (shapeOf d) e v long n
 
-  pub headed-stored : (n f : ℕ) → storedIn (shapeOf d) (settled e v) n f ≡ storedIn (shapeOf d) v n f
-  headed-stored n f = settled-same (shapeOf d) e v long n f .stored
+  pub headed-same : (n f : ℕ) → Same (shapeOf d) n f v (settled e v)
+  headed-same n f = settled-same (shapeOf d) e v long n f
 
   form : driveFits state epoch ≡ true → inForm e ≡ true
   unfolding inForm

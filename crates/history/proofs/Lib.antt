@@ -14,6 +14,7 @@ pub mod Written
 pub mod Counters
 pub mod Demands
 pub mod Pads
+pub mod Clears
 pub mod Moves
 pub mod Columns
 pub mod Told

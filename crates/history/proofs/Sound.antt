@@ -1,6 +1,6 @@
 -- What stays true through every history, what each call keeps, and the calls that leave the nuggets alone.
 use mathlib.Core.Path.{_≡_, refl, sym, ap}
-use mathlib.Core.Bool.{true}
+use mathlib.Core.Bool.{true, false}
 use mathlib.Core.List.{List, [], _++_, append-nil}
 use Prim.Native.Nat.{ℕ, _+_, _^_, _<_, _≤_}
 use native.Mathlib.Omega.{arith}
@@ -9,6 +9,7 @@ use Rattle.base.proofs.TabLaws.{tab-ext}
 use Rattle.layout.specs.declared.Shape.{Shape}
 use Rattle.layout.specs.Spots.{offsetAt}
 use Rattle.records.specs.declared.Record.{Record}
+use Rattle.records.specs.Journal.{bit}
 use Rattle.drive.specs.declared.Drive.{Drive}
 use Rattle.drive.specs.declared.State.{State}
 use Rattle.drive.specs.declared.State.the-variants.{Steady, Changing}
@@ -20,6 +21,7 @@ use Rattle.reports.specs.Counts.{isMoved}
 use Rattle.changes.specs.Change.{settled}
 use Rattle.changes.specs.Rekey.{begunDrive, finishedDrive}
 use Rattle.changes.proofs.AnswerLaws.{Begins, Finishes}
+use Rattle.changes.proofs.PutLaws.{Same}
 use Rattle.ledger.specs.Totals.{risen}
 use Rattle.ledger.specs.Ledger.{Ledger, secretAt}
 use Rattle.ledger.specs.Invariant.{Inv}
@@ -34,7 +36,7 @@ use Rattle.history.specs.Demands.{plainIn}
 use Rattle.history.proofs.Counts.{many-all}
 use Rattle.history.proofs.Quiet.{Untouched}
 use Rattle.history.proofs.View.{kitOf, viewOf, ledgerOf}
-use Rattle.history.proofs.Heads.{headed-record, headed-stored, headed-untouched, begin-fits, finish-fits}
+use Rattle.history.proofs.Heads.{headed-record, headed-same, headed-untouched, begin-fits, finish-fits}
 use Rattle.records.specs.Record.{recordOf}
 
 pub record Sound (w : World) : Type 0 where
@@ -51,6 +53,9 @@ pub record Sound (w : World) : Type 0 where
 pub record Keeps (w u : World) : Type 0 where
   pub sound : Sound u
   pub onward : Onward (kitOf (w .drive)) (ledgerOf w) (ledgerOf u)
+  -- a flake that is absent afterwards is as it was, and so is its tag
+  pub rests : (n f : ℕ) → n < w .drive .n → f < w .drive .p → bit (recordOf (shapeOf (w .drive)) (u .vol) n .held) f ≡ false
+      → Same (shapeOf (w .drive)) n f (w .vol) (u .vol)
 
 -- contents that agree at each offset agree in each flake
 pub plain-same : (s : Shape) (a b : ℕ → ℕ) → ((i : ℕ) → a i ≡ b i) → (n f : ℕ) → plainIn s a n f ≡ plainIn s b n f
@@ -101,6 +106,7 @@ module _ (w : World) (x : Sound w) where
                 (record { kept = same-kept; stillFormed = x .inv .formed; sameSecrets = λ n h. refl });
           };
           onward = onward-kept (kitOf (w .drive)) (ledgerOf w) _ same-kept;
+          rests = λ n f h l gone. record { stored = refl; tag = refl };
         }
 
   -- another head alone
@@ -125,7 +131,7 @@ module _ (w : World) (x : Sound w) where
     head-kept =
         record {
           sameRecords = λ n h. same-record n;
-          sameStored = λ n f a b. headed-stored d (w .vol) (x .untouched) (x .handed .salt-long) state epoch counter present old n f;
+          sameStored = λ n f a b. headed-same d (w .vol) (x .untouched) (x .handed .salt-long) state epoch counter present old n f .stored;
           samePlain = λ n f a b. refl;
           sameListing = append-nil (w .listing);
           sameRetired = retired-same z same-record;
@@ -162,6 +168,7 @@ module _ (w : World) (x : Sound w) where
           inv = calms (kitOf d) l m (x .inv) calm;
         };
         onward = onward-kept (kitOf d) l m (calm .kept);
+        rests = λ n f h k gone. headed-same d (w .vol) (x .untouched) (x .handed .salt-long) (Changing (d .epoch)) (d .epoch + 1) (d .counter + 1) secret (d .present) n f;
       }
 
   -- an accepted finish
@@ -189,4 +196,5 @@ module _ (w : World) (x : Sound w) where
           inv = calms (kitOf d) l m (x .inv) calm;
         };
         onward = onward-kept (kitOf d) l m (calm .kept);
+        rests = λ n f h k gone. headed-same d (w .vol) (x .untouched) (x .handed .salt-long) Steady (d .epoch) (d .counter + 1) (d .present) (zeros 32) n f;
       }

@@ -192,7 +192,7 @@ module _ (w : World) (x : Sound w) where
       go (inr e) = rw e (same-keeps w x (w .contents) (λ a. refl))
 
 unchanged : (w : World) → Sound w → Keeps w w
-unchanged w x = record { sound = x; onward = onward-same (kitOf (w .drive)) (ledgerOf w) }
+unchanged w x = record { sound = x; onward = onward-same (kitOf (w .drive)) (ledgerOf w); rests = λ n f h l gone. record { stored = refl; tag = refl } }
 
 pub step-keeps : (w : World) (c : Call) → Sound w → Keeps w (step w c)
 unfolding step

@@ -5,7 +5,7 @@
 -- that it is hashed under.
 use Prim.Native.Nat.{ℕ, _+_, _*_, _/_, _<_, _≤_}
 use mathlib.Core.Path.{_≡_}
-use mathlib.Core.Bool.{true}
+use mathlib.Core.Bool.{true, false}
 use mathlib.Core.List.{List, [], _++_}
 use mathlib.Core.Option.{some}
 use lib.ListN.{getElem?}
@@ -14,6 +14,7 @@ use Rattle.messages.specs.Messages.{nuggetMessage, tagMessage}
 use Rattle.messages.specs.OneMessage.{Message, forCheck, forSeal, forLeaf, forInner, bytesOf, Wide}
 use Rattle.layout.specs.declared.Shape.{Shape}
 use Rattle.layout.specs.Shape.{leaves}
+use Rattle.layout.specs.Parts.{tagAt}
 use Rattle.records.specs.Journal.{bit}
 use Rattle.records.specs.Listing.{Entry, entry}
 use Rattle.chacha20.specs.ChaCha20.{blockOf}
@@ -22,11 +23,13 @@ use Rattle.keys.specs.declared.Lock.{Lock}
 use Rattle.keys.specs.Keys.{tagKey}
 use Rattle.keys.specs.Pads.{Stretch, inputOf, padOf}
 use Rattle.nodes.specs.Nodes.{nodeIn, recordPart, tagsPart}
-use Rattle.drive.specs.Drive.{shapeOf, isChanging}
+use Rattle.drive.specs.Drive.{shapeOf, isChanging, zeros}
+use Rattle.opening.specs.Format.{freshRecord}
 use Rattle.records.specs.Record.{recordOf}
 use Rattle.nuggets.specs.Nugget.{secretFor, lockOf, storedIn}
 use Rattle.history.specs.World.{World, Call}
-use Rattle.history.specs.History.{Start, history}
+use Rattle.history.specs.Step.{step}
+use Rattle.history.specs.History.{Start, begun, history}
 
 -- an entry's lock, under the format's shape and salt (which stay, `ShapeKept`), and its pad: its flake's under that lock
 abbrev pub lockIn : Start → Entry → Lock
@@ -151,3 +154,22 @@ pub record Hashed (s : Shape) (w : World) (v : List ℕ) : Type 0 where
 -- So they stand at every point of a history.
 abbrev pub HashesStand : Type 0
 HashesStand = (start : Start) (calls : List Call) → let w = history start calls in Hashed (start .shape) w (w .vol)
+
+-- "Everything is zero but the head and tree; epochs are 1": after the format each record is a fresh one and each flake and tag
+-- is zeros, whatever the buffer held.
+abbrev pub FormatClears : Type 0
+FormatClears =
+    (start : Start) (n f : ℕ)
+    → let s = start .shape in
+    let v = begun start .vol in
+    n < s .n → f < s .p → (recordOf s v n ≡ freshRecord) × (storedIn s v n f ≡ zeros (s .f)) × (part (tagAt s n f) 16 v ≡ zeros 16)
+
+-- A call stores in no flake that it lists nothing for: one that is absent afterwards has the bytes and the tag that it had
+-- before. So nothing that was written ever stands bare in a place that isn't looked at.
+abbrev pub AbsentStays : Type 0
+AbsentStays =
+    (start : Start) (calls : List Call) (c : Call) (n f : ℕ)
+    → let s = start .shape in
+    let v = history start calls .vol in
+    let u = step (history start calls) c .vol in
+    n < s .n → f < s .p → bit (recordOf s u n .held) f ≡ false → (storedIn s u n f ≡ storedIn s v n f) × (part (tagAt s n f) 16 u ≡ part (tagAt s n f) 16 v)
