@@ -31,9 +31,9 @@ uint32_t ngt_mount(const uint8_t *vol, size_t vol_len, const uint8_t present[32]
 uint32_t ngt_read(const uint8_t drive[144], const uint8_t *vol, size_t vol_len, uint64_t offset,
                   uint8_t *buf, size_t buf_len, uint8_t answer[16]);
 
-/* These, but for a queue, change volume and drive where they stand, if the call is accepted. A refusal stores no byte of either, and
- * neither does an accepted write of no bytes: both may then lie on pages that can't be written. A change stores the whole image anew, so
- * bytes of it that mean nothing are zeros then. */
+/* Write, begin, sweep and finish change volume and drive where they stand, if the call is accepted. A refusal stores no byte of
+ * either, and neither does an accepted write of no bytes: both may then lie on pages that can't be written. A change stores the
+ * whole image anew, so bytes of it that mean nothing are zeros then. */
 uint32_t ngt_write(uint8_t drive[144], uint8_t *vol, size_t vol_len, uint64_t offset, const uint8_t *bytes, size_t bytes_len,
                    uint8_t answer[16]);
 uint32_t ngt_begin(uint8_t drive[144], uint8_t *vol, size_t vol_len, const uint8_t secret[32], uint8_t answer[16]);

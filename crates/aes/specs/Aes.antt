@@ -21,7 +21,7 @@ at s r c = getD s (r + 4 * c) 0
 unfoldable pub subBytes : List ℕ → List ℕ
 subBytes s = tab 16 (λ i. sbox (getD s i 0))
 
--- 5.1.2: SHIFTROWS(), "s'[r, c] = s[r, (c + r) mod 4]"
+-- 5.1.2: SHIFTROWS(), row r moves r places to the left, round its end
 unfoldable pub shiftRows : List ℕ → List ℕ
 shiftRows s = tab 16 (λ i. at s (i % 4) ((i / 4 + i % 4) % 4))
 

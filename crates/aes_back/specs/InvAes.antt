@@ -10,7 +10,7 @@ use Rattle.field.specs.Field.{matrix}
 use Rattle.field.specs.Sbox.{invSbox}
 use Rattle.aes.specs.Aes.{at, byColumns, addRoundKey, keyExpansion}
 
--- 5.3.1: INVSHIFTROWS(), "s'[r, c] = s[r, (c - r) mod 4]"
+-- 5.3.1: INVSHIFTROWS(), row r moves r places to the right, round its end
 unfoldable pub invShiftRows : List ℕ → List ℕ
 invShiftRows s = tab 16 (λ i. at s (i % 4) ((i / 4 + 4 - i % 4) % 4))
 

@@ -22,7 +22,7 @@ iv =
     ∷ 0x5BE0CD19
     ∷ []
 
--- 2.7: "Message word schedule permutations for each round of both BLAKE2b and BLAKE2s are defined by SIGMA."
+-- 2.7: in which order each round takes the words of the message
 unfoldable pub sigma : List (List ℕ)
 sigma =
     (0 ∷ 1 ∷ 2 ∷ 3 ∷ 4 ∷ 5 ∷ 6 ∷ 7 ∷ 8 ∷ 9 ∷ 10 ∷ 11 ∷ 12 ∷ 13 ∷ 14 ∷ 15 ∷ [])
@@ -37,8 +37,7 @@ sigma =
     ∷ (10 ∷ 2 ∷ 8 ∷ 4 ∷ 7 ∷ 6 ∷ 1 ∷ 5 ∷ 15 ∷ 11 ∷ 9 ∷ 14 ∷ 3 ∷ 12 ∷ 13 ∷ 0 ∷ [])
     ∷ []
 
--- 3.1: "The G primitive function mixes two input words, "x" and "y", into four words indexed by "a", "b", "c", and "d"":
--- the four words themselves, with the rotations R1 .. R4 = 16, 12, 8, 7 of 2.1
+-- 3.1: G mixes two words of the message into four words: the four words themselves, with the rotations 16, 12, 8 and 7 of 2.1
 unfoldable pub mix : Quad → ℕ → ℕ → Quad
 mix q x y =
     let a₁ = add32 (add32 (q .a) (q .b)) x in
@@ -51,17 +50,17 @@ mix q x y =
     let b₂ = rotr 7 (bitXor b₁ c₂) in
     record { a = a₂; b = b₂; c = c₂; d = d₂ }
 
--- G( v[0..15], a, b, c, d, x, y )
+-- 3.1: G on the words of v at four places; the others stand
 unfoldable pub mixAt : List ℕ → ℕ → ℕ → ℕ → ℕ → ℕ → ℕ → List ℕ
 mixAt v a b c d x y =
     let q = mix (record { a = getD v a 0; b = getD v b 0; c = getD v c 0; d = getD v d 0 }) x y in
     set (set (set (set v a (q .a)) b (q .b)) c (q .c)) d (q .d)
 
--- m[s[i]]
+-- the word of the message that stands i-th in the order s
 abbrev pub at : List ℕ → List ℕ → ℕ → ℕ
 at m s i = getD m (getD s i 0) 0
 
--- 3.2: one round, with s[0..15] its row of SIGMA
+-- 3.2: one round, with s its row of SIGMA: G on the four columns, then on the four diagonals
 unfoldable pub round : List ℕ → List ℕ → List ℕ → List ℕ
 round m s v =
     let v₁ = mixAt v 0 4 8 12 (at m s 0) (at m s 1) in
@@ -73,27 +72,27 @@ round m s v =
     let v₇ = mixAt v₆ 2 7 8 13 (at m s 12) (at m s 13) in
     mixAt v₇ 3 4 9 14 (at m s 14) (at m s 15)
 
--- the first n rounds, "s[0..15] := SIGMA[i mod 10][0..15]" in round i
+-- 3.2: the first n rounds, round i with row i of SIGMA; BLAKE2s has ten rounds, so no row comes again
 unfoldable pub rounds : ℕ → List ℕ → List ℕ → List ℕ
 rounds zero m v = v
 rounds (suc i) m v = round m (getD sigma i []) (rounds i m v)
 
--- v[i] := v[i] ^ x
+-- v with x added to word i by xor
 abbrev pub xorAt : List ℕ → ℕ → ℕ → List ℕ
 xorAt v i x = set v i (bitXor (getD v i 0) x)
 
--- "v[0..7] := h[0..7]", "v[8..15] := IV[0..7]", "v[12] := v[12] ^ (t mod 2**w)", "v[13] := v[13] ^ (t >> w)", and for the
--- last block "v[14] := v[14] ^ 0xFF..FF". The high word of the count rolls over, so the count is taken modulo 2**64.
+-- 3.2: h, then the IV; the count of bytes goes into words 12 (low) and 13 (high), and for the last block word 14 is inverted. The
+-- high word of the count rolls over, so the count is taken modulo 2^64.
 unfoldable pub vector : List ℕ → ℕ → Bool → List ℕ
 vector h t f =
     let v = xorAt (xorAt (h ++ iv) 12 (t % 2 ^ 32)) 13 (t / 2 ^ 32 % 2 ^ 32) in
     pick f (xorAt v 14 0xFFFFFFFF) v
 
--- "h[i] := h[i] ^ v[i] ^ v[i + 8]"
+-- 3.2: word i of the new state, from both halves of v
 abbrev pub joinedAt : List ℕ → List ℕ → ℕ → ℕ
 joinedAt h v i = bitXor (bitXor (getD h i 0) (getD v i 0)) (getD v (i + 8) 0)
 
--- F( h[0..7], m[0..15], t, f )
+-- 3.2: F, the compression of one block m at count t, the last one if f
 unfoldable pub compress : List ℕ → List ℕ → ℕ → Bool → List ℕ
 compress h m t f = tab 8 (joinedAt h (rounds 10 m (vector h t f)))
 

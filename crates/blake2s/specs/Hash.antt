@@ -7,33 +7,34 @@ use Rattle.base.specs.Lists.{part}
 use Rattle.words.specs.Le.{serialised, wordsOf}
 use Rattle.blake2s.specs.Compress.{iv, xorAt, compress}
 
--- "padded with zero bytes" to the 64 bytes of a block
+-- zeros up to the 64 bytes of a block
 unfoldable pub padded : List ℕ → List ℕ
 padded l = l ++ replicate (64 - length l) 0
 
--- "If a secret key is used (kk > 0), it is padded with zero bytes and set as d[0]."
+-- a key that isn't empty is padded to a block, which stands before the data
 unfoldable pub keyBlock : List ℕ → List ℕ
 keyBlock [] = []
 keyBlock (k ∷ key) = padded (k ∷ key)
 
--- d[i], 16 words of the key block and the data; "The final data block d[dd-1] is also padded with zero"
+-- block i of the key block and the data, in 16 words; the last one is padded too
 unfoldable pub block : List ℕ → ℕ → List ℕ
 block d i = wordsOf 16 (padded (part (64 * i) 64 d))
 
--- "h[0..7] := IV[0..7]", "h[0] := h[0] ^ 0x01010000 ^ (kk << 8) ^ nn" with nn = 32
+-- the IV, with the parameter block's first word in its first: 0x01010000, the key's length a byte higher, the 32 bytes out
 unfoldable pub initial : ℕ → List ℕ
 initial kk = xorAt (xorAt (xorAt iv 0 0x01010000) 0 (kk * 256)) 0 32
 
--- "h := F( h, d[i], (i + 1) * bb, FALSE )" for the first n blocks
+-- the first n blocks, none of them the last, each with the count of the bytes up to its end
 unfoldable pub chained : ℕ → List ℕ → List ℕ → List ℕ
 chained zero d h = h
 chained (suc i) d h = compress (chained i d h) (block d i) (64 * suc i) false
 
--- dd - 1, with "dd = ceil(kk / bb) + ceil(ll / bb)", and 1 for "the special case of an unkeyed empty message"
+-- the number of the last block; an empty message without a key has one block too
 abbrev pub final : List ℕ → ℕ
 final d = (length d + 63) / 64 - 1
 
--- the "first "nn" bytes from little-endian word array h[]", which has 32, after the blocks d from h on: "h := F( h, d[dd - 1], ll, TRUE )", or ll + bb with the key block; either is d's length
+-- all blocks of d from h on, the last one marked and with the count of all bytes, the key block's among them; the eight words, each
+-- with its lowest byte first, are the 32 bytes out
 unfoldable pub hashed : List ℕ → List ℕ → List ℕ
 hashed h d = serialised (compress (chained (final d) d h) (block d (final d)) (length d) true)
 

@@ -101,7 +101,7 @@ pub fn absorb(s: State, m: &[u8]) -> State
     }
 }
 
-// "first nn bytes from little-endian word array h[]"
+// RFC 7693 3.3: the words of the state, each with its lowest byte first.
 fn bytes_of(h: [u32; 8]) -> [u8; 32]
     ensures { λ r. ⌜ r ≡ serialised h ⌝ }
 {

@@ -9,7 +9,7 @@ use Rattle.words.specs.Le.{wordsOf, serialised}
 use Rattle.words.specs.Xor.{xorl}
 use Rattle.chacha20.specs.declared.Quad.{Quad}
 
--- 2.1: "a += b; d ^= a; d <<<= 16; c += d; b ^= c; b <<<= 12; a += b; d ^= a; d <<<= 8; c += d; b ^= c; b <<<= 7;"
+-- 2.1: the quarter round, four times a sum, a xor and a rotation to the left, by 16, 12, 8 and 7 bits
 unfoldable pub quarter : ℕ → ℕ → ℕ → ℕ → Quad
 quarter a b c d =
     let a₁ = add32 a b in
@@ -34,7 +34,7 @@ fromDiagonals p0 p1 p2 p3 =
     p0 .a ∷ p1 .a ∷ p2 .a ∷ p3 .a ∷ p3 .b ∷ p0 .b ∷ p1 .b ∷ p2 .b
     ∷ p2 .c ∷ p3 .c ∷ p0 .c ∷ p1 .c ∷ p1 .d ∷ p2 .d ∷ p3 .d ∷ p0 .d ∷ []
 
--- 2.3.1: "inner_block (state)": four column rounds, then four diagonal rounds
+-- 2.3 and 2.3.1: quarter rounds on the four columns, then on the four diagonals
 unfoldable pub doubleRound : List ℕ → List ℕ
 doubleRound s =
     let s₁ = quarterAt 0 4 8 12 s in
@@ -50,7 +50,7 @@ unfoldable pub doubleRounds : ℕ → List ℕ → List ℕ
 doubleRounds zero s = s
 doubleRounds (suc n) s = doubleRound (doubleRounds n s)
 
--- 2.3: "ChaCha20 runs 20 rounds, alternating between "column rounds" and "diagonal rounds""
+-- 2.3: twenty rounds, columns and diagonals in turn
 abbrev pub twentyRounds : List ℕ → List ℕ
 twentyRounds s = doubleRounds 10 s
 
@@ -59,11 +59,11 @@ unfoldable pub start : List ℕ → List ℕ → ℕ → List ℕ
 start key nonce counter =
     (0x61707865 ∷ 0x3320646e ∷ 0x79622d32 ∷ 0x6b206574 ∷ []) ++ (wordsOf 8 key ++ (counter ∷ wordsOf 3 nonce))
 
--- 2.3: "we add the original input words to the output words"
+-- 2.3: after the rounds each word of the start state is added to the word at its place
 unfoldable pub added : List ℕ → List ℕ → List ℕ
 added w s = tab 16 (λ i. add32 (getD w i 0) (getD s i 0))
 
--- 2.3: twenty rounds over a start state, and the sum; "serialize the result by sequencing the words one-by-one in little-endian order"
+-- 2.3: twenty rounds over a start state, and the sum; its words in their order, each with its lowest byte first
 unfoldable pub blockFrom : List ℕ → List ℕ
 blockFrom s = serialised (added (twentyRounds s) s)
 
@@ -71,7 +71,7 @@ blockFrom s = serialised (added (twentyRounds s) s)
 unfoldable pub blockOf : List ℕ → List ℕ → ℕ → List ℕ
 blockOf key nonce counter = blockFrom (start key nonce counter)
 
--- 2.4.1: "key_stream = chacha20_block(key, counter+j, nonce)" for j below n; after block 2^32 - 1 comes block 0
+-- 2.4: block after block, the counter one higher for each; after block 2^32 - 1 comes block 0
 unfoldable pub keystream : List ℕ → List ℕ → ℕ → ℕ → List ℕ
 keystream key nonce counter zero = []
 keystream key nonce counter (suc n) = keystream key nonce counter n ++ blockOf key nonce (add32 counter n)
@@ -80,6 +80,6 @@ keystream key nonce counter (suc n) = keystream key nonce counter n ++ blockOf k
 abbrev pub blocks : ℕ → ℕ
 blocks n = (n + 63) / 64
 
--- 2.4.1: "encrypted_message += block ^ key_stream"; what the last block has past the end of the text is dropped
+-- 2.4: the text xor the keystream; what the last block has past the end of the text is dropped
 unfoldable pub encrypted : List ℕ → List ℕ → ℕ → List ℕ → List ℕ
 encrypted key nonce counter text = xorl text (keystream key nonce counter (blocks (length text)))

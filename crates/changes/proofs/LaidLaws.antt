@@ -103,16 +103,16 @@ module _ (s : Shape) (salt : List ℕ) (new : ℕ → ℕ → List ℕ) where
       ∙ flake-leaves s lock (e .flake) c v (long (e .nugget) (e .flake) (h .nugget) (h .flake)) at m (h .tag-apart) (h .flake-apart)
 
 -- an entry of the volume's
-pub record Stands (s : Shape) (e : Entry) : Type 0 where
+pub record EntryInside (s : Shape) (e : Entry) : Type 0 where
   pub nugget : e .nugget < s .n
   pub flake : e .flake < s .p
 
 -- it meets nothing below the tags, no node, and of the flakes and tags its own alone
-pub clear-below : (s : Shape) (at m : ℕ) → at + m ≤ tagsAt s → (e : Entry) → Stands s e → Clear s at m e
+pub clear-below : (s : Shape) (at m : ℕ) → at + m ≤ tagsAt s → (e : Entry) → EntryInside s e → Clear s at m e
 clear-below s at m h e x =
     record { nugget = x .nugget; flake = x .flake; tag-apart = inl (omega (arith, h)); flake-apart = inl (omega (arith, h, parts-inside s)) }
 
-pub clear-node : (s : Shape) (i : ℕ) → 1 ≤ i → i < 2 * leaves (s .n) → (e : Entry) → Stands s e → Clear s (nodeAt s i) 32 e
+pub clear-node : (s : Shape) (i : ℕ) → 1 ≤ i → i < 2 * leaves (s .n) → (e : Entry) → EntryInside s e → Clear s (nodeAt s i) 32 e
 clear-node s i a b e x =
     let t = node-inside s i a b in
     record {
@@ -122,7 +122,7 @@ clear-node s i a b e x =
       flake-apart = inl (omega (arith, t .1));
     }
 
-pub clear-flake : (s : Shape) (n f : ℕ) → n < s .n → f < s .p → (e : Entry) → Stands s e → Other n f (e .nugget) (e .flake) → Clear s (flakeAt s n f) (s .f) e
+pub clear-flake : (s : Shape) (n f : ℕ) → n < s .n → f < s .p → (e : Entry) → EntryInside s e → Other n f (e .nugget) (e .flake) → Clear s (flakeAt s n f) (s .f) e
 clear-flake s n f a b e x h =
     record {
       nugget = x .nugget;
@@ -131,7 +131,7 @@ clear-flake s n f a b e x h =
       flake-apart = flakes-apart s n f (e .nugget) (e .flake) b (x .flake) h;
     }
 
-pub clear-tag : (s : Shape) (n f : ℕ) → n < s .n → f < s .p → (e : Entry) → Stands s e → Other n f (e .nugget) (e .flake) → Clear s (tagAt s n f) 16 e
+pub clear-tag : (s : Shape) (n f : ℕ) → n < s .n → f < s .p → (e : Entry) → EntryInside s e → Other n f (e .nugget) (e .flake) → Clear s (tagAt s n f) 16 e
 clear-tag s n f a b e x h =
     record {
       nugget = x .nugget;

@@ -20,16 +20,16 @@ use Rattle.nuggets.specs.Nugget.{storedIn}
 use Rattle.changes.specs.Laid.{laid}
 use Rattle.changes.proofs.Each.{Each, each-map, Of, each-pads, chosen, Below, each-to}
 use Rattle.changes.proofs.CellLaws.{Other}
-use Rattle.changes.proofs.LaidLaws.{laid-leaves, Long, Clear, Stands, clear-below, clear-node, clear-flake, clear-tag}
+use Rattle.changes.proofs.LaidLaws.{laid-leaves, Long, Clear, EntryInside, clear-below, clear-node, clear-flake, clear-tag}
 
-pub to-stands : (s : Shape) (way : ℕ → Way) (records : ℕ → Record) (x : List ℕ) (m : ℕ) → m ≤ s .n → Each (Stands s) (padsTo (s .p) way records x m)
+pub to-stands : (s : Shape) (way : ℕ → Way) (records : ℕ → Record) (x : List ℕ) (m : ℕ) → m ≤ s .n → Each (EntryInside s) (padsTo (s .p) way records x m)
 to-stands s way records x m h =
-    each-map (Below (chosen way records) m (s .p)) (Stands s) (padsTo (s .p) way records x m)
+    each-map (Below (chosen way records) m (s .p)) (EntryInside s) (padsTo (s .p) way records x m)
     (λ e o. let low = o .under in record { nugget = omega (arith, low, h); flake = o .few }) (each-to (s .p) way records x m)
 
 -- an entry of the volume's that is another flake's
 abbrev pub Far : Shape → ℕ → ℕ → Entry → Type 0
-Far s n f e = Stands s e × Other n f (e .nugget) (e .flake)
+Far s n f e = EntryInside s e × Other n f (e .nugget) (e .flake)
 
 module _ (s : Shape) (n f : ℕ) (a : n < s .n) (b : f < s .p) where
   -- entries of the nugget's flakes before f
@@ -52,14 +52,14 @@ module _ (s : Shape) (n f : ℕ) (a : n < s .n) (b : f < s .p) where
 
 module _ (s : Shape) (salt : List ℕ) (new : ℕ → ℕ → List ℕ) (long : Long s new) where
   -- head, records and tree stay under any entries of the volume's
-  pub laid-below : (at m : ℕ) (es : List Entry) (v : List ℕ) → Each (Stands s) es → at + m ≤ tagsAt s → part at m (laid s salt new es v) ≡ part at m v
-  laid-below at m es v x h = laid-leaves s salt new long at m es v (each-map (Stands s) (Clear s at m) es (clear-below s at m h) x)
+  pub laid-below : (at m : ℕ) (es : List Entry) (v : List ℕ) → Each (EntryInside s) es → at + m ≤ tagsAt s → part at m (laid s salt new es v) ≡ part at m v
+  laid-below at m es v x h = laid-leaves s salt new long at m es v (each-map (EntryInside s) (Clear s at m) es (clear-below s at m h) x)
 
-  pub laid-record : (n : ℕ) (es : List Entry) (v : List ℕ) → Each (Stands s) es → n < s .n → recordOf s (laid s salt new es v) n ≡ recordOf s v n
+  pub laid-record : (n : ℕ) (es : List Entry) (v : List ℕ) → Each (EntryInside s) es → n < s .n → recordOf s (laid s salt new es v) n ≡ recordOf s v n
   laid-record n es v x h = record-told s (recordAt s n) (laid s salt new es v) v (laid-below (recordAt s n) (widthOf s) es v x (record-inside s n h))
 
-  pub laid-node : (i : ℕ) (es : List Entry) (v : List ℕ) → Each (Stands s) es → 1 ≤ i → i < 2 * leaves (s .n) → nodeIn s (laid s salt new es v) i ≡ nodeIn s v i
-  laid-node i es v x a b = laid-leaves s salt new long (nodeAt s i) 32 es v (each-map (Stands s) (Clear s (nodeAt s i) 32) es (clear-node s i a b) x)
+  pub laid-node : (i : ℕ) (es : List Entry) (v : List ℕ) → Each (EntryInside s) es → 1 ≤ i → i < 2 * leaves (s .n) → nodeIn s (laid s salt new es v) i ≡ nodeIn s v i
+  laid-node i es v x a b = laid-leaves s salt new long (nodeAt s i) 32 es v (each-map (EntryInside s) (Clear s (nodeAt s i) 32) es (clear-node s i a b) x)
 
   -- a flake and its tag stay under entries of others
   module _ (n f : ℕ) (a : n < s .n) (b : f < s .p) where

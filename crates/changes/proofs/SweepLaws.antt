@@ -27,7 +27,7 @@ use Rattle.changes.specs.Change.{padsFor, marked, markedTo, tended, tend
 use Rattle.changes.specs.Write.{newContents}
 use Rattle.changes.specs.Rekey.{sweepWays, sweepWork}
 use Rattle.changes.proofs.Each.{Each, each-map}
-use Rattle.changes.proofs.LaidLaws.{Stands}
+use Rattle.changes.proofs.LaidLaws.{EntryInside}
 use Rattle.changes.proofs.PadsLaws.{to-stands, laid-record}
 use Rattle.changes.proofs.SpanLaws.{still-to, pads-idle-to, marked-idle, tended-idle}
 use Rattle.records.specs.Record.{recordOf}
@@ -95,7 +95,7 @@ module _ (d : Drive) (v : List ℕ) (n : ℕ) (l : Shaped (shapeOf d) v) (h : n 
       let own : padsFor d v (sweepWays n) ≡ padsBy (d .p) sweepWay n (recordOf (shapeOf d) v n) (d .present) = sweep-pads n (d .n) h (d .p) (recordOf (shapeOf d) v) (d .present) in
       ap (λ (es : List Entry). laid s (d .salt) (newContents d v 0 []) es v) (sym own)
       ∙ laid-alike s (d .salt) (newContents d v 0 []) (contentsOf d v) (padsFor d v (sweepWays n)) v
-      (each-map (Stands s) (λ e. newContents d v 0 [] (e .nugget) (e .flake) ≡ contentsOf d v (e .nugget) (e .flake)) (padsFor d v (sweepWays n))
+      (each-map (EntryInside s) (λ e. newContents d v 0 [] (e .nugget) (e .flake) ≡ contentsOf d v (e .nugget) (e .flake)) (padsFor d v (sweepWays n))
       (λ e o. kept-contents d v l (e .nugget) (e .flake) (o .nugget) (o .flake)) (to-stands s (sweepWays n) (recordOf (shapeOf d) v) (d .present) (d .n) (omega arith)))
 
   module _ {x : List ℕ} (e : x ≡ laid (shapeOf d) (d .salt) (newContents d v 0 []) (padsBy (d .p) sweepWay n (recordOf (shapeOf d) v n) (d .present)) v) where

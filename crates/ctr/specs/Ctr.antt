@@ -14,7 +14,7 @@ be (suc k) x = x / 256 ^ k % 256 ∷ be k x
 unfoldable pub counterBlock : ℕ → ℕ → List ℕ
 counterBlock keycount number = be 8 keycount ++ be 8 number
 
--- B.1: the standard incrementing function on the last 64 bits, j times: "[X + 1 mod 2^m]"; the keycount stands
+-- B.1: the standard incrementing function on the last 64 bits, which adds 1 and rolls over, j times; the keycount stands
 abbrev pub stepped : ℕ → ℕ → ℕ
 stepped number j = (number + j) % 2 ^ 64
 
@@ -27,7 +27,7 @@ outputBlocks w keycount number (suc j) = outputBlocks w keycount number j ++ cip
 abbrev pub blocks : ℕ → ℕ
 blocks n = (n + 15) / 16
 
--- 6.5: "C_j = P_j xor O_j", and of the last output block as many bytes as the text has left; encryption and decryption are the same
+-- 6.5: the text xor the output blocks, of the last one as many bytes as the text has left; encryption and decryption are the same
 unfoldable pub laidUnder : List ℕ → ℕ → ℕ → List ℕ → List ℕ
 laidUnder w keycount number text = xorl text (outputBlocks w keycount number (blocks (length text)))
 

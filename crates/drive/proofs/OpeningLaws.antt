@@ -37,7 +37,7 @@ measure-lent d v e =
     record { limited = form-limits d (t .form); size = t .long }
 
 -- what the tests of an accepted opening tell
-pub record Opened (d : Drive) (v : List ℕ) : Type 0 where
+pub record Admitted (d : Drive) (v : List ℕ) : Type 0 where
   pub form : inForm d ≡ true
   pub long : length v ≡ lengthOf (shapeOf d)
   pub stands : headStands d v ≡ true
@@ -46,7 +46,7 @@ pub opening-measured : (d : Drive) (v : List ℕ) → accepts (openingOf d v) �
 unfolding openingOf
 opening-measured d v e = both-stages (measureOf d v) _ e .0
 
-pub opening-told : (d : Drive) (v : List ℕ) → openingOf d v ≡ A.Accepted → Opened d v
+pub opening-told : (d : Drive) (v : List ℕ) → openingOf d v ≡ A.Accepted → Admitted d v
 unfolding openingOf
 opening-told d v e =
     let t = measure-told d v (opening-measured d v (ap accepts e)) in

@@ -24,7 +24,7 @@ all-one : tab 255 (λ b. mul (suc b) (inverse (suc b))) ≡ tab 255 (λ b. 1)
 unfolding tab mul mulBits xtimes inverse
 all-one = refl
 
--- 4.4: "the multiplicative inverse": b • inverse b is 1 for every byte but 0
+-- FIPS 197, 4.4: b • inverse b is 1 for every byte but 0
 pub inverse-is : (b : ℕ) → b < 255 → mul (suc b) (inverse (suc b)) ≡ 1
 inverse-is = each 255 (λ b. mul (suc b) (inverse (suc b))) (λ b. 1) all-one
 

@@ -17,7 +17,7 @@ mulBits (suc n) a b = bitXor (a % 2 * b) (mulBits n (a / 2) (xtimes b))
 unfoldable pub mul : ℕ → ℕ → ℕ
 mul a b = mulBits 8 a b
 
--- 4.4: "b^(-1) = b^254", and 0 for 0; 254 = 2 + 4 + 8 + 16 + 32 + 64 + 128
+-- 4.4: the inverse of b is b to the 254th, which is 0 for 0; 254 = 2 + 4 + 8 + 16 + 32 + 64 + 128
 unfoldable pub inverse : ℕ → ℕ
 inverse b =
     let b₂ = mul b b in

@@ -13,7 +13,7 @@ use Rattle.limbs.specs.Bounds.{Below, Stands, Fives}
 abbrev pub laneOf : List ℕ → ℕ → Limbs
 laneOf h l = record { l0 = getD h l 0; l1 = getD h (4 + l) 0; l2 = getD h (8 + l) 0; l3 = getD h (12 + l) 0; l4 = getD h (16 + l) 0 }
 
--- a block with the 1 of RFC 8439 2.5.1 behind it: "Add one bit beyond the number of octets"
+-- a block's number with the 1 that RFC 8439 2.5.1 sets behind its bytes
 abbrev pub blockAt : List ℕ → ℕ → ℕ
 blockAt m at = num (part at 16 m) + 2 ^ 104 * 2 ^ 24
 

@@ -20,6 +20,6 @@ limbsOf x = record { l0 = digit 0 x; l1 = digit 1 x; l2 = digit 2 x; l3 = digit 
 unfoldable pub quad : ℕ → ℕ → ℕ → ℕ → ℕ
 quad a b c d = a + 2 ^ 32 * (b + 2 ^ 32 * (c + 2 ^ 32 * d))
 
--- RFC 8439 2.5.1: "p = (1<<130)-5"
+-- RFC 8439 2.5.1: the prime that turns are taken modulo
 unfoldable pub p : ℕ
 p = 2 ^ 130 - 5

@@ -33,7 +33,7 @@ use Rattle.drive.specs.Head.{mark, version, stateByte, checkFor, checkIn, front
 use Rattle.drive.specs.Opening.{stateFits, inForm, headStands, openingOf}
 use Rattle.opening.specs.Mount.{shapeIn, stateByteIn, stateIn, epochIn, markFits, headFits, lengthFits, sealed, checked, wholeIn, openedDrive, formOf, keysOf, restOf, mountAnswer, mountDone}
 use Rattle.opening.proofs.MountLaws.{mount-on}
-use Rattle.drive.proofs.OpeningLaws.{Opened, opening-told}
+use Rattle.drive.proofs.OpeningLaws.{Admitted, opening-told}
 
 -- lengths of the head's pieces
 length-check : (s : State) (old salt : List ℕ) (epoch : ℕ) → length (checkFor s old salt epoch) ≡ 32
@@ -74,7 +74,7 @@ pub record Handed (d : Drive) (old : List ℕ) : Type 0 where
   pub kept : keptOld (d .state) old ≡ d .old
 
 module _ (d : Drive) (w old : List ℕ) (x : Handed d old) (opens : openingOf d w ≡ A.Accepted) where
-  tests : Opened d w
+  tests : Admitted d w
   tests = opening-told d w opens
 
   in-limits : inLimits (shapeOf d) ≡ true

@@ -1,4 +1,4 @@
--- What start, absorb and finish make of a message is RFC 8439's poly1305_mac.
+-- What start, absorb and finish make of a message is the tag of RFC 8439 2.5.1.
 use mathlib.Core.Path.{_≡_, refl, ap, sym, _∙_}
 use mathlib.Core.Logic.{⊎-elim}
 use mathlib.Core.List.{List, [], _∷_, _++_}

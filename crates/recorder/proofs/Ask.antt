@@ -41,7 +41,7 @@ use Rattle.drive.proofs.Drive as T
 use Rattle.drive.proofs.Drive.Laws as T′
 use Rattle.lent.proofs.Steps.{told}
 use Rattle.recorder.proofs.Again.{Reshared, reshares, unshares}
-use Rattle.recorder.proofs.Turn.{sliceT, at-drive, at-bytes, at-call, Lent, Cell, at}
+use Rattle.recorder.proofs.Turn.{sliceT, at-drive, at-bytes, at-call, VolLent, VolCell, at}
 
 abbrev pub refS : Ty
 refS = tyRef erased imm (pointee (T.the-row .written))
@@ -56,12 +56,12 @@ sliceS = sliceTy byteS
 abbrev pub RoomS : {M : Type 1} (𝓤 : URA M) → ℕ → ℕ → ℕ → Item 𝓤
 RoomS 𝓤 la lb lc = ‵ (froom refS la zero) ⊛ ‵ (froom byteS lb zero) ⊛ ‵ (froom sliceS lc zero)
 
-abbrev pub Made : {M : Type 1} (𝓤 : URA M) → ℕ → ℕ → ℕ → ℕ → ℕ → ℕ → List ℕ → Item 𝓤
-Made 𝓤 la lb lc b b′ o′ l = ‵ (fat fullShare refS la zero (vptr b zero)) ⊛ ‵ (fat fullShare byteS lb zero (vptr b′ o′)) ⊛ ‵ (fat fullShare sliceS lc zero (sliceVal (b′, o′) (length l)))
+abbrev pub Pointing : {M : Type 1} (𝓤 : URA M) → ℕ → ℕ → ℕ → ℕ → ℕ → ℕ → List ℕ → Item 𝓤
+Pointing 𝓤 la lb lc b b′ o′ l = ‵ (fat fullShare refS la zero (vptr b zero)) ⊛ ‵ (fat fullShare byteS lb zero (vptr b′ o′)) ⊛ ‵ (fat fullShare sliceS lc zero (sliceVal (b′, o′) (length l)))
 
 module _ {M : Type 1} {𝓤 : URA M} {H : Heap 𝓤} {A : Atoms 𝓤} {K : Type 0} {W : Given 𝓤 H A} {Γ : List (Item 𝓤)} {C : Calls 𝓤 H} {Λ : Loops 𝓤 H} {E : Env 𝓤 H} {p : Post 𝓤 H} {rest : Code} {ia ib ic id iv la lb lc lv b b′ o′ n : ℕ} where
   pub pointed : K → (l : List ℕ) → Room u8 (length l) → spotOf 𝓤 H E ia ≡ (refS, la, zero) → spotOf 𝓤 H E ib ≡ (byteS, lb, zero) → spotOf 𝓤 H E ic ≡ (sliceS, lc, zero) → spotOf 𝓤 H E id ≡ (T′.mir, b, zero) → spotOf 𝓤 H E iv ≡ (sliceT (named n), lv, zero)
-      → Step K W (Made 𝓤 la lb lc b b′ o′ l ∷ Cell 𝓤 n lv b′ o′ l ∷ Γ) (runs C Λ E rest p) (RoomS 𝓤 la lb lc ∷ Cell 𝓤 n lv b′ o′ l ∷ Γ)
+      → Step K W (Pointing 𝓤 la lb lc b b′ o′ l ∷ VolCell 𝓤 n lv b′ o′ l ∷ Γ) (runs C Λ E rest p) (RoomS 𝓤 la lb lc ∷ VolCell 𝓤 n lv b′ o′ l ∷ Γ)
       (runs C Λ E (seq (assign (place ia []) (addrOf (place id []))) (seq (assign (place ib []) (addrOf (place iv (field 0 ∷ deref (tyInt w8) ∷ [])))) (seq (assign (place ic []) (aggregate (copy (place ib []) ∷ copy (place iv (field 1 ∷ [])) ∷ []))) rest))) p)
   pointed t l room ea eb ec ed ev = step (λ s.
       split3 t $ assigns t (addr t (at t ed (stop t))) (at t ea (stop t)) (init t 0 refl (tt, tt)) $
@@ -120,8 +120,8 @@ module _ (S : Looker) where
         E xs (flat (typesAt Ps (at-call j ν ν′ κr)) (vs ν ν′)))
         → spotOf 𝓤 H E ia ≡ (refS, la, zero) → spotOf 𝓤 H E ic ≡ (sliceS, lc, zero) → spotOf 𝓤 H E ir ≡ (ρ, lr, zero)
         → ((ν ν′ : ℕ) (r : R .Denot) (zs : Fins (at-call j ν ν′ κr) Ps ks (a ν ν′)) → Says (at-call j ν ν′ κr) h l (a ν ν′) r (outs (at-call j ν ν′ κr) Ps ks (a ν ν′) zs) → Is R answer (val answer ∷ [])
-        → Seq K W (raw (toks 𝓤 A j κr qr) ∷ ‵ (lastsOf (at-call j ν ν′ κr) Ps ks (a ν ν′) zs) ∷ ‵ (mem T.the-row .lies h b zero) ∷ Lent 𝓤 n κ γ b′ o′ l ∷ ‵ (flft κ q) ∷ RoomS 𝓤 la lb lc ∷ ‵ (fat fullShare ρ lr zero (val answer)) ∷ Γ) (runs C Λ E rest p))
-        → Seq K W (X ∷ ‵ (mem T.the-row .lies h b zero) ∷ Lent 𝓤 n κ γ b′ o′ l ∷ ‵ (flft κ q) ∷ Made 𝓤 la lb lc b b′ o′ l ∷ ‵ (froom ρ lr zero) ∷ Γ) (runs C Λ E (seq (call f (copy (place ia []) ∷ copy (place ic []) ∷ xs) (place ir [])) rest) p)
+        → Seq K W (raw (toks 𝓤 A j κr qr) ∷ ‵ (lastsOf (at-call j ν ν′ κr) Ps ks (a ν ν′) zs) ∷ ‵ (mem T.the-row .lies h b zero) ∷ VolLent 𝓤 n κ γ b′ o′ l ∷ ‵ (flft κ q) ∷ RoomS 𝓤 la lb lc ∷ ‵ (fat fullShare ρ lr zero (val answer)) ∷ Γ) (runs C Λ E rest p))
+        → Seq K W (X ∷ ‵ (mem T.the-row .lies h b zero) ∷ VolLent 𝓤 n κ γ b′ o′ l ∷ ‵ (flft κ q) ∷ Pointing 𝓤 la lb lc b b′ o′ l ∷ ‵ (froom ρ lr zero) ∷ Γ) (runs C Λ E (seq (call f (copy (place ia []) ∷ copy (place ic []) ∷ xs) (place ir [])) rest) p)
     asked t fm met b n κ q γ b′ o′ h l room κr qr X a vs into val tells typed answer means os ea ec er go =
         move t (4 ∷ []) $ split3 t $
         -- [0 the drive's address; 1 the volume's; 2 the slice; 3 X; 4 the drive; 5 the volume; 6 its token; 7 the result's room; …]
@@ -139,7 +139,7 @@ module _ (S : Looker) where
         land t (at t er (stop t)) (init t 7 refl (typed r w is .0)) $
         move t (1 ∷ []) $ use1 W (‵ (flft (ν ∷ []) fullShare) ⊛ ‵ (flft (ν′ ∷ []) fullShare) ⊛ raw (toks 𝓤 A j κr qr)) (id⊢ 𝓤 _) $ split t $ lft-end t tt $ move t (0 ∷ 3 ∷ []) $ lent-back t tt $
         -- [0 the drive; 1 the tokens; 2 what is said of the others; 3 what waits, of the volume; 4 to 6 what was made; 7 the result; …]
-        move t (1 ∷ []) $ split t $ lft-end t tt $ move t (0 ∷ 4 ∷ []) $ use2 W (later (Lent 𝓤 n κ γ b′ o′ l ⊛ ‵ (flft κ q))) (unshares u8 κ (ν′ ∷ []) q γ b′ o′ 𝓤 H A W (named n) (named 1) l room) $ await t tt $ split t $
+        move t (1 ∷ []) $ split t $ lft-end t tt $ move t (0 ∷ 4 ∷ []) $ use2 W (later (VolLent 𝓤 n κ γ b′ o′ l ⊛ ‵ (flft κ q))) (unshares u8 κ (ν′ ∷ []) q γ b′ o′ 𝓤 H A W (named n) (named 1) l room) $ await t tt $ split t $
         -- [0 the volume; 1 its token; 2 the others' tokens; 3 the drive; 4 what is said of the others; 5 to 7 what was made; 8 the result; …]
         rewrite t 8 (λ (u : Val). ‵ (fat fullShare ρ lr zero u)) (ap only (tells r (w ∷ []) is) ∙ ap val (means ν ν′ r (outs (at-call j ν ν′ κr) Ps ks (a ν ν′) (zs .1 .1)) s)) refl $ forget t 5 refl $ forget t 6 refl $ forget t 7 refl $ move t (5 ∷ 6 ∷ 7 ∷ []) $ group t 3 $ move t (3 ∷ 5 ∷ 4 ∷ 1 ∷ 2 ∷ 0 ∷ []) $
         go ν ν′ r (zs .1 .1) s (subst (λ (x : R .Denot). Is R x (val x ∷ [])) (means ν ν′ r (outs (at-call j ν ν′ κr) Ps ks (a ν ν′) (zs .1 .1)) s) (subst (Is R r) (tells r (w ∷ []) is) is))))))))))

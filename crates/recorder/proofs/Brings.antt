@@ -26,13 +26,13 @@ use Rattle.recorder.specs.declared.Setup.{Setup}
 use Rattle.recorder.proofs.Setup as S
 use Rattle.recorder.proofs.Setup.Laws as S′
 
-abbrev pub Formed : List RattleType
-Formed = G.the-row ∷ Array u8 16 ∷ Array u8 32 ∷ u64 ∷ []
+abbrev pub FormatArgs : List RattleType
+FormatArgs = G.the-row ∷ Array u8 16 ∷ Array u8 32 ∷ u64 ∷ []
 
-abbrev pub formed : Setup → List ℕ → List ℕ → Denots Formed
+abbrev pub formed : Setup → List ℕ → List ℕ → Denots FormatArgs
 formed s salt first = (s .shape, (salt, (first, (s .outside, tt))))
 
-abbrev pub formed-vals : Setup → List ℕ → List ℕ → Valss Formed
+abbrev pub formed-vals : Setup → List ℕ → List ℕ → Valss FormatArgs
 formed-vals s salt first = (LL.vals G.the-type G′.the-laws (s .shape), (array-vals (uint-vals w8) salt, (array-vals (uint-vals w8) first, (uint-vals w64 (s .outside), tt))))
 
 module _ {M : Type 1} (𝓤 : URA M) (H : Heap 𝓤) (A : Atoms 𝓤) (W : Given 𝓤 H A) where
@@ -45,11 +45,11 @@ module _ {M : Type 1} (𝓤 : URA M) (H : Heap 𝓤) (A : Atoms 𝓤) (W : Given
       qed W (‵ (flft κ q) ∷ ‵ (R .own x vs) ∷ []) ∵ nothing ! $ move ! (1 ∷ 0 ∷ []) $ join ! $ frame ! $
       nothing ! $ move ! (1 ∷ 0 ∷ []) $ fjoin ! $ owned ! u64 (Is u64) (uint-makes 𝓤 H A W w64) o _ fits $ fjoin ! $ done !
 
-  formed-make : Makess 𝓤 H A Formed (Ises Formed)
+  formed-make : Makess 𝓤 H A FormatArgs (Ises FormatArgs)
   formed-make = (LL.makes G.the-type G′.the-plain 𝓤 H A, (bytes-make 𝓤 H A W 16, (bytes-make 𝓤 H A W 32, (uint-makes 𝓤 H A W w64, tt))))
 
   pub to-format : (s : Setup) (salt first : List ℕ) → Is S.the-row s (LL.vals S.the-type S′.the-laws s) → Is (Array u8 16) salt (array-vals (uint-vals w8) salt) → Is (Array u8 32) first (array-vals (uint-vals w8) first)
-      → ent 𝓤 (emp 𝓤) (sep 𝓤 (emp 𝓤) (sem 𝓤 H A (owns Formed (formed s salt first) (formed-vals s salt first))))
+      → ent 𝓤 (emp 𝓤) (sep 𝓤 (emp 𝓤) (sem 𝓤 H A (owns FormatArgs (formed s salt first) (formed-vals s salt first))))
   to-format s salt first i j k =
       let g = LL.owed S.the-type S′.the-laws s _ i in
-      alone (owns Formed (formed s salt first) (formed-vals s salt first)) (owns-make 𝓤 H A Formed (Ises Formed) formed-make (formed s salt first) (formed-vals s salt first) (g .0, (j, (k, (g .1 .0, tt)))))
+      alone (owns FormatArgs (formed s salt first) (formed-vals s salt first)) (owns-make 𝓤 H A FormatArgs (Ises FormatArgs) formed-make (formed s salt first) (formed-vals s salt first) (g .0, (j, (k, (g .1 .0, tt)))))

@@ -104,7 +104,7 @@ module _ {M : Type 1} (𝓤 : URA M) (H : Heap 𝓤) (A : Atoms 𝓤) where
   Blank = tripleOf 𝓤 H A (blanks .signature) (closing 𝓤 H A blanks (λ κs a. record { ghost = Unit {0}; requires = λ _. emp 𝓤; ensures = λ _ r _. fact 𝓤 (r ≡ blankDrive) }))
 
   -- each of them meets its contract
-  pub record Known (C : Calls 𝓤 H) : Type 1 where
+  pub record CallsKnown (C : Calls 𝓤 H) : Type 1 where
     pub blank : Triple 𝓤 (C #blank) Blank
     pub format : Triple 𝓤 (C #format) (Callee formats 𝓤 H A)
     pub write : Triple 𝓤 (C #write) (Callee writes 𝓤 H A)

@@ -1,6 +1,6 @@
 -- The locals of a long function, as two items: room for all of them, and their ends.
 --     blocksAt f locals      the environment in which local i has the block `f i`
---     Rooms, Ends      room for each local of an environment, and the right to free each
+--     Rooms, Freeing      room for each local of an environment, and the right to free each
 --     allocated, freed-all       all locals are allocated at the entry, and freed at the return
 --     laid E Γ         the rooms one by one, the last local first, before Γ;  lay, gathered     from the item to these, and back
 --     restored         entries that `move` brought to the front go back to their places
@@ -30,22 +30,22 @@ module _ {M : Type 1} (𝓤 : URA M) (H : Heap 𝓤) where
   Rooms [] = ‵ ftrue
   Rooms (e ∷ E) = ‵ (froom (e .0) (e .1) zero) ⊛ Rooms E
 
-  abbrev pub Ends : Env 𝓤 H → Item 𝓤
-  Ends [] = ‵ ftrue
-  Ends (e ∷ E) = ‵ (fdies (e .0) (e .1)) ⊛ Ends E
+  abbrev pub Freeing : Env 𝓤 H → Item 𝓤
+  Freeing [] = ‵ ftrue
+  Freeing (e ∷ E) = ‵ (fdies (e .0) (e .1)) ⊛ Freeing E
 
   abbrev pub laid : Env 𝓤 H → List (Item 𝓤) → List (Item 𝓤)
   laid [] Γ = Γ
   laid (e ∷ E) Γ = laid E (‵ (froom (e .0) (e .1) zero) ∷ Γ)
 
 module _ {M : Type 1} {𝓤 : URA M} {H : Heap 𝓤} {A : Atoms 𝓤} {K : Type 0} {W : Given 𝓤 H A} where
-  pub allocated : K → (ls : List Local) (Kt : Env 𝓤 H → Goal 𝓤 H) (Γ : List (Item 𝓤)) → ((f : ℕ → ℕ) → Seq K W (Rooms 𝓤 H (blocksAt 𝓤 H f ls) ∷ Ends 𝓤 H (blocksAt 𝓤 H f ls) ∷ Γ) (Kt (blocksAt 𝓤 H f ls)))
+  pub allocated : K → (ls : List Local) (Kt : Env 𝓤 H → Goal 𝓤 H) (Γ : List (Item 𝓤)) → ((f : ℕ → ℕ) → Seq K W (Rooms 𝓤 H (blocksAt 𝓤 H f ls) ∷ Freeing 𝓤 H (blocksAt 𝓤 H f ls) ∷ Γ) (Kt (blocksAt 𝓤 H f ls)))
       → Seq K W Γ (allocs ls Kt)
   allocated t [] Kt Γ k = alloc0 t $ nothing t $ nothing t $ k (λ n. zero)
   allocated t (local τ h ∷ ls) Kt Γ k =
       alloc1 t (λ b. allocated t ls (λ E. Kt ((τ, b) ∷ E)) (‵ (froom τ b zero) ∷ ‵ (fdies τ b) ∷ Γ) (λ f. move t (2 ∷ 0 ∷ []) $ join t $ move t (2 ∷ 1 ∷ []) $ join t $ move t (1 ∷ 0 ∷ []) $ k (front b f)))
 
-  pub freed-all : K → (E : Env 𝓤 H) {G : Goal 𝓤 H} {Γ : List (Item 𝓤)} → Step K W Γ G (Rooms 𝓤 H E ∷ Ends 𝓤 H E ∷ Γ) (frees E G)
+  pub freed-all : K → (E : Env 𝓤 H) {G : Goal 𝓤 H} {Γ : List (Item 𝓤)} → Step K W Γ G (Rooms 𝓤 H E ∷ Freeing 𝓤 H E ∷ Γ) (frees E G)
   freed-all t [] = step (λ s. drop t $ drop t $ free0 t $ s)
   freed-all t (e ∷ E) = step (λ s. split t $ move t (2 ∷ []) $ split t $ move t (2 ∷ 0 ∷ []) $ free1 t $ move t (1 ∷ 0 ∷ []) $ freed-all t E $ s)
 

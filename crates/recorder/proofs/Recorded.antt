@@ -43,7 +43,7 @@ use Rattle.history.proofs.Told.{report-tells}
 use Rattle.history.proofs.Old.{old-secret-free}
 use Rattle.recorder.specs.declared.Setup.{Setup}
 use Rattle.recorder.specs.Session.{Holding, holding, afterFormat, afterWrite, afterFinish, sweptFrom, noted, unswept, allSwept, leftBy}
-use Rattle.recorder.proofs.SweepLaws.{holds, sweepsTo, run-swept, Keeps, run-keeps, sweeps-are, last-accepted, pick-le, unlike, tab-text}
+use Rattle.recorder.proofs.SweepLaws.{holds, sweepsTo, run-swept, Undisturbed, run-keeps, sweeps-are, last-accepted, pick-le, unlike, tab-text}
 use Rattle.recorder.specs.Recorded.{Able, Recorded, SessionRecords, MainRecords}
 
 -- an accepted format is of a shape in the limits
@@ -223,7 +223,7 @@ module _ (s : Setup) (salt first second v text buffer : List ℕ) (able : Able s
       let read-all = subst (λ (w : World). answerTo w (asks (read (s .offset) buffer)) ≡ A.Accepted → readBuffer (w .drive) (w .vol) (s .offset) buffer ≡ tab (length buffer) (λ i. w .contents (s .offset + i))) whole (reads-back start calls (s .offset) buffer) in
       read-all ok-read
       ∙ ap (λ (n : ℕ). tab n (λ i. w₆ .contents (s .offset + i))) (able .fitting)
-      ∙ tab-ext (length text) (λ i. w₆ .contents (s .offset + i)) (λ i. getD text i 0) (λ i h. ap (λ (k : Keeps). k .0 (s .offset + i)) (run-keeps w₄ (s .shape .n)) ∙ step-writes w₁ (s .offset) text i h ok₁)
+      ∙ tab-ext (length text) (λ i. w₆ .contents (s .offset + i)) (λ i. getD text i 0) (λ i h. ap (λ (k : Undisturbed). k .0 (s .offset + i)) (run-keeps w₄ (s .shape .n)) ∙ step-writes w₁ (s .offset) text i h ok₁)
       ∙ tab-text text
 
   none-left : reportOn w₆ .left ≡ 0
@@ -233,7 +233,7 @@ module _ (s : Setup) (salt first second v text buffer : List ℕ) (able : Able s
 
   secret-is : w₆ .secret ≡ second
   unfolding step worldAfter
-  secret-is = ap (λ (k : Keeps). k .1) (run-keeps w₄ (s .shape .n)) ∙ yes _ (ap accepts ok₂) refl
+  secret-is = ap (λ (k : Undisturbed). k .1) (run-keeps w₄ (s .shape .n)) ∙ yes _ (ap accepts ok₂) refl
 
   mounts : (any : List ℕ) → mountDone (w₆ .vol) second any (w₆ .drive .counter) ≡ record { answer = A.Accepted; drive = w₆ .drive }
   unfolding step worldAfter

@@ -44,10 +44,10 @@ run-swept w (suc k) =
     let e : 0 + k ≡ k = omega arith in
     ap holds (run-append w (sweepsTo k) (sweep k ∷ [])) ∙ ap (afterSweep k) (run-swept w k) ∙ ap (λ (m : ℕ). afterSweep m (sweptFrom 0 k (holds w))) (sym e) ∙ sym (swept-last k 0 (holds w))
 
-abbrev pub Keeps : Type 0
-Keeps = (ℕ → ℕ) × List ℕ
+abbrev pub Undisturbed : Type 0
+Undisturbed = (ℕ → ℕ) × List ℕ
 
-abbrev pub keeps : World → Keeps
+abbrev pub keeps : World → Undisturbed
 keeps w = (w .contents, w .secret)
 
 pub run-keeps : (w : World) (k : ℕ) → keeps (run w (sweepsTo k)) ≡ keeps w

@@ -106,11 +106,11 @@ abbrev pub Room3 : {M : Type 1} (𝓤 : URA M) → ℕ → ℕ → ℕ → Item 
 Room3 𝓤 la lb lc = ‵ (froom refT la zero) ⊛ ‵ (froom byteT lb zero) ⊛ ‵ (froom (sliceT erased) lc zero)
 
 -- the volume as its holder has it, and the local that has its slice
-abbrev pub Lent : {M : Type 1} (𝓤 : URA M) (n : ℕ) → Lft → GName → ℕ → ℕ → List ℕ → Item 𝓤
-Lent 𝓤 n κ γ b o l = ‵ (MutSlice (named n) κ u8 .own (at-bytes b o γ l) (sliceVal (b, o) (length l) ∷ []))
+abbrev pub VolLent : {M : Type 1} (𝓤 : URA M) (n : ℕ) → Lft → GName → ℕ → ℕ → List ℕ → Item 𝓤
+VolLent 𝓤 n κ γ b o l = ‵ (MutSlice (named n) κ u8 .own (at-bytes b o γ l) (sliceVal (b, o) (length l) ∷ []))
 
-abbrev pub Cell : {M : Type 1} (𝓤 : URA M) (n : ℕ) → ℕ → ℕ → ℕ → List ℕ → Item 𝓤
-Cell 𝓤 n lv b o l = ‵ (fat fullShare (sliceT (named n)) lv zero (sliceVal (b, o) (length l)))
+abbrev pub VolCell : {M : Type 1} (𝓤 : URA M) (n : ℕ) → ℕ → ℕ → ℕ → List ℕ → Item 𝓤
+VolCell 𝓤 n lv b o l = ‵ (fat fullShare (sliceT (named n)) lv zero (sliceVal (b, o) (length l)))
 
 module _ {M : Type 1} {𝓤 : URA M} {H : Heap 𝓤} {A : Atoms 𝓤} {K : Type 0} {W : Given 𝓤 H A} {Γ : List (Item 𝓤)} {E : Env 𝓤 H} where
   -- the place of local i, which lies at sp
@@ -166,14 +166,14 @@ module _ (S : Changer) where
         → (answer : R .Denot) (drive : Drive) (vol : List ℕ) → ((ν ν′ : ℕ) (r : R .Denot) (k : Drive) (z : List ℕ) → Says (at-call j ν ν′ κr) h l (a ν ν′) r k z → (r ≡ answer) × ((k ≡ drive) × (z ≡ vol)))
         → ((ν ν′ : ℕ) (δ δ′ : GName) → Opds K W
         (raw (Callee 𝓤 H A .pre ((at-call j ν ν′ κr, (fullShare, (fullShare, qr)), tt, (at-drive b o δ h, (at-bytes b′ o′ δ′ l, a ν ν′)), (vptr b o ∷ [], (sliceVal (b′, o′) (length l) ∷ [], vs ν ν′))), tt))
-        ∷ D .waits ν δ h ∷ ‵ (Relent u8 κ (ν′ ∷ []) q γ b′ o′ δ′ l) ∷ Cell 𝓤 n lv b′ o′ l ∷ ‵ (fat fullShare refT la zero (vptr b o)) ∷ ‵ (fat fullShare byteT lb zero (vptr b′ o′)) ∷ ‵ (fat fullShare (sliceT erased) lc zero (sliceVal (b′, o′) (length l))) ∷ ‵ (froom ρ lr zero) ∷ Γ)
+        ∷ D .waits ν δ h ∷ ‵ (Relent u8 κ (ν′ ∷ []) q γ b′ o′ δ′ l) ∷ VolCell 𝓤 n lv b′ o′ l ∷ ‵ (fat fullShare refT la zero (vptr b o)) ∷ ‵ (fat fullShare byteT lb zero (vptr b′ o′)) ∷ ‵ (fat fullShare (sliceT erased) lc zero (sliceVal (b′, o′) (length l))) ∷ ‵ (froom ρ lr zero) ∷ Γ)
         E xs (flat (typesAt Ps (at-call j ν ν′ κr)) (vs ν ν′)))
         → spotOf 𝓤 H E ia ≡ (refT, la, zero) → spotOf 𝓤 H E ib ≡ (byteT, lb, zero) → spotOf 𝓤 H E ic ≡ (sliceT erased, lc, zero) → spotOf 𝓤 H E ir ≡ (ρ, lr, zero) → spotOf 𝓤 H E iv ≡ (sliceT (named n), lv, zero)
         → {pd : Place} {τ : Ty}
-        → Finds K W (‵ (froom refT la zero) ∷ ‵ (froom byteT lb zero) ∷ ‵ (froom (sliceT erased) lc zero) ∷ X ∷ D .has h ∷ Lent 𝓤 n κ γ b′ o′ l ∷ ‵ (flft κ q) ∷ Cell 𝓤 n lv b′ o′ l ∷ ‵ (froom ρ lr zero) ∷ Γ) E pd (τ, b, o)
+        → Finds K W (‵ (froom refT la zero) ∷ ‵ (froom byteT lb zero) ∷ ‵ (froom (sliceT erased) lc zero) ∷ X ∷ D .has h ∷ VolLent 𝓤 n κ γ b′ o′ l ∷ ‵ (flft κ q) ∷ VolCell 𝓤 n lv b′ o′ l ∷ ‵ (froom ρ lr zero) ∷ Γ) E pd (τ, b, o)
         → (Is R answer (val answer ∷ []) → length vol ≡ length l
-        → Seq K W (raw (toks 𝓤 A j κr qr) ∷ D .has drive ∷ Lent 𝓤 n κ γ b′ o′ vol ∷ ‵ (flft κ q) ∷ Cell 𝓤 n lv b′ o′ vol ∷ Room3 𝓤 la lb lc ∷ ‵ (fat fullShare ρ lr zero (val answer)) ∷ Γ) (runs C Λ E rest p))
-        → Seq K W (X ∷ D .has h ∷ Lent 𝓤 n κ γ b′ o′ l ∷ ‵ (flft κ q) ∷ Cell 𝓤 n lv b′ o′ l ∷ Room3 𝓤 la lb lc ∷ ‵ (froom ρ lr zero) ∷ Γ)
+        → Seq K W (raw (toks 𝓤 A j κr qr) ∷ D .has drive ∷ VolLent 𝓤 n κ γ b′ o′ vol ∷ ‵ (flft κ q) ∷ VolCell 𝓤 n lv b′ o′ vol ∷ Room3 𝓤 la lb lc ∷ ‵ (fat fullShare ρ lr zero (val answer)) ∷ Γ) (runs C Λ E rest p))
+        → Seq K W (X ∷ D .has h ∷ VolLent 𝓤 n κ γ b′ o′ l ∷ ‵ (flft κ q) ∷ VolCell 𝓤 n lv b′ o′ l ∷ Room3 𝓤 la lb lc ∷ ‵ (froom ρ lr zero) ∷ Γ)
         (runs C Λ E (seq (assign (place ia []) (addrOf pd)) (seq (assign (place ib []) (addrOf (place iv (field 0 ∷ deref (tyInt w8) ∷ [])))) (seq (assign (place ic []) (aggregate (copy (place ib []) ∷ copy (place iv (field 1 ∷ [])) ∷ []))) (seq (call f (copy (place ia []) ∷ copy (place ic []) ∷ xs) (place ir [])) rest)))) p)
     turned t fm met {b} {o} D κ q γ b′ o′ h l room κr qr X a vs into val tells typed answer drive vol means os ea eb ec er ev finds go =
         move t (5 ∷ []) $ split3 t $ assigns t (addr t finds) (at t ea (stop t)) (init t 0 refl (tt, tt)) $ move t (7 ∷ 0 ∷ 1 ∷ 3 ∷ 2 ∷ 4 ∷ []) $ lent-on t (at-bytes b′ o′ γ l) room ev eb ec $
@@ -196,7 +196,7 @@ module _ (S : Changer) where
         move t (1 ∷ []) $ split t $ lft-end t tt $ move t (0 ∷ 5 ∷ 3 ∷ []) $
         use3 W (later (‵ (MutSlice (named n) κ u8 .own (at-bytes b′ o′ γ (zs .1 .0)) (sliceVal (b′, o′) (length l) ∷ [])) ⊛ ‵ (flft κ q))) (back u8 κ (ν′ ∷ []) q γ b′ o′ 𝓤 H A W (named n) (named 1) l δ′ (zs .1 .0) room same) $ await t tt $ split t $
         -- [0 the volume; 1 its token; 2 the others' tokens; 3 the drive; 4 what is said of the others; 5 vol; 6 to 8 what was made; 9 the result; …]
-        rewrite t 0 (λ (m : ℕ). ‵ (MutSlice (named n) κ u8 .own (at-bytes b′ o′ γ (zs .1 .0)) (sliceVal (b′, o′) m ∷ []))) (sym same) refl $ rewrite t 0 (Lent 𝓤 n κ γ b′ o′) (means ν ν′ r (zs .0) (zs .1 .0) s .1 .1) refl $ rewrite t 3 (D .has) (means ν ν′ r (zs .0) (zs .1 .0) s .1 .0) refl $
+        rewrite t 0 (λ (m : ℕ). ‵ (MutSlice (named n) κ u8 .own (at-bytes b′ o′ γ (zs .1 .0)) (sliceVal (b′, o′) m ∷ []))) (sym same) refl $ rewrite t 0 (VolLent 𝓤 n κ γ b′ o′) (means ν ν′ r (zs .0) (zs .1 .0) s .1 .1) refl $ rewrite t 3 (D .has) (means ν ν′ r (zs .0) (zs .1 .0) s .1 .0) refl $
         rewrite t 5 (λ (m : ℕ). ‵ (fat fullShare (sliceT (named n)) lv zero (sliceVal (b′, o′) m))) (sym same ∙ ap length (means ν ν′ r (zs .0) (zs .1 .0) s .1 .1)) refl $ rewrite t 9 (λ (u : Val). ‵ (fat fullShare ρ lr zero u)) (ap only (tells r (w ∷ []) is) ∙ ap val (means ν ν′ r (zs .0) (zs .1 .0) s .0)) refl $
         forget t 6 refl $ forget t 7 refl $ forget t 8 refl $ move t (4 ∷ []) $ drop t $ move t (5 ∷ 6 ∷ 7 ∷ []) $ group t 3 $ move t (3 ∷ 4 ∷ 1 ∷ 2 ∷ 5 ∷ 0 ∷ []) $
         go (subst (λ (x : R .Denot). Is R x (val x ∷ [])) (means ν ν′ r (zs .0) (zs .1 .0) s .0) (subst (Is R r) (tells r (w ∷ []) is) is)) (ap length (sym (means ν ν′ r (zs .0) (zs .1 .0) s .1 .1)) ∙ same))))))))))
@@ -205,10 +205,10 @@ module _ (S : Changer) where
         to δ δ′ ν ν′ = ((at-call j ν ν′ κr, (fullShare, (fullShare, qr)), tt, (at-drive b o δ h, (at-bytes b′ o′ δ′ l, a ν ν′)), (vptr b o ∷ [], (sliceVal (b′, o′) (length l) ∷ [], vs ν ν′))), tt)
 
         goes : (δ δ′ : GName) (ν ν′ : ℕ)
-            → ent 𝓤 (mean 𝓤 H A (‵ (flft (ν ∷ []) fullShare) ⊛ ‵ (flft (ν′ ∷ []) fullShare) ⊛ ‵ (MutRef (named 0) (ν ∷ []) T.the-row .own (at-drive b o δ h) (vptr b o ∷ [])) ⊛ Lent 𝓤 1 (ν′ ∷ []) δ′ b′ o′ l ⊛ (raw (toks 𝓤 A j κr qr) ⊛ ‵ (owns (typesAt Ps (at-call j ν ν′ κr)) (a ν ν′) (vs ν ν′)))))
+            → ent 𝓤 (mean 𝓤 H A (‵ (flft (ν ∷ []) fullShare) ⊛ ‵ (flft (ν′ ∷ []) fullShare) ⊛ ‵ (MutRef (named 0) (ν ∷ []) T.the-row .own (at-drive b o δ h) (vptr b o ∷ [])) ⊛ VolLent 𝓤 1 (ν′ ∷ []) δ′ b′ o′ l ⊛ (raw (toks 𝓤 A j κr qr) ⊛ ‵ (owns (typesAt Ps (at-call j ν ν′ κr)) (a ν ν′) (vs ν ν′)))))
             (Callee 𝓤 H A .pre (to δ δ′ ν ν′))
         goes δ δ′ ν ν′ =
-            qed W (‵ (flft (ν ∷ []) fullShare) ∷ ‵ (flft (ν′ ∷ []) fullShare) ∷ ‵ (MutRef (named 0) (ν ∷ []) T.the-row .own (at-drive b o δ h) (vptr b o ∷ [])) ∷ Lent 𝓤 1 (ν′ ∷ []) δ′ b′ o′ l ∷ (raw (toks 𝓤 A j κr qr) ⊛ ‵ (owns (typesAt Ps (at-call j ν ν′ κr)) (a ν ν′) (vs ν ν′))) ∷ []) ∵
+            qed W (‵ (flft (ν ∷ []) fullShare) ∷ ‵ (flft (ν′ ∷ []) fullShare) ∷ ‵ (MutRef (named 0) (ν ∷ []) T.the-row .own (at-drive b o δ h) (vptr b o ∷ [])) ∷ VolLent 𝓤 1 (ν′ ∷ []) δ′ b′ o′ l ∷ (raw (toks 𝓤 A j κr qr) ⊛ ‵ (owns (typesAt Ps (at-call j ν ν′ κr)) (a ν ν′) (vs ν ν′))) ∷ []) ∵
             move ! (4 ∷ []) $ split ! $ move ! (5 ∷ 1 ∷ []) $ fjoin ! $ move ! (4 ∷ 0 ∷ []) $ fjoin ! $
             -- [0 what is owned; 1 the others' tokens; 2 ν; 3 ν′]
             move ! (2 ∷ 3 ∷ 1 ∷ 0 ∷ []) $ group ! 3 $ join ! $ frame ! $ nothing ! $ done !

@@ -9,7 +9,7 @@ use Rattle.layout.specs.Shape.{shape}
 use Rattle.opening.specs.Format.{formatAnswer}
 use Rattle.opening.specs.Mount.{mountDone}
 use Rattle.recorder.specs.declared.Setup.{Setup}
-use Rattle.recorder.specs.Session.{toldOf, leftBy, readBack}
+use Rattle.recorder.specs.Session.{heardOf, leftBy, readBack}
 
 module _ (s : Setup) (salt first second v text buffer : List ℕ) where
   -- what is asked: an accepted format, another secret, a text inside the drive, a buffer as long as the text
@@ -23,17 +23,17 @@ module _ (s : Setup) (salt first second v text buffer : List ℕ) where
     pub room : s .outside + s .shape .n + 4 < 2 ^ 64
 
   pub record Recorded : Type 0 where
-    pub formatted : toldOf s salt first second v text (length buffer) .formatted ≡ A.Accepted
-    pub written : toldOf s salt first second v text (length buffer) .written ≡ A.Accepted
-    pub begun : toldOf s salt first second v text (length buffer) .begun ≡ A.Accepted
+    pub formatted : heardOf s salt first second v text (length buffer) .formatted ≡ A.Accepted
+    pub written : heardOf s salt first second v text (length buffer) .written ≡ A.Accepted
+    pub begun : heardOf s salt first second v text (length buffer) .begun ≡ A.Accepted
     -- before the sweeps all N nuggets are left
-    pub early : toldOf s salt first second v text (length buffer) .early ≡ A.Left (s .shape .n)
-    pub finished : toldOf s salt first second v text (length buffer) .finished ≡ A.Accepted
-    pub read : toldOf s salt first second v text (length buffer) .read ≡ A.Accepted
+    pub early : heardOf s salt first second v text (length buffer) .early ≡ A.Left (s .shape .n)
+    pub finished : heardOf s salt first second v text (length buffer) .finished ≡ A.Accepted
+    pub read : heardOf s salt first second v text (length buffer) .read ≡ A.Accepted
     -- "What is written is what is later read."
     pub same : readBack s salt first second v text buffer ≡ text
-    pub left : toldOf s salt first second v text (length buffer) .report .left ≡ 0
-    pub full : toldOf s salt first second v text (length buffer) .report .share ≡ 10000
+    pub left : heardOf s salt first second v text (length buffer) .report .left ≡ 0
+    pub full : heardOf s salt first second v text (length buffer) .report .share ≡ 10000
     -- the drive mounts with the second secret, whatever is brought for the first
     pub free : (any : List ℕ) → let h = leftBy s salt first second v text in
         mountDone (h .vol) second any (h .drive .counter) ≡ record { answer = A.Accepted; drive = h .drive }

@@ -9,7 +9,7 @@ use Rattle.reports.specs.Report.{reportOf}
 use Rattle.changes.specs.Write.{writeDone, writeVolume}
 use Rattle.changes.specs.Rekey.{beginDone, beginVolume, sweepDone, sweepVolume, finishDone, finishVolume}
 use Rattle.recorder.specs.declared.Setup.{Setup}
-use Rattle.recorder.specs.declared.Told.{Told}
+use Rattle.recorder.specs.declared.Heard.{Heard}
 
 -- what the host holds between two calls
 pub record Holding : Type 0 where
@@ -58,8 +58,8 @@ module _ (s : Setup) (salt first second v text : List ℕ) where
   leftBy = afterFinish allSwept
 
   -- what it was told, with a buffer of so many bytes to read back into
-  abbrev pub toldOf : ℕ → Told
-  toldOf many =
+  abbrev pub heardOf : ℕ → Heard
+  heardOf many =
       let a = afterFormat s salt first v in
       record {
         formatted = formatOf s salt first v .answer;

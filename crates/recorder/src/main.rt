@@ -8,7 +8,7 @@ use layout::Shape;
 use reports::Report;
 ghost use mathlib.Core.Path.{_≡_};
 ghost use lib.ListN.{length};
-ghost use Rattle.recorder.specs.Session.{holding, sweptFrom, toldOf, leftBy, readBack};
+ghost use Rattle.recorder.specs.Session.{holding, sweptFrom, heardOf, leftBy, readBack};
 
 // The shape of a drive, its outside counter, and where the text is written.
 pub struct Setup {
@@ -18,7 +18,7 @@ pub struct Setup {
 }
 
 // What the calls of a session answered, and the report at its end.
-pub struct Told {
+pub struct Heard {
     pub formatted: Answer,
     pub written: Answer,
     pub begun: Answer,
@@ -48,8 +48,8 @@ pub fn session(
     vol: &mut [u8],
     text: &[u8],
     back: &mut [u8],
-) -> Told
-    ensures { λ r. ⌜ (r ≡ toldOf s salt first second (now (vol .entry)) (now (text .entry)) (length (now (back .entry))))
+) -> Heard
+    ensures { λ r. ⌜ (r ≡ heardOf s salt first second (now (vol .entry)) (now (text .entry)) (length (now (back .entry))))
         × ((now (vol .exit) ≡ leftBy s salt first second (now (vol .entry)) (now (text .entry)) .vol)
         × (now (back .exit) ≡ readBack s salt first second (now (vol .entry)) (now (text .entry)) (now (back .entry)))) ⌝ }
 {
@@ -62,7 +62,7 @@ pub fn session(
     let finished = lent::finish_at(&mut d, vol);
     let read = lent::read_at(&d, vol, s.offset, back);
     let report = lent::report_at(&d, vol);
-    Told {
+    Heard {
         formatted: formatted,
         written: written,
         begun: begun,

@@ -38,28 +38,28 @@ pub fleet-totals : (ts : List Standing) → Totals nobody ts (fleetOf ts .total)
 fleet-totals ts = fold-totals ts nobody
 
 -- how counts of drives stand to each other, one drive or more
-pub record Stands (t : Standing) : Type 0 where
+pub record Ordered (t : Standing) : Type 0 where
   pub moved-le : t .counts .moved ≤ t .n
   pub done-le : t .counts .done ≤ t .counts .flakes
   pub done-few : t .counts .done ≤ 64 * t .counts .moved
   pub rest-few : t .counts .flakes - t .counts .done ≤ 64 * (t .n - t .counts .moved)
 
-stands-none : Stands nothing
+stands-none : Ordered nothing
 stands-none = record { moved-le = omega arith; done-le = omega arith; done-few = omega arith; rest-few = omega arith }
 
 -- every drive of a list is possible
 abbrev pub AllPossible : List Standing → Type 0
 AllPossible ts = (k : ℕ) → k < length ts → possible (driveAt ts k) ≡ true
 
-fold-stands : (ts : List Standing) (f : Fleet) → AllPossible ts → Stands (f .total) → Stands (fold joined f ts .total)
+fold-stands : (ts : List Standing) (f : Fleet) → AllPossible ts → Ordered (f .total) → Ordered (fold joined f ts .total)
 unfolding fold joined
 fold-stands [] f all h = h
 fold-stands (t ∷ ts) f all h =
     let p = possible-is t (all 0 (omega arith)) in
-    let next : Stands (joined f t .total) = record { moved-le = omega (arith, h .moved-le, p .moved-few); done-le = omega (arith, h .done-le, p .done-present); done-few = omega (arith, h .done-few, p .done-few); rest-few = omega (arith, h .moved-le, h .done-le, h .rest-few, p .moved-few, p .done-present, p .rest-few) } in
+    let next : Ordered (joined f t .total) = record { moved-le = omega (arith, h .moved-le, p .moved-few); done-le = omega (arith, h .done-le, p .done-present); done-few = omega (arith, h .done-few, p .done-few); rest-few = omega (arith, h .moved-le, h .done-le, h .rest-few, p .moved-few, p .done-present, p .rest-few) } in
     fold-stands ts (joined f t) (λ k s. all (suc k) (omega arith)) next
 
-stands-counted : (t : Standing) → Stands t → Counted 64 (t .n) (t .counts)
+stands-counted : (t : Standing) → Ordered t → Counted 64 (t .n) (t .counts)
 stands-counted t h =
     record {
       moved-few = h .moved-le;

@@ -107,7 +107,7 @@ pub fn edges() {
     tag(b"RFC 8439 A.3 #11", key_of(r, small(0)), &m10[0..48]);
 }
 
-// 2.6: "the first 256 bits of the serialized state" of block 0.
+// 2.6: the first 32 bytes of block 0.
 fn one_time_key(name: &[u8], key: [u8; 32], nonce: [u8; 12]) {
     let b = chacha20::block(key, nonce, 0);
     show::line(name, &b[0..32]);

@@ -9,7 +9,7 @@ ghost use Rattle.words.specs.Word.{rotl, rotr};
 ghost use Rattle.words.specs.Le.{num, le};
 ghost use Rattle.words.specs.Xor.{xorl};
 
-// RFC 8439 2.1: "<<< n" is an n-bit left rotation.
+// RFC 8439 2.1: the rotation to the left.
 pub fn rotate_left(x: u32, n: u32) -> u32
     requires { ⌜ (0 < n) × (n < 32) ⌝ }
     ensures { λ r. ⌜ r ≡ rotl n x ⌝ }
@@ -17,7 +17,7 @@ pub fn rotate_left(x: u32, n: u32) -> u32
     (x << n) | (x >> (32 - n))
 }
 
-// RFC 7693 2.3: "x >>> n" is a right rotation by n bits.
+// RFC 7693 2.3: the rotation to the right.
 pub fn rotate_right(x: u32, n: u32) -> u32
     requires { ⌜ (0 < n) × (n < 32) ⌝ }
     ensures { λ r. ⌜ r ≡ rotr n x ⌝ }

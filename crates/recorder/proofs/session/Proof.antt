@@ -1,4 +1,5 @@
 -- `session` meets its contract: its locals are allocated, its statements walked by `Stages`.
+mod Values
 mod Stages
 mod Cited
 use types.Kit.{group}
@@ -11,14 +12,15 @@ use Rattle.lent.proofs.Names.{Args, Vals, onEntry, AllGo, goes-none, goes-none-
 use Rattle.lent.proofs.Steps.{bytes-typed, proves}
 use Rattle.recorder.proofs.Setup as S
 use Rattle.recorder.proofs.Setup.Laws as S′
-use Rattle.recorder.proofs.Calls.{Known}
+use Rattle.recorder.proofs.Calls.{CallsKnown}
 use Rattle.recorder.proofs.Frame.{blocksAt, allocated, lay}
 use Rattle.recorder.proofs.session.Key.{name as #self}
 use Rattle.recorder.proofs.session as self
 use Rattle.recorder.proofs.session.Statement as stated
 use Rattle.recorder.proofs.session.Code as code
 use Rattle.recorder.proofs.session.Code.Mir as code-mir
-use Rattle.recorder.proofs.session.Proof.Stages.{stayed, Plain, vals, Post, to-start}
+use Rattle.recorder.proofs.session.Proof.Values.{stayed, Plain}
+use Rattle.recorder.proofs.session.Proof.Stages.{vals, Post, to-start}
 use Rattle.recorder.proofs.session.Proof.Cited.{all-known}
 
 module _ {M : Type 1} (𝓤 : URA M) (H : Heap 𝓤) (A : Atoms 𝓤) (W : Given 𝓤 H A) (at-mem : Memory → SProp 𝓤) (run : Routine → Fun 𝓤) (κs : Lfts 3) (qs : Shares 3) (bounds : AllOutlive 3 (self.signature .outlives) κs) (a : Args self.signature κs) where
@@ -26,7 +28,7 @@ module _ {M : Type 1} (𝓤 : URA M) (H : Heap 𝓤) (A : Atoms 𝓤) (W : Given
   vs = vals 𝓤 H A W at-mem run κs qs bounds a
 
   module _ (are : Are Plain (Ises Plain) (a .0, (a .1 .0, (a .1 .1 .0, (a .1 .1 .1 .0, tt)))) (vs .0, (vs .1 .0, (vs .1 .1 .0, (vs .1 .1 .1 .0, tt))))) (room : Room u8 (length (now (a .1 .1 .1 .1 .0)))) (room₁ : Room u8 (length (now (a .1 .1 .1 .1 .1 .0)))) (room₂ : Room u8 (length (now (a .1 .1 .1 .1 .1 .1 .0))))
-      (C : Calls 𝓤 H) (Λ : Loops 𝓤 H) (fm : FmC 𝓤 H (W .laws) C) (known : Known 𝓤 H A C) where
+      (C : Calls 𝓤 H) (Λ : Loops 𝓤 H) (fm : FmC 𝓤 H (W .laws) C) (known : CallsKnown 𝓤 H A C) where
     walk : ent 𝓤 (onEntry 𝓤 H A self.signature κs qs a vs) (WpFn 𝓤 H C Λ code.function (only (vs .0) ∷ only (vs .1 .0) ∷ only (vs .1 .1 .0) ∷ only (vs .1 .1 .1 .0) ∷ only (vs .1 .1 .1 .1 .0) ∷ only (vs .1 .1 .1 .1 .1 .0) ∷ only (vs .1 .1 .1 .1 .1 .1 .0) ∷ []) (Post 𝓤 H A W at-mem run κs qs bounds a))
     walk =
         qed W ((‵ (flft (κs .0) (qs .0)) ⊛ ‵ (flft (κs .1 .0) (qs .1 .0)) ⊛ ‵ (flft (κs .1 .1 .0) (qs .1 .1 .0)) ⊛ ‵ ftrue) ∷ ‵ (owns (S.the-row ∷ Array u8 16 ∷ Array u8 32 ∷ Array u8 32 ∷ MutSlice (named 0) (κs .0) u8 ∷ ShrSlice (named 1) (κs .1 .0) u8 ∷ MutSlice (named 2) (κs .1 .1 .0) u8 ∷ []) a vs) ∷ []) ∵
@@ -41,7 +43,7 @@ module _ {M : Type 1} (𝓤 : URA M) (H : Heap 𝓤) (A : Atoms 𝓤) (W : Given
         move ! (25 ∷ 13 ∷ 10 ∷ 28 ∷ 32 ∷ 31 ∷ 30 ∷ 29 ∷ 27 ∷ 26 ∷ 12 ∷ 9 ∷ 11 ∷ 8 ∷ 24 ∷ 23 ∷ 22 ∷ 21 ∷ 20 ∷ 19 ∷ 18 ∷ 7 ∷ 6 ∷ 5 ∷ 4 ∷ 3 ∷ 2 ∷ 1 ∷ 0 ∷ 15 ∷ 14 ∷ 16 ∷ 17 ∷ 33 ∷ 34 ∷ []) $ to-start 𝓤 H A W at-mem run κs qs bounds a are room room₁ room₂ C Λ fm known f)
 
 module _ {M : Type 1} (𝓤 : URA M) (H : Heap 𝓤) (A : Atoms 𝓤) (W : Given 𝓤 H A) (at-mem : Memory → SProp 𝓤) (run : Routine → Fun 𝓤) where
-  walks : (C : Calls 𝓤 H) (Λ : Loops 𝓤 H) → FmC 𝓤 H (W .laws) C → Known 𝓤 H A C → Walks 𝓤 H A self.ended stayed (WpFn 𝓤 H C Λ code.function) (self.clauses 𝓤 H A at-mem run)
+  walks : (C : Calls 𝓤 H) (Λ : Loops 𝓤 H) → FmC 𝓤 H (W .laws) C → CallsKnown 𝓤 H A C → Walks 𝓤 H A self.ended stayed (WpFn 𝓤 H C Λ code.function) (self.clauses 𝓤 H A at-mem run)
   walks C Λ fm known = walked 𝓤 H A self.ended stayed (self.clauses 𝓤 H A at-mem run) (WpFn 𝓤 H C Λ code.function)
       (λ κs. (LL.vals S.the-type S′.the-laws, (array-vals (uint-vals w8), (array-vals (uint-vals w8), (array-vals (uint-vals w8), (slice-vals, (slice-vals, (slice-vals, tt))))))))
       (λ κs. (LL.tells S.the-type S′.the-laws, (array-tells u8 (uint-vals w8) (uint-tells w8) 16, (array-tells u8 (uint-vals w8) (uint-tells w8) 32, (array-tells u8 (uint-vals w8) (uint-tells w8) 32, (mut-slice-tells (named 0) (κs .0) u8, (shr-slice-tells (named 1) (κs .1 .0) u8, (mut-slice-tells (named 2) (κs .1 .1 .0) u8, tt))))))))

@@ -40,7 +40,7 @@ use Rattle.lent.proofs.sweep_at.Symbol.{name as #core}
 use Rattle.lent.proofs.sweep_at.Met as core-thm
 use Rattle.changes.specs.Rekey.{sweepDone, sweepVolume}
 use Rattle.recorder.specs.Session.{Holding, holding, afterSweep, sweptFrom}
-use Rattle.recorder.proofs.Turn.{refT, byteT, sliceT, at-drive, at-bytes, Room3, Lent, Cell, Holder, in-ref, Changer, turned}
+use Rattle.recorder.proofs.Turn.{refT, byteT, sliceT, at-drive, at-bytes, Room3, VolLent, VolCell, Holder, in-ref, Changer, turned}
 use Rattle.recorder.proofs.sweep_all.Key.{name as #self}
 use Rattle.recorder.proofs.sweep_all as self
 use Rattle.recorder.proofs.sweep_all.Statement as stated
@@ -94,9 +94,9 @@ module _ {M : Type 1} (𝓤 : URA M) (H : Heap 𝓤) (A : Atoms 𝓤) (W : Given
   abbrev Goal : Holding
   Goal = sweptFrom 0 n (holding h₀ v₀)
 
-  exits : (h : Drive) (l : List ℕ) → length l ≡ length v₀ → holding h l ≡ Goal → ent 𝓤 (⋆ 𝓤 H A (D .has h ∷ Lent 𝓤 1 κ′ γ′ b′ o′ l ∷ ‵ (flft κ′ q′) ∷ [])) (Post vunit)
+  exits : (h : Drive) (l : List ℕ) → length l ≡ length v₀ → holding h l ≡ Goal → ent 𝓤 (⋆ 𝓤 H A (D .has h ∷ VolLent 𝓤 1 κ′ γ′ b′ o′ l ∷ ‵ (flft κ′ q′) ∷ [])) (Post vunit)
   exits h l same e =
-      qed W (D .has h ∷ Lent 𝓤 1 κ′ γ′ b′ o′ l ∷ ‵ (flft κ′ q′) ∷ []) ∵
+      qed W (D .has h ∷ VolLent 𝓤 1 κ′ γ′ b′ o′ l ∷ ‵ (flft κ′ q′) ∷ []) ∵
       suffices ! _ (ends-at 𝓤 H A self.ended stayed (self.clauses 𝓤 H A mem run) W (((κ, (κ′, tt)), (q, (q′, tt)), bounds, a, vals), tt) vunit tt (h, (l, (tt, tt))) (tt, (same, (tt, tt)))) $ says ! e $
       split ! $ nothing ! $ move ! (4 ∷ 0 ∷ []) $ join ! $ move ! (2 ∷ 0 ∷ []) $ join ! $ frame ! $
       rewrite ! 1 (λ (k : ℕ). ‵ (MutSlice (named 1) κ′ u8 .own (at-bytes b′ o′ γ′ l) (sliceVal (b′, o′) k ∷ []))) same refl $
@@ -132,7 +132,7 @@ module _ {M : Type 1} (𝓤 : URA M) (H : Heap 𝓤) (A : Atoms 𝓤) (W : Given
     -- [0 the drive; 1 the volume; 2 its token; 3 vol; 4 _7, _8 and _9; 5 _6; 6 to 9 their ends; 10 _5; …; 12 k; …; 14 n; …; 16 vol's end; 17 d; …; 19 _0; …]
     abbrev At : Upto → List (Item 𝓤)
     At t =
-        D .has (t .1) ∷ Lent 𝓤 1 κ′ γ′ b′ o′ (t .2) ∷ ‵ (flft κ′ q′) ∷ Cell 𝓤 1 l₂ b′ o′ (t .2) ∷ Room3 𝓤 l₇ l₈ l₉ ∷ ‵ (froom N′.mir l₆ zero)
+        D .has (t .1) ∷ VolLent 𝓤 1 κ′ γ′ b′ o′ (t .2) ∷ ‵ (flft κ′ q′) ∷ VolCell 𝓤 1 l₂ b′ o′ (t .2) ∷ Room3 𝓤 l₇ l₈ l₉ ∷ ‵ (froom N′.mir l₆ zero)
         ∷ ‵ (fdies N′.mir l₆) ∷ ‵ (fdies refT l₇) ∷ ‵ (fdies byteT l₈) ∷ ‵ (fdies (sliceT erased) l₉) ∷ ‵ (froom tyBool l₅ zero) ∷ ‵ (fdies tyBool l₅) ∷ ‵ (fat fullShare word l₄ zero (vint w32 (t .0))) ∷ ‵ (fdies word l₄)
         ∷ ‵ (fat fullShare word l₃ zero (vint w32 n)) ∷ ‵ (fdies word l₃) ∷ ‵ (fdies (sliceT (named 1)) l₂) ∷ ‵ (fat fullShare refP l₁ zero (vptr b o)) ∷ ‵ (fdies refP l₁) ∷ ‵ (froom tyUnit l₀ zero) ∷ ‵ (fdies tyUnit l₀) ∷ []
 

@@ -22,10 +22,10 @@ use Rattle.recorder.proofs.sweep_all.Symbol as sweep-def
 use Rattle.recorder.proofs.sweep_all.Met as sweep-thm
 use Rattle.recorder.proofs.Turn.{Callee}
 use Rattle.recorder.proofs.Ask.{Asker}
-use Rattle.recorder.proofs.Calls.{formats, writes, begins, finishes, sweepsAll, reads, reports, Blank, Known}
+use Rattle.recorder.proofs.Calls.{formats, writes, begins, finishes, sweepsAll, reads, reports, Blank, CallsKnown}
 use Rattle.recorder.proofs.session.Code as code
 
-pub all-known : {M : Type 1} (𝓤 : URA M) (H : Heap 𝓤) (𝓜 : Model 𝓤 H) (𝓖 : GhostRules 𝓤 H) (𝓡 : Running 𝓤 H 𝓜) → Known 𝓤 H (𝓖 .A) (tables 𝓤 H 𝓜 𝓡 code.env .C)
+pub all-known : {M : Type 1} (𝓤 : URA M) (H : Heap 𝓤) (𝓜 : Model 𝓤 H) (𝓖 : GhostRules 𝓤 H) (𝓡 : Running 𝓤 H 𝓜) → CallsKnown 𝓤 H (𝓖 .A) (tables 𝓤 H 𝓜 𝓡 code.env .C)
 all-known 𝓤 H 𝓜 𝓖 𝓡 = record {
   blank = cited 𝓤 H (Blank 𝓤 H (𝓖 .A)) 𝓜 𝓡 code.env blank-def.name blank-def.routine code.calls-drive·blank (blank-thm.met 𝓤 H 𝓜 𝓖 𝓡);
   format = cited 𝓤 H (Callee formats 𝓤 H (𝓖 .A)) 𝓜 𝓡 code.env format-def.name format-def.routine code.calls-lent·format-at (format-thm.met 𝓤 H 𝓜 𝓖 𝓡);

@@ -10,64 +10,41 @@ use types.Kit.{runs, atRet, Sq, group, split3, rewrite}
 use types.Run.{forget, fld, of-opd, assigns}
 use types.Part.{agg, whole, sub, look-in}
 use denote.Memory.{mem}
-use denote.Laws.{Typed}
 use denote.Plain.{nothing-tells, nothing-lawful}
 use denote.Slice.{sliceTy, sliceVal}
 use denote.Struct.Laws as LL
 use denote.Enum.Laws as E
-use denote.Triple.Walked.{stay-slice}
 use Rattle.lent.proofs.Names.{_≡_, refl, ap, ℕ, [], _∷_, List, length, URA, named, w8, w32, w64, Val, SProp, ent, emp, id⊢, Fml, ftrue, flft, Memory, Routine, Heap, Calls, Loops, Atoms, Fun, Lfts, Shares, AllOutlive}
 use Rattle.lent.proofs.Names.{Given, Item, ‵, raw, _⊛_, ⋆, _$_, _∵_, !, qed, by, move, drop, use0, use1, split, join, fsplit, fjoin, feqL, suffices, frame, done, look, init, stop, from, load, and-then, no-more, land, returns}
-use Rattle.lent.proofs.Names.{FmC, RattleType, owns, Is, Are, Ises, owns-make, shows, u8, u32, u64, uint-makes, uint-vals, Array, array-vals, yes, RefT, name, now, ShrSlice, MutSlice, Room, finally, slice-vals, plain, only, owned, nothing, peeks, heard}
-use Rattle.lent.proofs.Names.{Args, Vals, calls-at, says, Stays, stay-none, stay-none-slice, gave-slice, walkOf, ends-at}
+use Rattle.lent.proofs.Names.{FmC, owns, Is, Are, Ises, owns-make, shows, u8, u32, uint-makes, uint-vals, Array, array-vals, RefT, name, now, ShrSlice, MutSlice, Room, finally, slice-vals, only, owned, nothing, peeks, heard}
+use Rattle.lent.proofs.Names.{Args, Vals, calls-at, says, walkOf, ends-at}
 use denote.Ref.{ptr}
-use Rattle.lent.proofs.Steps.{said, mach, bytes-make, twice, told}
+use Rattle.lent.proofs.Steps.{said, bytes-make, twice, told}
 use Rattle.lent.proofs.Statements.{lent-on}
 use Rattle.answers.specs.declared.Answer.{Answer}
 use Rattle.answers.proofs.Answer as N
 use Rattle.answers.proofs.Answer.Laws as N′
-use Rattle.layout.proofs.Shape as G
-use Rattle.layout.proofs.Shape.Laws as G′
 use Rattle.drive.specs.declared.Drive.{Drive}
 use Rattle.drive.specs.Drive.{blankDrive}
 use Rattle.drive.proofs.Drive as T
 use Rattle.drive.proofs.Drive.Laws as T′
-use Rattle.reports.specs.declared.told.Report.{Report}
 use Rattle.reports.proofs.told.Report as P
 use Rattle.reports.proofs.told.Report.Laws as P′
 use Rattle.recorder.specs.declared.Setup.{Setup}
-use Rattle.recorder.specs.declared.Told.{Told}
-use Rattle.recorder.specs.Session.{Holding, afterFormat, afterFinish, noted, unswept, allSwept, leftBy, toldOf, readBack}
+use Rattle.recorder.specs.declared.Heard.{Heard}
+use Rattle.recorder.specs.Session.{Holding, afterFormat, afterFinish, noted, unswept, allSwept, leftBy, heardOf, readBack}
 use Rattle.recorder.proofs.Setup as S
 use Rattle.recorder.proofs.Setup.Laws as S′
-use Rattle.recorder.proofs.Told as D
-use Rattle.recorder.proofs.Told.Laws as D′
-use Rattle.recorder.proofs.Turn.{byteT, sliceT, at-bytes, moves-in, moves-out, Room3, Lent, Cell, Holder, in-local, turned}
+use Rattle.recorder.proofs.Heard as D
+use Rattle.recorder.proofs.Heard.Laws as D′
+use Rattle.recorder.proofs.Turn.{byteT, sliceT, at-bytes, moves-in, moves-out, Room3, VolLent, VolCell, Holder, in-local, turned}
 use Rattle.recorder.proofs.Ask.{RoomS, pointed, asked}
-use Rattle.recorder.proofs.Calls.{formats, writes, begins, finishes, sweepsAll, reads, reports, blanks, Blank, Known}
+use Rattle.recorder.proofs.Calls.{formats, writes, begins, finishes, sweepsAll, reads, reports, blanks, Blank, CallsKnown}
 use Rattle.recorder.proofs.Brings.{formed, formed-vals, alone, beside, to-format}
-use Rattle.recorder.proofs.Frame.{blocksAt, Ends, freed-all, gathered, restored}
+use Rattle.recorder.proofs.Frame.{blocksAt, Freeing, freed-all, gathered, restored}
 use Rattle.recorder.proofs.session as self
 use Rattle.recorder.proofs.session.Code.Mir as code-mir
-
-abbrev pub stayed : Stays (self.ended .signature .params) (self.ended .kept)
-stayed = (
-  stay-none (λ _. S.the-row) yes,
-  (
-    stay-none (λ _. Array u8 16) yes,
-    (stay-none (λ _. Array u8 32) yes, (stay-none (λ _. Array u8 32) yes, (stay-slice (0 ∷ []) tt (plain (λ _. u8)), (stay-none-slice (1 ∷ []) tt (plain (λ _. u8)) yes, (gave-slice (2 ∷ []) tt (plain (λ _. u8)), tt))))),
-  ),
-)
-
--- the parameters that are plain data
-abbrev pub Plain : List RattleType
-Plain = S.the-row ∷ Array u8 16 ∷ Array u8 32 ∷ Array u8 32 ∷ []
-
-abbrev sealed : Told → Val
-sealed = LL.val D.the-type D′.the-laws
-
-abbrev reported : Report → Val
-reported = LL.val P.the-type P′.the-laws
+use Rattle.recorder.proofs.session.Proof.Values.{stayed, Plain, sealed, reported, All-said, offset-fits, n-fits, tells-so, typed}
 
 module _ {M : Type 1} (𝓤 : URA M) (H : Heap 𝓤) (A : Atoms 𝓤) (W : Given 𝓤 H A) (at-mem : Memory → SProp 𝓤) (run : Routine → Fun 𝓤) (κs : Lfts 3) (qs : Shares 3) (bounds : AllOutlive 3 (self.signature .outlives) κs) (a : Args self.signature κs) where
   abbrev s : Setup
@@ -116,28 +93,20 @@ module _ {M : Type 1} (𝓤 : URA M) (H : Heap 𝓤) (A : Atoms 𝓤) (W : Given
   abbrev h₆ : Holding
   h₆ = leftBy s salt first second (now vol) (now text)
 
-  abbrev end : Told
-  end = toldOf s salt first second (now vol) (now text) (length (now back))
+  abbrev end : Heard
+  end = heardOf s salt first second (now vol) (now text) (length (now back))
 
   abbrev shown : List ℕ
   shown = readBack s salt first second (now vol) (now text) (now back)
 
   abbrev Vol : List ℕ → Item 𝓤
-  Vol = Lent 𝓤 0 (κs .0) (name vol) (ptr vol .0) (ptr vol .1)
+  Vol = VolLent 𝓤 0 (κs .0) (name vol) (ptr vol .0) (ptr vol .1)
 
   abbrev Text : Fml
   Text = ShrSlice (named 1) (κs .1 .0) u8 .own text (slice-vals text)
 
   abbrev Back : Fml
   Back = MutSlice (named 2) (κs .1 .1 .0) u8 .own back (slice-vals back)
-
-  abbrev Is-said : Answer → Type 0
-  Is-said r = Is N.the-row r (said r ∷ [])
-
-  -- what is known of the answers so far, the last one first
-  abbrev All-said : List Answer → Type 0
-  All-said [] = Unit {0}
-  All-said (r ∷ rs) = Is-said r × All-said rs
 
   -- the volume's list is as long as it was
   abbrev Long : List ℕ → Type 0
@@ -157,13 +126,7 @@ module _ {M : Type 1} (𝓤 : URA M) (H : Heap 𝓤) (A : Atoms 𝓤) (W : Given
         owned ! (Array u8 16) (Is (Array u8 16)) (bytes-make 𝓤 H A W 16) salt _ (are .1 .0) $ fjoin ! $ owned ! S.the-row (Is S.the-row) (LL.makes S.the-type S′.the-plain 𝓤 H A) s _ (are .0) $ fjoin ! $
         owned ! D.the-row (Is D.the-row) (LL.makes D.the-type D′.the-plain 𝓤 H A) end _ g $ move ! (1 ∷ 0 ∷ []) $ done !
 
-    offset-fits : Is u64 (s .offset) (uint-vals w64 (s .offset))
-    offset-fits = LL.owed S.the-type S′.the-laws s _ (are .0) .1 .1 .0
-
-    n-fits : Is u32 (s .shape .n) (uint-vals w32 (s .shape .n))
-    n-fits = LL.owed G.the-type G′.the-laws (s .shape) _ (LL.owed S.the-type S′.the-laws s _ (are .0) .0) .0
-
-    module _ (C : Calls 𝓤 H) (Λ : Loops 𝓤 H) (fm : FmC 𝓤 H (W .laws) C) (known : Known 𝓤 H A C) (f : ℕ → ℕ) where
+    module _ (C : Calls 𝓤 H) (Λ : Loops 𝓤 H) (fm : FmC 𝓤 H (W .laws) C) (known : CallsKnown 𝓤 H A C) (f : ℕ → ℕ) where
       abbrev En : Env 𝓤 H
       En = blocksAt 𝓤 H f code-mir.locals
 
@@ -180,13 +143,13 @@ module _ {M : Type 1} (𝓤 : URA M) (H : Heap 𝓤) (A : Atoms 𝓤) (W : Given
       --  21 to 26 room for the calls that change; 27, 28 for those that look; 29, 30 for the buffer lent on; 31 what `sweep_all` hands back; 32 the blank drive; 33 the result; 34 the locals' ends]
       abbrev pub Ctx : Item 𝓤 → List ℕ → Fml → Item 𝓤 → Item 𝓤 → Item 𝓤 → Item 𝓤 → Item 𝓤 → Item 𝓤 → Item 𝓤 → List (Item 𝓤)
       Ctx D l B a₉ a₁₀ a₁₁ a₁₂ a₁₃ a₁₄ a₁₅ =
-          D ∷ Vol l ∷ ‵ (flft (κs .0) (qs .0)) ∷ Cell 𝓤 0 (f 5) (ptr vol .0) (ptr vol .1) l
+          D ∷ Vol l ∷ ‵ (flft (κs .0) (qs .0)) ∷ VolCell 𝓤 0 (f 5) (ptr vol .0) (ptr vol .1) l
           ∷ ‵ (fat fullShare S′.mir (f 1) zero (LL.val S.the-type S′.the-laws s)) ∷ ‵ (fat fullShare (tyArray (tyInt w8) 16) (f 2) zero (only (array-vals (uint-vals w8) salt)))
           ∷ ‵ (fat fullShare (tyArray (tyInt w8) 32) (f 3) zero (only (array-vals (uint-vals w8) first))) ∷ ‵ (fat fullShare (tyArray (tyInt w8) 32) (f 4) zero (only (array-vals (uint-vals w8) second)))
           ∷ ‵ (fat fullShare (sliceTy (tyRef (named 1) imm (tyInt w8))) (f 6) zero (only (slice-vals text))) ∷ ‵ (fat fullShare (sliceT (named 2)) (f 7) zero (only (slice-vals back)))
           ∷ ‵ Text ∷ ‵ (flft (κs .1 .0) (qs .1 .0)) ∷ ‵ B ∷ ‵ (flft (κs .1 .1 .0) (qs .1 .1 .0)) ∷ a₉ ∷ a₁₀ ∷ a₁₁ ∷ a₁₂ ∷ a₁₃ ∷ a₁₄ ∷ a₁₅
           ∷ Room3 𝓤 (f 17) (f 18) (f 19) ∷ Room3 𝓤 (f 20) (f 21) (f 22) ∷ Room3 𝓤 (f 23) (f 24) (f 25) ∷ Room3 𝓤 (f 26) (f 27) (f 28) ∷ Room3 𝓤 (f 30) (f 31) (f 32) ∷ Room3 𝓤 (f 33) (f 34) (f 35)
-          ∷ RoomS 𝓤 (f 36) (f 37) (f 38) ∷ RoomS 𝓤 (f 41) (f 42) (f 43) ∷ ‵ (froom byteT (f 39) zero) ∷ ‵ (froom (sliceT erased) (f 40) zero) ∷ ‵ (froom tyUnit (f 29) zero) ∷ ‵ (froom T′.mir (f 16) zero) ∷ ‵ (froom D′.mir (f 0) zero) ∷ Ends 𝓤 H En ∷ []
+          ∷ RoomS 𝓤 (f 36) (f 37) (f 38) ∷ RoomS 𝓤 (f 41) (f 42) (f 43) ∷ ‵ (froom byteT (f 39) zero) ∷ ‵ (froom (sliceT erased) (f 40) zero) ∷ ‵ (froom tyUnit (f 29) zero) ∷ ‵ (froom T′.mir (f 16) zero) ∷ ‵ (froom D′.mir (f 0) zero) ∷ Freeing 𝓤 H En ∷ []
 
       abbrev Runs : mir.Syntax.Body → List (Item 𝓤) → Type 1
       Runs b Γ = Sq W Γ (runs C Λ En b (atRet En Post))
@@ -211,9 +174,6 @@ module _ {M : Type 1} (𝓤 : URA M) (H : Heap 𝓤) (A : Atoms 𝓤) (W : Given
       abbrev Here : Holder 𝓤 H A (f 8) zero
       Here = in-local 𝓤 H A W (f 8)
 
-      typed : (r : Answer) (w : Val) → Is N.the-row r (w ∷ []) → Typed (N′.mir ∷ []) (w ∷ [])
-      typed r w is = E.lawful N.the-type N′.the-laws 𝓤 H A W tt .typed r _ is
-
       abbrev NoReport : Item 𝓤
       NoReport = ‵ (froom P′.mir (f 15) zero)
 
@@ -231,8 +191,8 @@ module _ {M : Type 1} (𝓤 : URA M) (H : Heap 𝓤) (A : Atoms 𝓤) (W : Given
       to-read-back long i =
           move ! (27 ∷ 3 ∷ []) $ pointed ! (h₆ .vol) (roomy (h₆ .vol) long) refl refl refl refl refl $ move ! (10 ∷ 0 ∷ 29 ∷ 1 ∷ 30 ∷ 2 ∷ []) $ lent-on ! back room₂ refl refl refl $ move ! (16 ∷ 15 ∷ []) $ join ! $ move ! (0 ∷ 6 ∷ 7 ∷ 8 ∷ 2 ∷ 21 ∷ []) $
           asked reads ! fm (known .read) (f 8) 0 (κs .0) (qs .0) (name vol) (ptr vol .0) (ptr vol .1) (h₆ .drive) (h₆ .vol) (roomy (h₆ .vol) long) (κs .1 .1 .0, tt) (qs .1 .1 .0, tt) (‵ (flft (κs .1 .1 .0) (qs .1 .1 .0)) ⊛ ‵ Back)
-          (λ ν ν′. (s .offset, (back, tt))) (λ ν ν′. (uint-vals w64 (s .offset), (slice-vals back, tt))) (λ ν ν′. beside 𝓤 H A W (κs .1 .1 .0) (qs .1 .1 .0) (MutSlice (named 2) (κs .1 .1 .0) u8) back (slice-vals back) (s .offset) offset-fits)
-          said (E.tells N.the-type N′.the-laws) typed (end .read) (λ ν ν′ r e x. x .0)
+          (λ ν ν′. (s .offset, (back, tt))) (λ ν ν′. (uint-vals w64 (s .offset), (slice-vals back, tt))) (λ ν ν′. beside 𝓤 H A W (κs .1 .1 .0) (qs .1 .1 .0) (MutSlice (named 2) (κs .1 .1 .0) u8) back (slice-vals back) (s .offset) (offset-fits s (are .0)))
+          said (E.tells N.the-type N′.the-laws) (typed 𝓤 H A W) (end .read) (λ ν ν′ r e x. x .0)
           (λ ν ν′ δ δ′. and-then ! (load ! (from ! (fld ! refl (stop !))) (look-in ! 11 (sub ! 2 refl (whole !)))) (and-then ! (load ! (from ! (stop !)) (look ! 10 refl)) (no-more !))) refl refl refl (λ ν ν′ r zs e i₆.
           -- [0 the buffer's token; 1 what is said of it; 2 the drive; 3 the volume; 4 its token; 5 room for a call that looks; 6 the answer; 7 back; 8, 10 the buffer lent on; 9 vol; 11 s; …]
           use1 W (‵ (flft (κs .1 .1 .0) (qs .1 .1 .0)) ⊛ ‵ ftrue) (id⊢ 𝓤 _) $ split ! $ move ! (1 ∷ []) $ drop ! $ move ! (1 ∷ []) $ fsplit ! $ drop ! $ fsplit ! $ fsplit ! $ move ! (1 ∷ []) $ feqL ! (λ long₂. move ! (1 ∷ []) $ drop ! $
@@ -245,7 +205,7 @@ module _ {M : Type 1} (𝓤 : URA M) (H : Heap 𝓤) (A : Atoms 𝓤) (W : Given
       to-finish long i =
           move ! (0 ∷ 1 ∷ 2 ∷ 3 ∷ 26 ∷ 18 ∷ []) $ nothing ! $
           turned finishes ! fm (known .finish) Here (κs .0) (qs .0) (name vol) (ptr vol .0) (ptr vol .1) (h₅ .drive) (h₅ .vol) (roomy (h₅ .vol) long) tt tt (‵ ftrue) (λ ν ν′. tt) (λ ν ν′. tt) (λ ν ν′. alone 𝓤 H A W ftrue (id⊢ 𝓤 _))
-          said (E.tells N.the-type N′.the-laws) typed (end .finished) (h₆ .drive) (h₆ .vol) (λ ν ν′ r k z x. x) (λ ν ν′ δ δ′. no-more !) refl refl refl refl refl (from ! (stop !)) (λ i₅ same. drop ! $
+          said (E.tells N.the-type N′.the-laws) (typed 𝓤 H A W) (end .finished) (h₆ .drive) (h₆ .vol) (λ ν ν′ r k z x. x) (λ ν ν′ δ δ′. no-more !) refl refl refl refl refl (from ! (stop !)) (λ i₅ same. drop ! $
           restored ! (0 ∷ 0 ∷ 0 ∷ 0 ∷ 22 ∷ 14 ∷ []) (Ctx (In (h₆ .drive)) (h₆ .vol) Back (Full 9 (end .formatted)) (Full 10 (end .written)) (Full 11 (end .begun)) (Full 12 (end .early)) (Full 13 (end .finished)) (Empty 14) NoReport) $
           to-read-back (same ∙ long) (i₅, i))
 
@@ -254,7 +214,7 @@ module _ {M : Type 1} (𝓤 : URA M) (H : Heap 𝓤) (A : Atoms 𝓤) (W : Given
       to-sweep long i =
           move ! (0 ∷ 1 ∷ 2 ∷ 3 ∷ 25 ∷ 31 ∷ []) $ nothing ! $
           turned sweepsAll ! fm (known .sweep) Here (κs .0) (qs .0) (name vol) (ptr vol .0) (ptr vol .1) (h₄ .drive) (h₄ .vol) (roomy (h₄ .vol) long) tt tt (‵ ftrue) (λ ν ν′. (s .shape .n, tt)) (λ ν ν′. (uint-vals w32 (s .shape .n), tt))
-          (λ ν ν′. alone 𝓤 H A W (owns (u32 ∷ []) (s .shape .n, tt) (uint-vals w32 (s .shape .n), tt)) (owns-make 𝓤 H A (u32 ∷ []) (Ises (u32 ∷ [])) (uint-makes 𝓤 H A W w32, tt) (s .shape .n, tt) (uint-vals w32 (s .shape .n), tt) (n-fits, tt)))
+          (λ ν ν′. alone 𝓤 H A W (owns (u32 ∷ []) (s .shape .n, tt) (uint-vals w32 (s .shape .n), tt)) (owns-make 𝓤 H A (u32 ∷ []) (Ises (u32 ∷ [])) (uint-makes 𝓤 H A W w32, tt) (s .shape .n, tt) (uint-vals w32 (s .shape .n), tt) (n-fits s (are .0), tt)))
           (λ _. vunit) nothing-tells (λ r w is. nothing-lawful 𝓤 H A W .typed r _ is) tt (h₅ .drive) (h₅ .vol) (λ ν ν′ r k z x. (refl, (ap (λ (y : Holding). y .drive) x, ap (λ (y : Holding). y .vol) x)))
           (λ ν ν′ δ δ′. and-then ! (load ! (from ! (fld ! refl (fld ! refl (stop !)))) (look-in ! 8 (sub ! 0 refl (sub ! 0 refl (whole !))))) (no-more !)) refl refl refl refl refl (from ! (stop !)) (λ none same. drop ! $ forget ! 5 refl $
           restored ! (0 ∷ 0 ∷ 0 ∷ 0 ∷ 21 ∷ 26 ∷ []) (Ctx (In (h₅ .drive)) (h₅ .vol) Back (Full 9 (end .formatted)) (Full 10 (end .written)) (Full 11 (end .begun)) (Full 12 (end .early)) (Empty 13) (Empty 14) NoReport) $
@@ -265,7 +225,7 @@ module _ {M : Type 1} (𝓤 : URA M) (H : Heap 𝓤) (A : Atoms 𝓤) (W : Given
       too-early long i =
           move ! (0 ∷ 1 ∷ 2 ∷ 3 ∷ 24 ∷ 17 ∷ []) $ nothing ! $
           turned finishes ! fm (known .finish) Here (κs .0) (qs .0) (name vol) (ptr vol .0) (ptr vol .1) (h₃ .drive) (h₃ .vol) (roomy (h₃ .vol) long) tt tt (‵ ftrue) (λ ν ν′. tt) (λ ν ν′. tt) (λ ν ν′. alone 𝓤 H A W ftrue (id⊢ 𝓤 _))
-          said (E.tells N.the-type N′.the-laws) typed (end .early) (h₄ .drive) (h₄ .vol) (λ ν ν′ r k z x. x) (λ ν ν′ δ δ′. no-more !) refl refl refl refl refl (from ! (stop !)) (λ i₄ same. drop ! $
+          said (E.tells N.the-type N′.the-laws) (typed 𝓤 H A W) (end .early) (h₄ .drive) (h₄ .vol) (λ ν ν′ r k z x. x) (λ ν ν′ δ δ′. no-more !) refl refl refl refl refl (from ! (stop !)) (λ i₄ same. drop ! $
           restored ! (0 ∷ 0 ∷ 0 ∷ 0 ∷ 20 ∷ 13 ∷ []) (Ctx (In (h₄ .drive)) (h₄ .vol) Back (Full 9 (end .formatted)) (Full 10 (end .written)) (Full 11 (end .begun)) (Full 12 (end .early)) (Empty 13) (Empty 14) NoReport) $
           to-sweep (same ∙ long) (i₄, i))
 
@@ -275,7 +235,7 @@ module _ {M : Type 1} (𝓤 : URA M) (H : Heap 𝓤) (A : Atoms 𝓤) (W : Given
           move ! (0 ∷ 1 ∷ 2 ∷ 3 ∷ 23 ∷ 16 ∷ []) $ nothing ! $
           turned begins ! fm (known .begin) Here (κs .0) (qs .0) (name vol) (ptr vol .0) (ptr vol .1) (h₂ .drive) (h₂ .vol) (roomy (h₂ .vol) long) tt tt (‵ ftrue) (λ ν ν′. (second, tt)) (λ ν ν′. (array-vals (uint-vals w8) second, tt))
           (λ ν ν′. alone 𝓤 H A W (owns (Array u8 32 ∷ []) (second, tt) (array-vals (uint-vals w8) second, tt)) (owns-make 𝓤 H A (Array u8 32 ∷ []) (Ises (Array u8 32 ∷ [])) (bytes-make 𝓤 H A W 32, tt) (second, tt) (array-vals (uint-vals w8) second, tt) (are .1 .1 .1 .0, tt)))
-          said (E.tells N.the-type N′.the-laws) typed (end .begun) (h₃ .drive) (h₃ .vol) (λ ν ν′ r k z x. x) (λ ν ν′ δ δ′. and-then ! (load ! (from ! (stop !)) (look ! 11 refl)) (no-more !)) refl refl refl refl refl (from ! (stop !)) (λ i₃ same. drop ! $
+          said (E.tells N.the-type N′.the-laws) (typed 𝓤 H A W) (end .begun) (h₃ .drive) (h₃ .vol) (λ ν ν′ r k z x. x) (λ ν ν′ δ δ′. and-then ! (load ! (from ! (stop !)) (look ! 11 refl)) (no-more !)) refl refl refl refl refl (from ! (stop !)) (λ i₃ same. drop ! $
           restored ! (0 ∷ 0 ∷ 0 ∷ 0 ∷ 19 ∷ 12 ∷ []) (Ctx (In (h₃ .drive)) (h₃ .vol) Back (Full 9 (end .formatted)) (Full 10 (end .written)) (Full 11 (end .begun)) (Empty 12) (Empty 13) (Empty 14) NoReport) $
           too-early (same ∙ long) (i₃, i))
 
@@ -284,8 +244,8 @@ module _ {M : Type 1} (𝓤 : URA M) (H : Heap 𝓤) (A : Atoms 𝓤) (W : Given
       to-write-text long i =
           move ! (10 ∷ []) $ twice ! (named 1) (κs .1 .0) text $ move ! (12 ∷ 0 ∷ []) $ join ! $ move ! (0 ∷ 2 ∷ 3 ∷ 4 ∷ 5 ∷ 22 ∷ 15 ∷ []) $
           turned writes ! fm (known .write) Here (κs .0) (qs .0) (name vol) (ptr vol .0) (ptr vol .1) (h₁ .drive) (h₁ .vol) (roomy (h₁ .vol) long) (κs .1 .0, tt) (qs .1 .0, tt) (‵ (flft (κs .1 .0) (qs .1 .0)) ⊛ ‵ Text)
-          (λ ν ν′. (s .offset, (text, tt))) (λ ν ν′. (uint-vals w64 (s .offset), (slice-vals text, tt))) (λ ν ν′. beside 𝓤 H A W (κs .1 .0) (qs .1 .0) (ShrSlice (named 2) (κs .1 .0) u8) text (slice-vals text) (s .offset) offset-fits)
-          said (E.tells N.the-type N′.the-laws) typed (end .written) (h₂ .drive) (h₂ .vol) (λ ν ν′ r k z x. x)
+          (λ ν ν′. (s .offset, (text, tt))) (λ ν ν′. (uint-vals w64 (s .offset), (slice-vals text, tt))) (λ ν ν′. beside 𝓤 H A W (κs .1 .0) (qs .1 .0) (ShrSlice (named 2) (κs .1 .0) u8) text (slice-vals text) (s .offset) (offset-fits s (are .0)))
+          said (E.tells N.the-type N′.the-laws) (typed 𝓤 H A W) (end .written) (h₂ .drive) (h₂ .vol) (λ ν ν′ r k z x. x)
           (λ ν ν′ δ δ′. and-then ! (load ! (from ! (fld ! refl (stop !))) (look-in ! 9 (sub ! 2 refl (whole !)))) (and-then ! (load ! (from ! (stop !)) (look ! 13 refl)) (no-more !))) refl refl refl refl refl (from ! (stop !)) (λ i₂ same.
           use1 W (‵ (flft (κs .1 .0) (qs .1 .0)) ⊛ ‵ ftrue) (id⊢ 𝓤 _) $ split ! $ move ! (1 ∷ []) $ drop ! $
           restored ! (11 ∷ 0 ∷ 0 ∷ 0 ∷ 0 ∷ 17 ∷ 10 ∷ 6 ∷ []) (Ctx (In (h₂ .drive)) (h₂ .vol) Back (Full 9 (end .formatted)) (Full 10 (end .written)) (Empty 11) (Empty 12) (Empty 13) (Empty 14) NoReport) $
@@ -295,7 +255,7 @@ module _ {M : Type 1} (𝓤 : URA M) (H : Heap 𝓤) (A : Atoms 𝓤) (W : Given
       to-make =
           move ! (0 ∷ 1 ∷ 2 ∷ 3 ∷ 21 ∷ 14 ∷ []) $ nothing ! $
           turned formats ! fm (known .format) Here (κs .0) (qs .0) (name vol) (ptr vol .0) (ptr vol .1) blankDrive (now vol) room tt tt (‵ ftrue) (λ ν ν′. formed s salt first) (λ ν ν′. formed-vals s salt first) (λ ν ν′. to-format 𝓤 H A W s salt first (are .0) (are .1 .0) (are .1 .1 .0))
-          said (E.tells N.the-type N′.the-laws) typed (end .formatted) (h₁ .drive) (h₁ .vol) (λ ν ν′ r k z x. x)
+          said (E.tells N.the-type N′.the-laws) (typed 𝓤 H A W) (end .formatted) (h₁ .drive) (h₁ .vol) (λ ν ν′ r k z x. x)
           (λ ν ν′ δ δ′. and-then ! (load ! (from ! (fld ! refl (stop !))) (look-in ! 8 (sub ! 0 refl (whole !)))) (and-then ! (load ! (from ! (stop !)) (look ! 9 refl)) (and-then ! (load ! (from ! (stop !)) (look ! 10 refl)) (and-then ! (load ! (from ! (fld ! refl (stop !))) (look-in ! 8 (sub ! 1 refl (whole !)))) (no-more !))))) refl refl refl refl refl (from ! (stop !)) (λ i₁ same. drop ! $
           restored ! (0 ∷ 0 ∷ 0 ∷ 0 ∷ 17 ∷ 10 ∷ []) (Ctx (In (h₁ .drive)) (h₁ .vol) Back (Full 9 (end .formatted)) (Empty 10) (Empty 11) (Empty 12) (Empty 13) (Empty 14) NoReport) $
           to-write-text same (i₁, tt))
@@ -312,6 +272,3 @@ module _ {M : Type 1} (𝓤 : URA M) (H : Heap 𝓤) (A : Atoms 𝓤) (W : Given
         where
           none : Blank 𝓤 H A .Ghost
           none = ((tt, tt, tt, tt, tt), tt)
-
-          tells-so : (r : Drive) (w : Val) → Is T.the-row r (w ∷ []) → Is T.the-row r (mach r ∷ [])
-          tells-so r w is = subst (Is T.the-row r) (LL.tells T.the-type T′.the-laws r (w ∷ []) is) is
