@@ -28,13 +28,13 @@ use Rattle.changes.proofs.LaidLaws.{Long}
 use Rattle.changes.proofs.SweepLaws.{way-other}
 use Rattle.changes.proofs.AnswerLaws.{sweep-told, write-told}
 use Rattle.changes.proofs.Relaid.{long-new, long-same}
-use Rattle.history.specs.World.{mount, read, write, begin, sweep, finish, report, stored}
-use Rattle.history.specs.History.{history}
+use Rattle.history.specs.World.{Call, mount, write, begin, sweep, finish, asks}
+use Rattle.history.specs.History.{Start, history}
 use Rattle.history.proofs.Steps.{sound}
 use Rattle.stores.specs.Store.{Store}
 use Rattle.stores.specs.Work.{laidStores, markStores, tendStores, workStores, headStores}
 use Rattle.stores.specs.Calls.{writeStores, beginStores, sweepStores, finishStores, storesOf}
-use Rattle.stores.specs.Once.{hits, times, StoredOnce, SweepOnce}
+use Rattle.stores.specs.Once.{hits, times, StoredOnce, SweepOnce, WriteOnce}
 use Rattle.stores.proofs.OnceLaws.{hits-le, hits-join, times-append, times-one, times-none, times-to, times-marks, times-outside, times-alone}
 
 -- a list that is there only if a test holds
@@ -83,11 +83,12 @@ sweep-once start calls n a =
     times-change d (sweptDrive d v n) v (sweepWays n) (contentsOf d v) (sound start calls .handed .salt-long) (t .lent) (long-same d v (t .lent)) a
     (λ u. times-alone (shapeOf d) a v (t .lent) (sweepWays n) n (d .n) u (omega arith) (λ m q. ap idles (way-other n m q)) .0))
 
-pub stored-once : StoredOnce
-unfolding storesOf writeStores beginStores sweepStores finishStores advanced begunDrive finishedDrive
-stored-once start calls (mount any) a out = omega (arith, times-none a)
-stored-once start calls (read o buffer) a out = omega (arith, times-none a)
-stored-once start calls (write o bytes) a out =
+-- a write of a history, by the stores that it makes in the tree
+times-write : (start : Start) (calls : List Call) (o : ℕ) (bytes : List ℕ) (a : ℕ) → let w = history start calls in let s = shapeOf (w .drive) in
+    (Shaped s (w .vol) → (u : List ℕ) → times (tendStores s (writeWay (w .drive) (w .vol) o (length bytes)) (s .n) u) a ≤ hits (treeAt s) (flakesAt s) a)
+    → times (storesOf w (write o bytes)) a ≤ 1
+unfolding storesOf writeStores advanced
+times-write start calls o bytes a tree =
     let w = history start calls in
     let d = w .drive in
     let v = w .vol in
@@ -95,7 +96,23 @@ stored-once start calls (write o bytes) a out =
     times-pick (writes (writeAnswer d v o (length bytes)) bytes) _ a (λ ok.
     let t = write-told d v o (length bytes) (ltb-true 0 (length bytes) (both-right answered _ ok)) (both-left answered _ ok) in
     times-change d (writtenDrive d v o bytes) v (writeWay d v o (length bytes)) (newContents d v o bytes) (sound start calls .handed .salt-long) (t .lent) (long-new d v (t .lent) o bytes) a
-    (λ u. omega (arith, times-outside (shapeOf d) a v (t .lent) (writeWay d v o (length bytes)) (d .n) u (omega arith) out)))
+    (tree (t .lent)))
+
+pub write-once : WriteOnce
+write-once start calls o bytes n a others =
+    let w = history start calls in
+    let d = w .drive in
+    let ways = writeWay d (w .vol) o (length bytes) in
+    times-write start calls o bytes a (λ lent u. times-alone (shapeOf d) a (w .vol) lent ways n (d .n) u (omega arith) others .0)
+
+pub stored-once : StoredOnce
+unfolding storesOf beginStores finishStores begunDrive finishedDrive
+stored-once start calls (mount any) a out = omega (arith, times-none a)
+stored-once start calls (write o bytes) a out =
+    let w = history start calls in
+    let d = w .drive in
+    let ways = writeWay d (w .vol) o (length bytes) in
+    times-write start calls o bytes a (λ lent u. omega (arith, times-outside (shapeOf d) a (w .vol) lent ways (d .n) u (omega arith) out))
 stored-once start calls (begin secret) a out =
     let w = history start calls in
     times-pick (accepts (beginAnswer (w .drive) (w .vol) secret)) _ a (λ ok. rw (times-head (begunDrive (w .drive) secret) a (sound start calls .handed .salt-long)) (hits-le 0 104 a))
@@ -103,5 +120,4 @@ stored-once start calls (sweep n) a out = sweep-once start calls n a
 stored-once start calls finish a out =
     let w = history start calls in
     times-pick (accepts (finishAnswer (w .drive) (w .vol))) _ a (λ ok. rw (times-head (finishedDrive (w .drive)) a (sound start calls .handed .salt-long)) (hits-le 0 104 a))
-stored-once start calls report a out = omega (arith, times-none a)
-stored-once start calls (stored n f) a out = omega (arith, times-none a)
+stored-once start calls (asks q) a out = omega (arith, times-none a)

@@ -1,5 +1,7 @@
 -- How often a call stores a byte of the volume. Each statement is proved, under the same name in small letters, in proofs/Once.antt.
 use Prim.Native.Nat.{ℕ, _+_, _<_, _≤_}
+use mathlib.Core.Path.{_≡_}
+use mathlib.Core.Bool.{true}
 use mathlib.Core.Logic.{_⊎_}
 use mathlib.Core.List.{List, [], _∷_}
 use lib.Dec.{leb, ltb}
@@ -7,7 +9,9 @@ use lib.ListN.{length}
 use Rattle.base.specs.Pick.{pick, both}
 use Rattle.layout.specs.Parts.{treeAt, flakesAt}
 use Rattle.drive.specs.Drive.{shapeOf}
-use Rattle.history.specs.World.{Call, sweep}
+use Rattle.changes.specs.Change.{idles}
+use Rattle.changes.specs.Write.{writeWay}
+use Rattle.history.specs.World.{Call, write, sweep}
 use Rattle.history.specs.History.{Start, history}
 use Rattle.stores.specs.Store.{Store}
 use Rattle.stores.specs.Calls.{storesOf}
@@ -31,3 +35,10 @@ StoredOnce =
 -- A sweep stores no byte twice.
 abbrev pub SweepOnce : Type 0
 SweepOnce = (start : Start) (calls : List Call) (n a : ℕ) → times (storesOf (history start calls) (sweep n)) a ≤ 1
+
+-- Nor does a write that changes one nugget.
+abbrev pub WriteOnce : Type 0
+WriteOnce =
+    (start : Start) (calls : List Call) (o : ℕ) (bytes : List ℕ) (n a : ℕ)
+    → let w = history start calls in
+    ((m : ℕ) → (m ≡ n → ⊥) → idles (writeWay (w .drive) (w .vol) o (length bytes) m) ≡ true) → times (storesOf w (write o bytes)) a ≤ 1
