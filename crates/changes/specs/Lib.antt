@@ -2,4 +2,5 @@ pub mod Laid
 pub mod Change
 pub mod Write
 pub mod Rekey
+pub mod First
 pub mod Relaid
