@@ -50,7 +50,7 @@ lay-piece-requires c κs =
     let taken = c .before .before .loop-test .taken in
     let end : l .at + n ≤ length (l .flake) = omega (arith, least, taken, l .inv .0) in
     let long : length (midOf (l .at) (l .at + n - l .at) (l .flake)) ≡ l .at + n - l .at = mid-len (l .at) (l .at + n) (l .flake) end in
-    (pre .0, pre .1, l .inv .2 taken, omega (arith, long, least), omega (arith, long, end, l .inv .0), pre .2, pre .3)
+    (pre .0, pre .1, l .inv .2 (omega (arith, taken)), omega (arith, long, least), omega (arith, long, end, l .inv .0), pre .2, pre .3)
 
 loop-less : tie.Need-loop-less Inv-loop μ-loop
 loop-less c = search needs
@@ -64,7 +64,7 @@ loop-again c =
     let long = same-len-mid (l .at) (l .at + n - l .at) (l .flake) (c .before .before .lay-piece .last .0) (c .before .before .lay-piece .kept .0) in (
       long ∙ l .inv .0,
       omega (arith, c .before .before .before .before .smaller .ensures, c .before .before .before .before .before .loop-test .taken),
-      λ h. omega (arith, c .before .before .before .before .smaller .ensures, h, l .inv .2 (c .before .before .before .before .before .loop-test .taken)),
+      λ h. omega (arith, c .before .before .before .before .smaller .ensures, h, l .inv .2 (omega (arith, c .before .before .before .before .before .loop-test .taken))),
       rw m (piece-more (a .g) (a .lock) (a .f) (a .start) (a .o) (a .bytes .now) (a .flake .now) (l .at) n (omega (arith, c .before .before .before .before .smaller .ensures, c .before .before .before .before .before .loop-test .taken)) (l .inv .3) (rw m at (c .before .before .lay-piece .ensures))),
     )
 
