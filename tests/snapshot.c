@@ -1,5 +1,6 @@
 /* Calls watched one instruction at a time, by the processor's trap flag, in the archive as it is shipped: memory never holds
- * contents but in the caller's own buffer, and each byte of the volume is stored at most once.
+ * contents but in the caller's own buffer, and each byte of the volume that is stored is stored with its final value. (The C
+ * library's memcpy lets its last stores overlap, so a byte may be stored twice, as the same byte.)
  *
  * After each instruction what changed on the stack is searched for any 8 bytes in a row of the contents: those that the drive
  * holds, and those that are written. Volume, drive and answer lie on pages that can't be written, so each store there is a
@@ -19,7 +20,7 @@ enum { N = 2, P = 3, LARGEST = 1024, STACK = 1 << 18, ROOM = 1 << 16, NEAR = 64,
 
 /* What is watched: the stack; and the pages where volume, drive and answer lie. */
 static uint8_t *stack, *kept;
-static uint8_t stack_was[STACK], kept_was[ROOM], kept_once[ROOM], stores[ROOM];
+static uint8_t stack_was[STACK], kept_was[ROOM], kept_once[ROOM], stores[ROOM], given[ROOM], left[ROOM];
 static uint8_t *vol, *drive, *answer;
 static size_t length;
 
@@ -27,7 +28,7 @@ static uint64_t known[SLOTS];
 static uint8_t text[P * LARGEST], bytes[P * LARGEST], buffer[P * LARGEST];
 static const uint8_t salt[16] = "a salt", first[32] = "first secret", second[32] = "second secret";
 
-static size_t passed, failed, steps, stored, found_on_stack, found_in_kept;
+static size_t passed, failed, steps, stored, found_on_stack, found_in_kept, unlike;
 static enum { FREE, ONCE, TWICE } phase;
 static size_t fault;
 static gregset_t before, after;
@@ -115,7 +116,7 @@ static void trapped(int signal, siginfo_t *info, void *context) {
     if (phase == TWICE) {
         for (size_t i = from; i < to; i++)
             if (i == fault || kept_once[i] != kept_was[i] || (kept[i] ^ kept_was[i]) != 255)
-                stores[i]++, stored++;
+                stores[i]++, stored++, unlike += i < length && kept_once[i] != left[i];
         memcpy(kept + from, kept_once + from, to - from);
         memcpy(u->uc_mcontext.gregs, after, sizeof after);
         guard(PROT_READ);
@@ -138,7 +139,7 @@ static void enter(void) {
 static void watch(uint32_t (*call)(void)) {
     memset(stores, 0, sizeof stores), memset(stack, 0, STACK), memset(stack_was, 0, STACK);
     memcpy(kept_was, kept, ROOM);
-    found_on_stack = found_in_kept = 0, phase = FREE, watched = call;
+    found_on_stack = found_in_kept = unlike = 0, phase = FREE, watched = call;
     getcontext(&guest);
     guest.uc_stack.ss_sp = stack, guest.uc_stack.ss_size = STACK, guest.uc_link = &host;
     makecontext(&guest, enter, 0);
@@ -185,13 +186,14 @@ static void controls(void) {
     check(found_on_stack > 0 && found_in_kept == 0, "control: contents on the stack weren't seen", "watch", 0);
     watch(leaks_in_volume);
     check(found_in_kept > 0 && found_on_stack == 0, "control: contents in the volume weren't seen", "watch", 0);
+    memcpy(left, kept, ROOM);
     watch(stores_twice);
-    check(stores[vol - kept + 300] == 2, "control: two stores of a byte weren't counted", "watch", 0);
+    check(stores[vol - kept + 300] == 2 && unlike == 1, "control: a store of another value wasn't seen", "watch", 0);
     watch(stores_the_same);
     int each = 1;
     for (size_t i = 0; i < 8; i++)
         each &= stores[vol - kept + 400 + i] == 1;
-    check(each && stores[vol - kept + 408] == 0, "control: a store of the same bytes wasn't counted", "watch", 0);
+    check(each && unlike == 0 && stores[vol - kept + 408] == 0, "control: a store of the same bytes wasn't counted", "watch", 0);
 }
 
 /* A drive whose nugget 0 holds flakes 0 and 2, and known bytes to write. */
@@ -214,7 +216,6 @@ static void prepare(uint32_t f, int changing) {
 
 /* One call, unwatched and then watched; `laid` says which flakes of nugget 0, or all of which bytes, it lays anew. */
 static void tries(const char *name, uint32_t (*call)(void), uint32_t f, int changing, size_t at, size_t many, unsigned laid) {
-    static uint8_t given[ROOM], left[ROOM];
     prepare(f, changing);
     offset = at, count = many;
     memcpy(given, kept, ROOM);
@@ -226,13 +227,11 @@ static void tries(const char *name, uint32_t (*call)(void), uint32_t f, int chan
     check(memcmp(left, kept, ROOM) == 0, "watched, it left something else", name, f);
     check(found_on_stack == 0, "contents were on the stack", name, f);
     check(found_in_kept == 0, "contents were in the volume", name, f);
-    int most = 1, each = 1;
-    for (size_t i = 0; i < length; i++)
-        most &= stores[i] <= 1;
+    int each = 1;
     size_t flakes = length - (size_t)N * P * f;
     for (size_t i = 0; i < (size_t)P * f; i++)
-        each &= stores[flakes + i] == (laid >> i / f & 1);
-    check(most, "a byte of the volume was stored twice", name, f);
+        each &= (stores[flakes + i] > 0) == (laid >> i / f & 1);
+    check(unlike == 0, "a byte was stored with another value than its last", name, f);
     check(each, "it laid other flakes than it had to", name, f);
 }
 
