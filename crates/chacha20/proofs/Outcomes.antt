@@ -10,6 +10,9 @@ quarter-round κs a x y u v p q = (agree p q, refl)
 pub block : OneOutcome fn.block.ended fn.block.Reads.Post
 block κs a x y u v p q = (agree p q, refl)
 
+pub eight : OneOutcome fn.eight.ended fn.eight.Reads.Post
+eight κs a x y u v p q = (agree p q, refl)
+
 pub lay : OneOutcome fn.lay.ended fn.lay.Reads.Post
 lay κs a x y u v p q = (refl, agree p q ∥ refl)
 

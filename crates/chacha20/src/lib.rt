@@ -6,7 +6,7 @@ ghost use mathlib.Core.Path.{_≡_};
 ghost use Prim.Native.Nat.{_+_, _-_, _*_, _<_, _≤_, min};
 ghost use lib.ListN.{length};
 ghost use lib.Seq.{sets};
-ghost use Rattle.chacha20.specs.ChaCha20.{quarter, fromDiagonals, doubleRound, twentyRounds, added, start, blockFrom, blockOf, encrypted};
+ghost use Rattle.chacha20.specs.ChaCha20.{quarter, fromDiagonals, doubleRound, twentyRounds, added, start, blockFrom, blockOf, keystream, encrypted};
 ghost use Rattle.words.specs.Le.{wordsOf, serialised};
 
 // Four words of a state.
@@ -156,6 +156,14 @@ pub fn block(key: [u8; 32], nonce: [u8; 12], counter: u32) -> [u8; 64]
 {
     let s = start_state(key, nonce, counter);
     block_from(s)
+}
+
+// Eight blocks one after the other, from block `counter` on.
+pub fn eight(key: [u8; 32], nonce: [u8; 12], counter: u32) -> [u8; 512]
+    ensures { λ r. ⌜ r ≡ keystream key nonce counter 8 ⌝ }
+{
+    let s = start_state(key, nonce, counter);
+    lanes::eight_blocks(s)
 }
 
 // How many bytes the block at `at` is laid over: 64, or what is left.

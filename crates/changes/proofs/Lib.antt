@@ -11,3 +11,4 @@ pub mod SpanLaws
 pub mod SweepLaws
 pub mod Exact
 pub mod AnswerLaws
+pub mod Relaid

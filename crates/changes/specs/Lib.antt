@@ -3,3 +3,4 @@ pub mod Change
 pub mod Write
 pub mod Rekey
 pub mod First
+pub mod Relaid

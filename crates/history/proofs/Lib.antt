@@ -20,3 +20,4 @@ pub mod Columns
 pub mod Told
 pub mod Complete
 pub mod Old
+pub mod Relaid

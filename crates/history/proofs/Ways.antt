@@ -1,16 +1,13 @@
 -- The ways and the new contents of a write and of a sweep.
 use mathlib.Core.Path.{_≡_, refl, sym, ap, _∙_}
 use mathlib.Core.Bool.{true, false}
-use mathlib.Core.Logic.{_⊎_, inl, inr}
 use mathlib.Core.List.{List}
-use Prim.Native.Nat.{ℕ, _+_, _^_, _<_, _≤_, max, min}
-use native.Mathlib.Omega.{arith}
-use lib.Dec.{eqb, leb, ltb}
+use Prim.Native.Nat.{ℕ, _^_, _<_}
+use lib.Dec.{eqb}
 use lib.ListN.{length, getD}
-use borrow.Author.Tests.{leb-true, ltb-true, lt-ltb}
-use Rattle.base.specs.Pick.{both}
+use borrow.Author.Tests.{lt-ltb}
 use Rattle.base.specs.Lists.{tab}
-use Rattle.base.proofs.PickLaws.{no, told, clash, both-left, both-right, both-on}
+use Rattle.base.proofs.PickLaws.{no, both-on}
 use Rattle.base.proofs.TabLaws.{getD-tab, tab-ext}
 use Rattle.layout.specs.declared.Shape.{Shape}
 use Rattle.layout.specs.Spots.{offsetAt}
@@ -27,6 +24,7 @@ use Rattle.changes.specs.Change.{padsFor, settled}
 use Rattle.changes.specs.Write.{writeWay, newContents, writeWork, writtenDrive}
 use Rattle.changes.specs.Rekey.{sweepWays, sweepWork, sweptDrive}
 use Rattle.changes.proofs.AnswerLaws.{Moves, Granted}
+use Rattle.changes.proofs.Relaid.{missed-byte}
 use Rattle.ledger.proofs.TurnLaws.{sweep-fits, write-fits}
 use Rattle.history.specs.World.{World}
 use Rattle.history.specs.Step.{worldAfter}
@@ -45,18 +43,6 @@ written-plain s o bytes n f contents =
     (λ b h. ap (λ (was : ℕ). over o bytes (offsetAt s n f b) was) (getD-tab (s .f) (λ i. contents (offsetAt s n f i)) b 0 h))
 
 -- a flake that the range doesn't meet keeps each byte
-missed-byte : (s : Shape) (o len n f b : ℕ) → meets s o len n f ≡ false → b < s .f → both (leb o (offsetAt s n f b)) (ltb (offsetAt s n f b) (o + len)) ≡ false
-unfolding meets
-missed-byte s o len n f b off h = go (told (both (leb o (offsetAt s n f b)) (ltb (offsetAt s n f b) (o + len))))
-  where
-    go : (both (leb o (offsetAt s n f b)) (ltb (offsetAt s n f b) (o + len)) ≡ true) ⊎ (both (leb o (offsetAt s n f b)) (ltb (offsetAt s n f b) (o + len)) ≡ false)
-        → both (leb o (offsetAt s n f b)) (ltb (offsetAt s n f b) (o + len)) ≡ false
-    go (inl e) =
-        let low : o ≤ offsetAt s n f b = leb-true o (offsetAt s n f b) (both-left (leb o (offsetAt s n f b)) _ e) in
-        let high : offsetAt s n f b < o + len = ltb-true (offsetAt s n f b) (o + len) (both-right (leb o (offsetAt s n f b)) _ e) in
-        absurd (clash (lt-ltb (max o (offsetAt s n f 0)) (min (o + len) (offsetAt s n f (s .f))) (omega (arith, low, high, h))) off)
-    go (inr e) = e
-
 missed-plain : (s : Shape) (o : ℕ) (bytes : List ℕ) (n f : ℕ) (contents : ℕ → ℕ) → meets s o (length bytes) n f ≡ false
     → plainIn s (λ a. over o bytes a (contents a)) n f ≡ plainIn s contents n f
 unfolding plainIn

@@ -4,3 +4,4 @@ pub mod History
 pub mod Demands
 pub mod Pads
 pub mod Answers
+pub mod Relaid

@@ -1,6 +1,7 @@
 pub mod HashLaws
 pub mod KeyLaws
 pub mod PadLaws
+pub mod StreamLaws
 pub mod TagLaws
 pub mod Stretches
 pub mod Outcomes

@@ -16,14 +16,11 @@ check-of κs a x y u v p q = (agree p q, refl)
 pub seal-of : OneOutcome fn.seal_of.ended fn.seal_of.Reads.Post
 seal-of κs a x y u v p q = (agree p q, refl)
 
-pub nonce-of : OneOutcome fn.nonce_of.ended fn.nonce_of.Reads.Post
-nonce-of κs a x y u v p q = (agree p q, refl)
+pub lay-from : OneOutcome fn.lay_from.ended fn.lay_from.Reads.Post
+lay-from κs a x y u v p q = (refl, agree p q ∥ refl)
 
-pub lay-pad : OneOutcome fn.lay_pad.ended fn.lay_pad.Reads.Post
-lay-pad κs a x y u v p q = (refl, agree p q ∥ refl)
+pub pad-from : OneOutcome fn.pad_from.ended fn.pad_from.Reads.Post
+pad-from κs a x y u v p q = (agree p q, refl)
 
 pub tag-of : OneOutcome fn.tag_of.ended fn.tag_of.Reads.Post
 tag-of κs a x y u v p q = (agree p q, refl)
-
-pub encipher : OneOutcome fn.encipher.ended fn.encipher.Reads.Post
-encipher κs a x y u v p q = (agree (p .0) (q .0), agree (p .1) (q .1) ∥ refl)

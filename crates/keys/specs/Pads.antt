@@ -3,7 +3,7 @@
 use mathlib.Core.Path.{_≡_}
 use mathlib.Core.List.{List, _++_}
 use Prim.Native.Nat.{ℕ, _+_, _*_, _/_, _%_, _^_, _<_, _≤_}
-use lib.ListN.{take, replicate}
+use lib.ListN.{take, drop, replicate}
 use Rattle.words.specs.Le.{le}
 use Rattle.words.specs.Xor.{xorl}
 use Rattle.chacha20.specs.ChaCha20.{blockOf, keystream, blocks}
@@ -20,6 +20,10 @@ firstBlock size f = f * size / 64
 -- "F bytes of ChaCha20 keystream"
 unfoldable pub padOf : Lock → ℕ → ℕ → List ℕ
 padOf lock f size = take size (keystream (lock .key) (nonceOf (lock .keycount)) (firstBlock size f) (blocks size))
+
+-- 512 bytes for it, from its byte b on: zeros with what is left of it laid over
+unfoldable pub padFrom : Lock → ℕ → ℕ → ℕ → List ℕ
+padFrom lock f size b = xorl (replicate 512 0) (drop b (padOf lock f size))
 
 -- "Stored flake = contents xor pad."
 abbrev pub under : Lock → ℕ → ℕ → List ℕ → List ℕ

@@ -2,10 +2,8 @@
 use mathlib.Core.List.{List}
 use Prim.Native.Nat.{ℕ}
 use Rattle.poly1305.specs.Poly1305.{poly1305}
-use lib.ListN.{length}
 use Rattle.keys.specs.declared.Lock.{Lock}
 use Rattle.keys.specs.Keys.{tagKey}
-use Rattle.keys.specs.Pads.{under}
 
 -- the bytes that Poly1305 is given: "over the stored flake"
 unfoldable pub covered : List ℕ → List ℕ
@@ -13,7 +11,3 @@ covered stored = stored
 
 unfoldable pub tagOf : Lock → ℕ → List ℕ → List ℕ
 tagOf lock f stored = poly1305 (tagKey lock f) (covered stored)
-
--- the tag of a flake whose contents these are: "over the stored flake", never over the contents
-unfoldable pub tagUnder : Lock → ℕ → List ℕ → List ℕ
-tagUnder lock f contents = tagOf lock f (under lock f (length contents) contents)

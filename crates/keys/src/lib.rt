@@ -2,13 +2,14 @@
 // It touches `base`, `words`, `messages`, `chacha20`, `poly1305` and `blake2s`; no flake is copied, and no secret is kept.
 ghost use mathlib.Core.Path.{_≡_};
 ghost use mathlib.Core.List.{_∷_, _++_};
-ghost use Prim.Native.Nat.{_<_, _≤_};
-ghost use lib.ListN.{length};
+ghost use Prim.Native.Nat.{_+_, _/_, _%_, _^_, _<_, _≤_};
+ghost use lib.ListN.{length, drop};
 ghost use Rattle.words.specs.Xor.{xorl};
+ghost use Rattle.chacha20.specs.ChaCha20.{keystream, blocks};
 ghost use Rattle.blake2s.specs.Hash.{blake2s};
 ghost use Rattle.keys.specs.Keys.{nuggetKey, tagKey, checkOf, sealOf};
-ghost use Rattle.keys.specs.Pads.{nonceOf, firstBlock, padOf, under};
-ghost use Rattle.keys.specs.Tags.{tagOf, tagUnder};
+ghost use Rattle.keys.specs.Pads.{nonceOf, firstBlock, padOf, padFrom};
+ghost use Rattle.keys.specs.Tags.{tagOf};
 
 // Under what a nugget's flakes lie: the nugget, its key, its keycount. Pads and tags are functions of it.
 pub struct Lock {
@@ -63,7 +64,7 @@ pub fn seal_of(secret: [u8; 32], front: &[u8], node: &[u8]) -> [u8; 32]
 }
 
 // "nonce of four zero bytes then the keycount"
-pub fn nonce_of(k: u64) -> [u8; 12]
+fn nonce_of(k: u64) -> [u8; 12]
     ensures { λ r. ⌜ r ≡ nonceOf k ⌝ }
 {
     let mut r = [0u8; 12];
@@ -71,22 +72,67 @@ pub fn nonce_of(k: u64) -> [u8; 12]
     r
 }
 
-fn first_block(size: usize, f: u32) -> u32
-    requires { ⌜ (size ≤ 4096) × (f < 64) ⌝ }
-    ensures { λ r. ⌜ r ≡ firstBlock size f ⌝ }
+// The block of the pad of flake f that byte b lies in.
+fn block_of(size: usize, f: u32, b: usize) -> u32
+    requires { ⌜ (size ≤ 4096) × (f < 64) × (b ≤ size) ⌝ }
+    ensures { λ r. ⌜ (r ≡ firstBlock size f + b / 64) × (r < 2 ^ 20) ⌝ }
 {
-    (f as usize * size / 64) as u32
+    (f as usize * size / 64 + b / 64) as u32
 }
 
-// The pad of flake f laid over a lent flake: over contents it makes the stored flake, over that the contents.
-pub fn lay_pad(flake: &mut [u8], lock: Lock, f: u32)
-    requires { ⌜ (length (now flake) ≤ 4096) × (f < 64) ⌝ }
-    ensures { λ _. ⌜ now (flake .exit) ≡ xorl (now (flake .entry)) (padOf lock f (length (now (flake .entry)))) ⌝ }
+// Keystream from byte `skip` of a block on laid over d: the first block by 64 bytes of scratch, whole blocks where they stand.
+fn lay_skewed(d: &mut [u8], key: [u8; 32], nonce: [u8; 12], block: u32, skip: usize)
+    requires { ⌜ (skip < 64) × (block < 2 ^ 20) ⌝ }
+    ensures { λ _. ⌜ now (d .exit) ≡ xorl (now (d .entry)) (drop skip (keystream key nonce block (blocks (skip + length (now (d .entry)))))) ⌝ }
+{
+    let n = 64 - skip;
+    let first = chacha20::block(key, nonce, block);
+    if d.len() <= n {
+        words::xor(&mut *d, &first[skip..64]);
+        return;
+    }
+    words::xor(&mut d[0..n], &first[skip..64]);
+    chacha20::lay(&mut d[n..], key, nonce, block + 1);
+}
+
+// The same; from a block's first byte on all of it is laid where it stands.
+fn lay_stream(d: &mut [u8], key: [u8; 32], nonce: [u8; 12], block: u32, skip: usize)
+    requires { ⌜ (skip < 64) × (block < 2 ^ 20) ⌝ }
+    ensures { λ _. ⌜ now (d .exit) ≡ xorl (now (d .entry)) (drop skip (keystream key nonce block (blocks (skip + length (now (d .entry)))))) ⌝ }
+{
+    if skip == 0 {
+        chacha20::lay(&mut *d, key, nonce, block);
+    } else {
+        lay_skewed(&mut *d, key, nonce, block, skip);
+    }
+}
+
+// The pad of flake f from its byte b on laid over d, a piece of the flake: over contents it makes the stored bytes, over those the contents.
+pub fn lay_from(d: &mut [u8], lock: Lock, size: usize, f: u32, b: usize)
+    requires { ⌜ (size ≤ 4096) × (f < 64) × (b + length (now d) ≤ size) ⌝ }
+    ensures { λ _. ⌜ now (d .exit) ≡ xorl (now (d .entry)) (drop b (padOf lock f size)) ⌝ }
 {
     let key = lock.key;
     let nonce = nonce_of(lock.keycount);
-    let first = first_block(flake.len(), f);
-    chacha20::lay(flake, key, nonce, first);
+    let block = block_of(size, f, b);
+    lay_stream(d, key, nonce, block, b % 64);
+}
+
+// 512 bytes of scratch: the pad of flake f from its byte b on, and zeros behind its end. Eight blocks at once where it reaches so far.
+pub fn pad_from(lock: Lock, size: usize, f: u32, b: usize) -> [u8; 512]
+    requires { ⌜ (size ≤ 4096) × (f < 64) × (b ≤ size) × (b % 64 ≡ 0) ⌝ }
+    ensures { λ r. ⌜ r ≡ padFrom lock f size b ⌝ }
+{
+    let n = size - b;
+    if 512 <= n {
+        let key = lock.key;
+        let nonce = nonce_of(lock.keycount);
+        let block = block_of(size, f, b);
+        return chacha20::eight(key, nonce, block);
+    }
+    let mut r = [0u8; 512];
+    lay_from(&mut r[0..n], lock, size, f, b);
+    r
 }
 
 pub fn tag_of(stored: &[u8], lock: Lock, f: u32) -> [u8; 16]
@@ -96,13 +142,4 @@ pub fn tag_of(stored: &[u8], lock: Lock, f: u32) -> [u8; 16]
     let s = poly1305::start(t);
     let a = poly1305::absorb(s, stored);
     poly1305::finish(a)
-}
-
-// Contents become the stored flake where they lie; the tag is over what is stored.
-pub fn encipher(flake: &mut [u8], lock: Lock, f: u32) -> [u8; 16]
-    requires { ⌜ (length (now flake) ≤ 4096) × (f < 64) ⌝ }
-    ensures { λ r. ⌜ (r ≡ tagUnder lock f (now (flake .entry))) × (now (flake .exit) ≡ under lock f (length (now (flake .entry))) (now (flake .entry))) ⌝ }
-{
-    lay_pad(&mut *flake, lock, f);
-    tag_of(flake, lock, f)
 }

@@ -1,16 +1,14 @@
 -- One flake laid anew in the volume, and the flakes of a nugget in turn.
 use mathlib.Core.Path.{_≡_, refl, ap, sym, _∙_}
-use mathlib.Core.Logic.{_⊎_, ⊎-elim}
 use mathlib.Core.Bool.{Bool, true, false}
 use mathlib.Core.List.{List}
 use Prim.Native.Nat.{ℕ, _+_, _-_, _<_, _≤_}
 use native.Mathlib.Nat.{mul-le-mul-right}
 use native.Mathlib.Numerals.{add-one}
 use native.Mathlib.Omega.{arith}
-use lib.ListN.{length, getD, length-replicate}
+use lib.ListN.{length, getD}
 use lib.Seq.{sets}
 use borrow.Rule.Slice.PartMut.{midOf, putMid}
-use Rattle.base.proofs.PickLaws.{told, yes, no}
 use Rattle.base.proofs.PartLaws.{length-part, back}
 use Rattle.base.proofs.TabLaws.{tab-ext, length-tab}
 use Rattle.layout.specs.declared.Shape.{Shape}
@@ -25,9 +23,9 @@ use Rattle.records.specs.Rule.{enciphered, turned}
 use Rattle.records.specs.Listing.{padsOf, padsBy}
 use Rattle.keys.specs.declared.Lock.{Lock}
 use Rattle.keys.specs.Pads.{under}
-use Rattle.keys.specs.Tags.{tagOf, tagUnder}
+use Rattle.keys.specs.Tags.{tagOf}
 use Rattle.drive.specs.declared.Drive.{Drive}
-use Rattle.drive.specs.Drive.{shapeOf, zeros}
+use Rattle.drive.specs.Drive.{shapeOf}
 use Rattle.nuggets.specs.declared.Nugget.{Nugget}
 use Rattle.nuggets.specs.Nugget.{lockBy, nuggetOf, contentsIn, contentsOf, storedIn}
 use Rattle.nuggets.proofs.PieceLaws.{length-contents}
@@ -35,34 +33,8 @@ use Rattle.changes.specs.Laid.{over, written, laidFlake, laidEntry, laid}
 use Rattle.changes.specs.Write.{newContents}
 use Rattle.changes.proofs.LaidLaws.{laid-append, length-laid, length-under, Long}
 use Rattle.changes.proofs.PadsLaws.{laid-stored, before-far}
-use Rattle.laying.specs.Flake.{openedFlake, overlaid, anew, readied}
-use Rattle.laying.proofs.OverLaws.{length-overlaid, readied-same}
+use Rattle.relaying.specs.Flake.{openedFlake, overlaid, anew}
 use Rattle.records.specs.Record.{recordOf}
-
--- a present flake, and an absent one
-module _ (g : Nugget) (f : ℕ) (l : List ℕ) where
-  pub opened-in : {w : List ℕ} → bit (g .held) f ≡ true → w ≡ under (g .lock) f (length l) l → w ≡ openedFlake g f l
-  unfolding openedFlake
-  opened-in h e = e ∙ sym (yes _ h refl)
-
-  pub opened-out : {w : List ℕ} → bit (g .held) f ≡ false → w ≡ zeros (length l) → w ≡ openedFlake g f l
-  unfolding openedFlake
-  opened-out h e = e ∙ sym (no _ h refl)
-
-length-opened : (g : Nugget) (f : ℕ) (l : List ℕ) → length (openedFlake g f l) ≡ length l
-unfolding openedFlake
-length-opened g f l =
-    ⊎-elim (λ here. rw here (length-under (g .lock) f (length l) l refl)) (λ gone. rw gone (length-replicate (length l) 0)) (told (bit (g .held) f))
-
--- readied, laid over and enciphered
-pub anew-is : (g : Nugget) (lock : Lock) (f start o : ℕ) (bytes l : List ℕ) {a b c t : List ℕ}
-    → a ≡ readied g f start o (length bytes) l → b ≡ overlaid start o bytes a
-    → t ≡ tagUnder lock f b → c ≡ under lock f (length b) b
-    → (t ≡ tagUnder lock f (anew g f start o bytes l)) × (c ≡ under lock f (length l) (anew g f start o bytes l))
-anew-is g lock f start o bytes l {a} {b} ea eb et ec =
-    let e : b ≡ anew g f start o bytes l = eb ∙ ap (λ (x : List ℕ). overlaid start o bytes x) ea ∙ readied-same g f start o bytes l (length-opened g f l) in
-    let long : length b ≡ length l = rw e (length-overlaid start o bytes (openedFlake g f l) ∙ length-opened g f l) in
-    (et ∙ ap (λ (x : List ℕ). tagUnder lock f x) e, ec ∙ rw long (ap (λ (x : List ℕ). under lock f (length l) x) e))
 
 -- a flake and its tag lie in the volume, and its offsets below N P F
 module _ (s : Shape) (v : List ℕ) (n f : ℕ) (lent : Shaped s v) (a : n < s .n) (b : f < s .p) where
@@ -115,9 +87,9 @@ module _ (s : Shape) (v : List ℕ) (g : Nugget) (lock : Lock) (f o : ℕ) (byte
   pub flake-laid : Shaped s v → lock .number < s .n → f < s .p → (at start tag : ℕ) {z t w : List ℕ}
       → at ≡ flakeAt s (lock .number) f → start ≡ offsetAt s (lock .number) f 0 → tag ≡ tagAt s (lock .number) f
       → z ≡ under lock f (length (midOf at (at + s .f - at) v)) (anew g f start o bytes (midOf at (at + s .f - at) v))
-      → t ≡ tagUnder lock f (anew g f start o bytes (midOf at (at + s .f - at) v))
+      → t ≡ tagOf lock f (under lock f (length (midOf at (at + s .f - at) v)) (anew g f start o bytes (midOf at (at + s .f - at) v)))
       → w ≡ sets (putMid at (at + s .f - at) v z) tag t → w ≡ laidFlake s lock f new v
-  unfolding laidFlake tagUnder
+  unfolding laidFlake
   flake-laid lent a b at start tag {z} {t} p q r ez et ew =
       let m = midOf at (at + s .f - at) v in
       let room : at + s .f ≤ length v = rw p (flake-room s v (lock .number) f lent a b) in
@@ -126,7 +98,7 @@ module _ (s : Shape) (v : List ℕ) (g : Nugget) (lock : Lock) (f o : ℕ) (byte
       let wide : length new ≡ s .f = length-written s o bytes (lock .number) f (contentsIn s v g f) in
       let fresh : anew g f start o bytes m ≡ new = anew-written lent a b at start p q in
       let stored : z ≡ under lock f (s .f) new = ez ∙ rw (long, fresh) in
-      let tagged : t ≡ tagOf lock f (under lock f (s .f) new) = et ∙ rw (fresh, wide) in
+      let tagged : t ≡ tagOf lock f (under lock f (s .f) new) = et ∙ rw (long, fresh) in
       let full : length z ≡ s .f = rw stored (length-under lock f (s .f) new wide) in
       let put : putMid at (at + s .f - at) v z ≡ sets v at z = rw size (back at (s .f) v z room full) in
       ew ∙ rw (put, stored, tagged, p, r)

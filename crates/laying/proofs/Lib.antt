@@ -1,4 +1,3 @@
-pub mod OverLaws
 pub mod FlakeLaws
 pub mod ChangeLaws
 pub mod Outcomes

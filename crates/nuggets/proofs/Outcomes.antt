@@ -19,14 +19,11 @@ flakes κs a x y u v p q = (agree p q, refl)
 pub test-path : OneOutcome fn.test_path.ended fn.test_path.Reads.Post
 test-path κs a x y u v p q = (agree p q, refl)
 
-pub test-read : OneOutcome fn.test_read.ended fn.test_read.Reads.Post
-test-read κs a x y u v p q = (agree p q, refl)
-
 pub smaller : OneOutcome fn.smaller.ended fn.smaller.Reads.Post
 smaller κs a x y u v p q = (agree p q, refl)
 
-pub lay-from : OneOutcome fn.lay_from.ended fn.lay_from.Reads.Post
-lay-from κs a x y u v p q = (refl, agree p q ∥ refl)
+pub test-read : OneOutcome fn.test_read.ended fn.test_read.Reads.Post
+test-read κs a x y u v p q = (agree p q, refl)
 
 pub piece : OneOutcome fn.piece.ended fn.piece.Reads.Post
 piece κs a x y u v p q = (refl, refl ∥ refl ∥ refl ∥ refl ∥ refl ∥ agree p q ∥ refl)

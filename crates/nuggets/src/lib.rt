@@ -1,5 +1,5 @@
 // One nugget of a lent volume: its key, its tests, what its flakes read as, and which of them a range touches.
-// It touches `chacha20` and `keys` for pads and tags, `tree` for paths, `records`, `layout`, `drive`, `words` and `answers`.
+// It touches `keys` for pads and tags, `tree` for paths, `records`, `layout`, `drive`, `words` and `answers`.
 use answers::Answer;
 use answers::Place;
 use drive::Drive;
@@ -8,13 +8,10 @@ use layout::Shape;
 ghost use mathlib.Core.Path.{_≡_};
 ghost use mathlib.Core.Bool.{true};
 ghost use Prim.Native.Nat.{_+_, _-_, _<_, _≤_, _^_, _/_, min};
-ghost use lib.ListN.{length, drop};
+ghost use lib.ListN.{length};
 ghost use Rattle.base.specs.Lists.{part};
-ghost use Rattle.words.specs.Xor.{xorl};
-ghost use Rattle.chacha20.specs.ChaCha20.{keystream, blocks};
 ghost use Rattle.layout.specs.Shape.{inLimits};
 ghost use Rattle.layout.specs.Spots.{capacity};
-ghost use Rattle.keys.specs.Pads.{firstBlock, padOf, Size};
 ghost use Rattle.drive.specs.Drive.{shapeOf};
 ghost use Rattle.nuggets.specs.Nugget.{secretFor, lockBy, nuggetOf, contentsIn};
 ghost use Rattle.nuggets.specs.Tests.{goodFlake, passes, flakesTested, pathFor, nuggetRead};
@@ -138,14 +135,6 @@ pub fn test_read(d: Drive, vol: &[u8], n: u32, touched: u64) -> Answer
     a
 }
 
-// The block of the pad of flake f that byte b lies in.
-fn block_of(size: usize, f: u32, b: usize) -> u32
-    requires { ⌜ (size ≤ 4096) × (f < 64) × (b ≤ size) ⌝ }
-    ensures { λ r. ⌜ (r ≡ firstBlock size f + b / 64) × (r < 2 ^ 20) ⌝ }
-{
-    (f as usize * size / 64 + b / 64) as u32
-}
-
 // The lesser of two lengths.
 pub fn smaller(a: usize, b: usize) -> usize
     ensures { λ r. ⌜ r ≡ min a b ⌝ }
@@ -160,40 +149,6 @@ fn less(a: usize, b: usize) -> usize
     if a < b { 0 } else { a - b }
 }
 
-// Keystream from byte `skip` of a block on laid over d: the first block by 64 bytes of scratch, whole blocks where they stand.
-fn lay_skewed(d: &mut [u8], key: [u8; 32], nonce: [u8; 12], block: u32, skip: usize)
-    requires { ⌜ (skip < 64) × (block < 2 ^ 20) ⌝ }
-    ensures { λ _. ⌜ now (d .exit) ≡ xorl (now (d .entry)) (drop skip (keystream key nonce block (blocks (skip + length (now (d .entry)))))) ⌝ }
-{
-    let n = smaller(d.len(), 64 - skip);
-    let first = chacha20::block(key, nonce, block);
-    words::xor(&mut d[0..n], &first[skip..64]);
-    chacha20::lay(&mut d[n..], key, nonce, block + 1);
-}
-
-// The same; from a block's first byte on all of it is laid where it stands.
-fn lay_stream(d: &mut [u8], key: [u8; 32], nonce: [u8; 12], block: u32, skip: usize)
-    requires { ⌜ (skip < 64) × (block < 2 ^ 20) ⌝ }
-    ensures { λ _. ⌜ now (d .exit) ≡ xorl (now (d .entry)) (drop skip (keystream key nonce block (blocks (skip + length (now (d .entry)))))) ⌝ }
-{
-    if skip == 0 {
-        chacha20::lay(&mut *d, key, nonce, block);
-    } else {
-        lay_skewed(&mut *d, key, nonce, block, skip);
-    }
-}
-
-// The pad of flake f from its byte b on laid over d, a piece of the flake.
-pub fn lay_from(d: &mut [u8], lock: Lock, size: usize, f: u32, b: usize)
-    requires { ⌜ Size size × (f < 64) × (b + length (now d) ≤ size) ⌝ }
-    ensures { λ _. ⌜ now (d .exit) ≡ xorl (now (d .entry)) (drop b (padOf lock f size)) ⌝ }
-{
-    let key = lock.key;
-    let nonce = keys::nonce_of(lock.keycount);
-    let block = block_of(size, f, b);
-    lay_stream(d, key, nonce, block, b % 64);
-}
-
 // The contents of flake f from its byte b on, as many as the buffer takes: "Absent flakes give zeros."
 pub fn piece(vol: &[u8], s: Shape, g: Nugget, f: u32, b: usize, buf: &mut [u8])
     requires { ⌜ Shaped s (now vol) × (g .lock .number < s .n) × (f < s .p) × (b + length (now buf) ≤ s .f) ⌝ }
@@ -204,7 +159,7 @@ pub fn piece(vol: &[u8], s: Shape, g: Nugget, f: u32, b: usize, buf: &mut [u8])
         let at = layout::flake_at(s, lock.number, f) + b;
         let end = at + buf.len();
         words::copy(&mut *buf, 0, &vol[at..end]);
-        lay_from(&mut *buf, lock, s.f as usize, f, b);
+        keys::lay_from(&mut *buf, lock, s.f as usize, f, b);
     } else {
         words::clear(&mut *buf);
     }

@@ -69,7 +69,8 @@ pub extern "C" fn ngt_lay_pad(flake: &mut [u8], key: &[u8; 32], k: u64, f: u32)
                 key: *key,
                 keycount: k,
             };
-            keys::lay_pad(flake, lock, f);
+            let size = flake.len();
+            keys::lay_from(flake, lock, size, f, 0);
         }
     }
 }

@@ -15,7 +15,7 @@ use borrow.Author.Tests.{eq-eqb, ne-eqb, lt-ltb, ltb-true, ltb-false}
 use Rattle.base.specs.Lists.{part}
 use Rattle.base.specs.Pick.{pick}
 use Rattle.base.proofs.PickLaws.{told, clash}
-use Rattle.base.proofs.PartLaws.{take-sets, drop-sets}
+use Rattle.base.proofs.PartLaws.{take-sets, drop-sets, part-sets}
 use Rattle.words.specs.Le.{num, le, Bytes}
 use Rattle.words.proofs.LeLaws.{length-le}
 use Rattle.layout.specs.declared.Shape.{Shape}
@@ -52,26 +52,27 @@ sets-over l at a b same room =
     sets-eq b (sets l at a) at (rw (length-sets l at a) room)
     ∙ rw (take-sets at l at a (omega arith), drop-sets (at + length b) l at a (omega (arith, same))) (sym (sets-eq b l at room))
 
--- the stores of the code: the held mask 10 bytes before the end, which in version 1 is the other's place
-pub record-stores : (s : Shape) (v : List ℕ) (at : ℕ) (r : Record) {w : ℕ} {a b d e : List ℕ} → at + widthOf s ≤ length v → w ≡ widthOf s
-    → a ≡ sets v at (le 8 (r .keycount)) → b ≡ sets a (at + 8) (le 8 (r .spent)) → d ≡ sets b (at + w - 10) (le 8 (r .held)) → e ≡ sets d (at + w - 2) (le 2 (r .epoch))
-    → e ≡ sets v at (recordBytes s r)
+-- as the code makes it in scratch: the held mask 10 bytes before the end, which in version 1 is the other's place
+pub record-made : (s : Shape) (r : Record) (z : List ℕ) {w : ℕ} {a b d e : List ℕ} → length z ≡ 26 → w ≡ widthOf s
+    → a ≡ sets z 0 (le 8 (r .keycount)) → b ≡ sets a 8 (le 8 (r .spent)) → d ≡ sets b (w - 10) (le 8 (r .held)) → e ≡ sets d (w - 2) (le 2 (r .epoch))
+    → part 0 (w - 0) e ≡ recordBytes s r
 unfolding recordBytes widthOf
-record-stores s v at r room ew ea eb ed ee = rw (ee, ed, eb, ea, ew) (go (isOne s) room)
+record-made s r z long ew ea eb ed ee = rw (ee, ed, eb, ea, ew) (go (isOne s))
   where
-    go : (one : Bool) → at + pick one 18 26 ≤ length v
-        → sets (sets (sets (sets v at (le 8 (r .keycount))) (at + 8) (le 8 (r .spent))) (at + pick one 18 26 - 10) (le 8 (r .held))) (at + pick one 18 26 - 2) (le 2 (r .epoch))
-        ≡ sets v at (row (recordRow one) (recordValues one r))
-    go true h =
-        let p : at + 18 - 10 ≡ at + 8 = omega arith in
-        let q : at + 18 - 2 ≡ at + 16 = omega arith in
-        let over = sets-over (sets v at (le 8 (r .keycount))) (at + 8) (le 8 (r .spent)) (le 8 (r .held)) (length-le 8 (r .spent) ∙ sym (length-le 8 (r .held)))
-        (omega (arith, h, length-le 8 (r .held), length-sets v at (le 8 (r .keycount)))) in
-        rw (p, q, over) (row-stored (recordRow true) at v (recordValues true r) (all-wide true r))
-    go false h =
-        let p : at + 26 - 10 ≡ at + 16 = omega arith in
-        let q : at + 26 - 2 ≡ at + 24 = omega arith in
-        rw (p, q) (row-stored (recordRow false) at v (recordValues false r) (all-wide false r))
+    front : (one : Bool) → pick one 18 26 ≤ 26 → part 0 (pick one 18 26) (sets z 0 (row (recordRow one) (recordValues one r))) ≡ row (recordRow one) (recordValues one r)
+    front one h =
+        part-sets z 0 (pick one 18 26) (row (recordRow one) (recordValues one r))
+        (length-row (recordRow one) (recordValues one r) (all-wide one r) ∙ width-is one) (omega (arith, h, long))
+
+    go : (one : Bool) → part 0 (pick one 18 26 - 0) (sets (sets (sets (sets z 0 (le 8 (r .keycount))) 8 (le 8 (r .spent))) (pick one 18 26 - 10) (le 8 (r .held))) (pick one 18 26 - 2) (le 2 (r .epoch)))
+        ≡ row (recordRow one) (recordValues one r)
+    go true =
+        let over = sets-over (sets z 0 (le 8 (r .keycount))) 8 (le 8 (r .spent)) (le 8 (r .held)) (length-le 8 (r .spent) ∙ sym (length-le 8 (r .held)))
+        (omega (arith, long, length-le 8 (r .held), length-sets z 0 (le 8 (r .keycount)))) in
+        ap (λ (x : List ℕ). part 0 18 (sets x 16 (le 2 (r .epoch)))) over
+        ∙ ap (λ (x : List ℕ). part 0 18 x) (row-stored (recordRow true) 0 z (recordValues true r) (all-wide true r))
+        ∙ front true (omega arith)
+    go false = ap (λ (x : List ℕ). part 0 26 x) (row-stored (recordRow false) 0 z (recordValues false r) (all-wide false r)) ∙ front false (omega arith)
 
 -- and its loads
 pub record-loads : (s : Shape) (v : List ℕ) (at : ℕ) {w k m h e : ℕ} → w ≡ widthOf s → k ≡ num (part at 8 v) → m ≡ num (part (at + 8) 8 v) → h ≡ num (part (at + w - 10) 8 v)

@@ -63,7 +63,7 @@ fn read_at(vol: &[u8], s: Shape, at: usize) -> Record
     }
 }
 
-// The record's bytes laid at `at`.
+// The record's bytes laid at `at`, each once. They are made in scratch, where version 1 has one place for both masks.
 fn store_at(vol: &mut [u8], s: Shape, at: usize, r: Record)
     requires { ⌜ at + widthOf s ≤ length (now vol) ⌝ }
     ensures { λ _. ⌜ now (vol .exit) ≡ sets (now (vol .entry)) at (recordBytes s r) ⌝ }
@@ -72,11 +72,13 @@ fn store_at(vol: &mut [u8], s: Shape, at: usize, r: Record)
     let spent = r.spent;
     let held = r.held;
     let epoch = r.epoch;
-    let end = at + layout::width_of(s);
-    words::store(&mut *vol, at, 8, keycount);
-    words::store(&mut *vol, at + 8, 8, spent);
-    words::store(&mut *vol, end - 10, 8, held);
-    words::store(&mut *vol, end - 2, 2, epoch as u64);
+    let width = layout::width_of(s);
+    let mut made = [0u8; 26];
+    words::store(&mut made, 0, 8, keycount);
+    words::store(&mut made, 8, 8, spent);
+    words::store(&mut made, width - 10, 8, held);
+    words::store(&mut made, width - 2, 2, epoch as u64);
+    words::copy(&mut *vol, at, &made[0..width]);
 }
 
 // Whether flake f is in the journal. No shift reaches 64, so a flake past 63 has its own answer.

@@ -1,2 +1,4 @@
 pub mod WorkLaws
 pub mod CallLaws
+pub mod OnceLaws
+pub mod Once

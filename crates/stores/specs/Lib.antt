@@ -1,3 +1,4 @@
 pub mod Store
 pub mod Work
 pub mod Calls
+pub mod Once

@@ -67,7 +67,7 @@ cast-lay-from c = search needs
 lay-from-requires : tie.Need-lay-from-requires
 lay-from-requires c κs =
     let m = limits (c .before .before .before .before .before .before .before .before .before .before .before .before .before .args .s) (c .before .before .before .before .before .before .before .before .before .before .before .before .before .pre .0 .limited) in
-    (record { least = m .wide; most = m .short; whole = m .whole }, omega (arith, c .before .before .before .before .before .before .before .before .before .before .before .before .before .pre .2, m .narrow), omega (arith, c .before .before .before .before .copy .kept .0, c .before .before .before .before .before .before .before .before .before .before .before .before .before .pre .3))
+    (m .short, omega (arith, c .before .before .before .before .before .before .before .before .before .before .before .before .before .pre .2, m .narrow), omega (arith, c .before .before .before .before .copy .kept .0, c .before .before .before .before .before .before .before .before .before .before .before .before .before .pre .3))
 
 clear-requires : tie.Need-clear-requires
 clear-requires c κs = search needs

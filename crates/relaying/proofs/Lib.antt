@@ -1,0 +1,4 @@
+pub mod Zones
+pub mod RelayLaws
+pub mod AnewLaws
+pub mod Outcomes
