@@ -1,9 +1,9 @@
 /* The drive for hosts in C: link libngt.a, which `rt staticlib ngt` makes.
  *
  * No function has a precondition but that each pointer is to as many bytes as its type or its length says, and that no two
- * of them overlap; a pointer whose length is 0 may be null. Each but ngt_fleet returns the answer's number, 0 if the call is
- * accepted, and always stores the answer's image. The numbers are 1 to 13 and 15; 14 is given to no answer.
- * docs/HANDBOOK.md explains each.
+ * of them overlap (the two volumes of ngt_twins may); a pointer whose length is 0 may be null. Each but ngt_fleet returns the
+ * answer's number, 0 if the call is accepted, and always stores the answer's image. The numbers are 1 to 13 and 15; 14 is given to
+ * no answer. docs/HANDBOOK.md explains each.
  *
  * The drive's image, 144 bytes: 0-3 N; 4-7 P; 8-11 F; 12 state (0 steady, 1 changing); 13 zero; 14-15 epoch; 16-17 the epoch
  * being left; 18-23 zero; 24-39 salt; 40-47 counter; 48-79 node 1; 80-111 present secret; 112-143 old secret. Bytes 13 and
@@ -61,6 +61,15 @@ uint32_t ngt_report(const uint8_t drive[144], const uint8_t *vol, size_t vol_len
  * volume's length and the numbers alone (1, 2, 8), and checks no tag. */
 uint32_t ngt_stored_flake(const uint8_t drive[144], const uint8_t *vol, size_t vol_len, uint32_t nugget, uint32_t flake,
                           uint8_t span[16], uint8_t answer[16]);
+
+/* Two volumes against one drive. Accepted where both pass the path of this nugget, judged by the drive, up to the drive's node 1: 1; 2 for
+ * the first, then the second; 8; 7 path of the first, which ends with node 1 against the drive's (place node 1), then of the
+ * second. No head is tested. length: 4 bytes, always stored: 0 if the call is refused or the nugget's record bytes and tags agree in
+ * both volumes. Else the two messages of the lowest node of the path that both volumes have alike, different and with the same
+ * BLAKE2s value, stand in the first length bytes of one and two; every other byte of these stays as it is. first and second may
+ * be the same pointer or overlap. */
+uint32_t ngt_twins(const uint8_t drive[144], const uint8_t *first, size_t first_len, const uint8_t *second, size_t second_len,
+                   uint32_t nugget, uint8_t one[1055], uint8_t two[1055], uint8_t length[4], uint8_t answer[16]);
 
 /* The fleet's sheet. lines: sheet lines, one a drive, 256 at most, each ended by a newline (the last may lack it). The line, with
  * its newline, stands in the first bytes of line; returns how many they are, at most 140. The bytes behind them stay as they

@@ -56,6 +56,7 @@ counts "the primitives agree with independent ones" python3 tests/primitives.py
 counts "AES-256 agrees with Debian's library" python3 tests/aes.py
 counts "keys, pads, tags, leaves, nodes, path and whole agree with the second program" python3 tests/parts.py
 counts "the calls agree with the second program through the C interface" python3 tests/calls.py
+counts "two volumes compared agree with the second program through the C interface" python3 tests/twins.py
 counts "histories of calls agree with the second program to the byte" python3 tests/histories.py
 counts "a host in C links the archive and runs" bash tests/host.sh
 counts "memory holds contents in the caller's buffer alone, and every byte is stored with its final value" bash tests/snapshot.sh target/staticlib/libngt.a
@@ -65,5 +66,6 @@ counts "docs/HANDBOOK.md does as written" python3 tests/handbook.py
 counts "the sheet agrees with the second program" python3 tests/sheet.py
 counts "the auditor's page agrees with the second program" python3 tests/audit.py
 counts "the fleet's sheet agrees with the second program" python3 tests/fleet.py
+counts "two copies of a drive are compared as the second program does" python3 tests/compare.py
 echo "gate: $((SECONDS - started)) s in all"
 echo "$passed passed, 0 failed"

@@ -1,5 +1,5 @@
 /* A host in C that links the archive as it is shipped: it formats, mounts, reads, writes, queues writes, changes the secret, reports and shows
- * a stored flake, sees refusals leave everything as it came, and makes a fleet's line. Its last line counts the checks. */
+ * a stored flake, sees refusals leave everything as it came, compares two volumes, and makes a fleet's line. Its last line counts the checks. */
 #include "../include/ngt.h"
 #include <stdio.h>
 #include <string.h>
@@ -145,6 +145,21 @@ static void changes_secret(const uint8_t *contents) {
     holds("the image left before is refused by 6", ngt_mount(copy, LENGTH, other, secret, 20, opened, answer) == 6 && memcmp(opened, blank, 144) == 0);
 }
 
+static void twins(void) {
+    uint8_t one[1055], two[1055], length[4];
+    memset(one, 7, sizeof one), memset(two, 7, sizeof two), memset(length, 7, 4);
+    memcpy(copy, vol, LENGTH);
+    holds("one volume twice: nothing is found", ngt_twins(drive, vol, LENGTH, vol, LENGTH, 1, one, two, length, answer) == 0 && number(length, 4) == 0);
+    holds("nothing is stored", one[0] == 7 && one[1054] == 7 && two[0] == 7 && two[1054] == 7);
+    copy[RECORDS + 18] ^= 1;
+    holds("a damaged copy is told", ngt_twins(drive, vol, LENGTH, copy, LENGTH, 1, one, two, length, answer) == 7 && number(answer + 4, 4) == 2 && number(answer + 8, 4) == 1);
+    holds("another nugget of it passes", ngt_twins(drive, vol, LENGTH, copy, LENGTH, 0, one, two, length, answer) == 0 && number(length, 4) == 0);
+    holds("a copy of another length is refused by 2", ngt_twins(drive, vol, LENGTH, copy, LENGTH - 1, N, one, two, length, answer) == 2);
+    holds("no such nugget is refused by 8", ngt_twins(drive, vol, LENGTH, copy, LENGTH, N, one, two, length, answer) == 8 && one[0] == 7 && two[0] == 7);
+    memcpy(again, drive, 144), again[48] ^= 1;
+    holds("another node 1 is told", ngt_twins(again, vol, LENGTH, vol, LENGTH, 1, one, two, length, answer) == 7 && number(answer + 4, 4) == 3 && number(answer + 8, 4) == 1);
+}
+
 static void spent(void) {
     uint8_t byte = 1;
     holds("a counter reaches its top", ngt_format(vol, LENGTH, N, P, F, salt, secret, UINT64_MAX - 1, drive, answer) == 0);
@@ -173,6 +188,7 @@ int main(void) {
     writes(contents);
     queues(contents);
     changes_secret(contents);
+    twins();
     spent();
     fleet();
     printf("%d passed, %d failed\n", passed, failed);

@@ -7,8 +7,9 @@ use Prim.Native.Nat.{ℕ, _+_, _*_, _<_, _≤_}
 use native.Mathlib.Omega.{arith}
 use lib.ListN.{length, getD}
 use Rattle.records.proofs.RecordLaws.{record-told}
-use Rattle.base.specs.Lists.{part, tab}
-use Rattle.base.proofs.PickLaws.{yes, told}
+use Rattle.base.specs.Lists.{part, tab, same}
+use Rattle.base.proofs.PickLaws.{yes, told, clash}
+use Rattle.base.proofs.FoldLaws.{same-true, same-refl}
 use Rattle.base.proofs.PartLaws.{part-part}
 use Rattle.base.proofs.TabLaws.{getD-tab}
 use Rattle.layout.specs.Parts.{recordAt, tagAt}
@@ -18,20 +19,22 @@ use Rattle.layout.proofs.Places.{Inside}
 use Rattle.answers.specs.declared.Answer.the-variants as A
 use Rattle.answers.specs.Numbers.{accepts}
 use Rattle.records.specs.Journal.{bit}
+use Rattle.nodes.specs.Nodes.{recordPart, tagsPart}
 use Rattle.nodes.specs.Alike.{Alike}
 use Rattle.records.specs.Record.{recordOf}
 use Rattle.drive.specs.declared.Drive.{Drive}
-use Rattle.drive.specs.Drive.{shapeOf}
+use Rattle.drive.specs.Drive.{shapeOf, gaugeOf}
 use Rattle.drive.proofs.OpeningLaws.{opening-lent}
 use Rattle.nuggets.specs.Nugget.{storedIn, contentsIn, byteOf}
 use Rattle.reading.specs.Read.{readAnswer, readBuffer}
 use Rattle.reading.proofs.TestedLaws.{read-tests}
 use Rattle.detection.specs.Right.{SaysPresent}
-use Rattle.detection.specs.Collision.{Collision, Forgery, OneDriveOneTree, OneDriveOneTag, OneDriveOneRead}
+use Rattle.twins.specs.Collision.{Collision}
+use Rattle.twins.proofs.Excludes.{path-excludes}
+use Rattle.detection.specs.Collision.{Forgery, OneDriveOneTree, OneDriveOneTag, OneDriveOneRead}
 use Rattle.detection.proofs.RightLaws.{head-right}
 use Rattle.detection.proofs.TouchedLaws.{spot-within}
 use Rattle.detection.proofs.Detection.{read-detected}
-use Rattle.detection.proofs.PathsLaws.{decided, one-path}
 
 -- the byte's nugget and flake are there
 spot-read : (d : Drive) (v : List ℕ) (o len a : ℕ) → readAnswer d v o len ≡ A.Accepted → o ≤ a → a < o + len → Inside (shapeOf d) a
@@ -39,13 +42,32 @@ spot-read d v o len a e h k =
     let t = read-tests d v o len e a h k in
     spot-within (shapeOf d) o len a (limits (shapeOf d) (opening-lent d v (ap accepts (t .opens)) .limited)) h k (t .fits)
 
+-- two lists are equal or not
+decided : (a b : List ℕ) → (a ≡ b) ⊎ (a ≡ b → ⊥)
+decided a b = go (told (same a b))
+  where
+    go : (same a b ≡ true) ⊎ (same a b ≡ false) → (a ≡ b) ⊎ (a ≡ b → ⊥)
+    go (inl e) = inl (same-true a b e)
+    go (inr e) = inr (λ q. clash (rw q (same-refl b)) e)
+
 pub one-drive-one-tree : OneDriveOneTree
 one-drive-one-tree d v w o len a ev ew h k =
+    let s = shapeOf d in
+    let n = spotAt s a .nugget in
     let tv = read-tests d v o len ev a h k in
     let tw = read-tests d w o len ew a h k in
-    one-path d v w (spotAt (shapeOf d) a .nugget) (opening-lent d v (ap accepts (tv .opens))) (opening-lent d w (ap accepts (tw .opens)))
-    (spot-read d v o len a ev h k .nugget-is) (read-detected d v o len a ev h k .0) (read-detected d w o len a ew h k .0)
-    (head-right d v (tv .opens)) (head-right d w (tw .opens))
+    go n
+    (path-excludes s (gaugeOf d) (gaugeOf d) v w n (opening-lent d v (ap accepts (tv .opens))) (opening-lent d w (ap accepts (tw .opens)))
+    (spot-read d v o len a ev h k .nugget-is) (tv .path) (tw .path) (head-right d v (tv .opens) .node ∙ sym (head-right d w (tw .opens) .node)))
+    (decided (recordPart s v n) (recordPart s w n)) (decided (tagsPart s v n) (tagsPart s w n))
+  where
+    go : (n : ℕ) → ((Alike (shapeOf d) v w n → ⊥) → Collision (shapeOf d) v w n)
+        → (recordPart (shapeOf d) v n ≡ recordPart (shapeOf d) w n) ⊎ (recordPart (shapeOf d) v n ≡ recordPart (shapeOf d) w n → ⊥)
+        → (tagsPart (shapeOf d) v n ≡ tagsPart (shapeOf d) w n) ⊎ (tagsPart (shapeOf d) v n ≡ tagsPart (shapeOf d) w n → ⊥)
+        → Alike (shapeOf d) v w n ⊎ Collision (shapeOf d) v w n
+    go n excludes (inl r) (inl t) = inl (record { records = r; tags = t })
+    go n excludes (inl r) (inr t) = inr (excludes (λ x. t (x .tags)))
+    go n excludes (inr r) t = inr (excludes (λ x. r (x .records)))
 
 -- with the same record bytes the record is the same
 module _ (d : Drive) (v w : List ℕ) (n : ℕ) (x : Alike (shapeOf d) v w n) where

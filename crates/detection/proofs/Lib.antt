@@ -1,5 +1,4 @@
 pub mod RightLaws
 pub mod TouchedLaws
 pub mod Detection
-pub mod PathsLaws
 pub mod Collision

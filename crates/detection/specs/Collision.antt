@@ -1,34 +1,18 @@
 -- What it takes to give one drive two volumes for the same read.
-use Prim.Native.Nat.{ℕ, zero, suc, _+_, _*_, _<_, _≤_}
+use Prim.Native.Nat.{ℕ, _+_, _<_, _≤_}
 use mathlib.Core.Path.{_≡_}
 use mathlib.Core.Logic.{_⊎_}
-use mathlib.Core.List.{List, []}
+use mathlib.Core.List.{List}
 use lib.ListN.{length, getD}
-use Rattle.messages.specs.Messages.{leafMessage, innerMessage}
-use Rattle.blake2s.specs.Hash.{blake2s}
-use Rattle.layout.specs.declared.Shape.{Shape}
-use Rattle.layout.specs.Shape.{heightOf}
 use Rattle.layout.specs.Spots.{spotAt}
 use Rattle.answers.specs.declared.Answer.the-variants as A
-use Rattle.nodes.specs.Nodes.{nodeIn, recordPart, tagsPart}
 use Rattle.nodes.specs.Alike.{Alike}
 use Rattle.drive.specs.declared.Drive.{Drive}
 use Rattle.drive.specs.Drive.{shapeOf}
 use Rattle.nuggets.specs.Nugget.{storedIn}
 use Rattle.reading.specs.Read.{readAnswer, readBuffer}
-use Rattle.detection.specs.Right.{SaysPresent, stepsUp, tagFor}
-
--- what is hashed for the node k steps above the leaf of nugget n
-unfoldable pub messageAt : Shape → List ℕ → ℕ → ℕ → List ℕ
-messageAt s v n zero = leafMessage n (recordPart s v n) (tagsPart s v n)
-messageAt s v n (suc k) = let i = stepsUp s n (suc k) in innerMessage (nodeIn s v (2 * i)) (nodeIn s v (2 * i + 1))
-
--- at one node of the path of nugget n the two volumes have two different messages with the same BLAKE2s value
-pub record Collision (s : Shape) (v w : List ℕ) (n : ℕ) : Type 0 where
-  pub steps : ℕ
-  pub inTree : steps ≤ heightOf (s .n)
-  pub differ : messageAt s v n steps ≡ messageAt s w n steps → ⊥
-  pub alike : blake2s [] (messageAt s v n steps) ≡ blake2s [] (messageAt s w n steps)
+use Rattle.twins.specs.Collision.{Collision}
+use Rattle.detection.specs.Right.{SaysPresent, tagFor}
 
 -- Two volumes that one drive accepts for the same read have the same records and tags of the nuggets touched, or a collision is shown.
 abbrev pub OneDriveOneTree : Type 0

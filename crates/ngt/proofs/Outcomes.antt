@@ -36,3 +36,6 @@ ngt-queue κs a x y u v p q = (agree (p .tells .told) (q .tells .told), agree (p
 
 pub ngt-fleet : OneOutcome fn.ngt_fleet.ended fn.ngt_fleet.Reads.Post
 ngt-fleet κs a x y u v p q = (agree (p .behind) (q .behind), refl ∥ agree (p .stored) (q .stored) ∥ refl)
+
+pub ngt-twins : OneOutcome fn.ngt_twins.ended fn.ngt_twins.Reads.Post
+ngt-twins κs a x y u v p q = (agree (p .tells .told) (q .tells .told), refl ∥ refl ∥ refl ∥ refl ∥ agree (p .first) (q .first) ∥ agree (p .second) (q .second) ∥ agree (p .length) (q .length) ∥ agree (p .tells .shown) (q .tells .shown) ∥ refl)

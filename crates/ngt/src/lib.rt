@@ -11,6 +11,7 @@ ghost use Rattle.packed.specs.Image.{driveIn};
 ghost use Rattle.line.specs.Lines.{Put};
 ghost use Rattle.fleets.specs.Lines.{fleetLine};
 ghost use Rattle.changes.specs.Write.{writes};
+ghost use Rattle.ngt.specs.Twins.{Compared};
 ghost use Rattle.ngt.specs.Calls.{Formatted, Mounted, Filled, Reported, Shown, spanImage, imageAfter, Begun, Swept, Finished, Written, counterRose, QueuedBy};
 
 // Format, with the image of the drive that it hands back.
@@ -295,4 +296,35 @@ pub extern "C" fn ngt_fleet(lines: &[u8], out: &mut [u8; 192]) -> u32
 {
     let k = fleets::fleet_line(lines, out);
     k as u32
+}
+
+fn four(x: u32) -> [u8; 4]
+    ensures { λ r. ⌜ r ≡ le 4 x ⌝ }
+{
+    let mut out = [0u8; 4];
+    words::store32(&mut out, 0, x);
+    out
+}
+
+// Twins: two messages with one BLAKE2s value, of two volumes that pass one nugget's path and differ there.
+#[no_mangle]
+pub extern "C" fn ngt_twins(
+    image: &[u8; 144],
+    first: &[u8],
+    second: &[u8],
+    nugget: u32,
+    one: &mut [u8; 1055],
+    two: &mut [u8; 1055],
+    length: &mut [u8; 4],
+    answer: &mut [u8; 16],
+) -> u32
+    ensures { λ r. ⌜ Compared (driveIn (now (image .entry))) (now (first .entry)) (now (second .entry)) nugget (now (one .entry)) (now (two .entry))
+        r (now (one .exit)) (now (two .exit)) (now (length .exit)) (now (answer .exit)) ⌝ }
+{
+    let d = opened(*image);
+    let t = twins::find(d, first, second, nugget, one, two);
+    let a = t.answer;
+    *length = four(t.length);
+    *answer = images::answer_image(a);
+    answers::number(a)
 }

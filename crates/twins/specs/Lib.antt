@@ -1,0 +1,3 @@
+pub mod Collision
+pub mod Twins
+pub mod Excludes

@@ -1,0 +1,129 @@
+"""Document 02, Item 10: two volumes against one drive.
+
+Two messages with one BLAKE2s value can't be had, so no volumes here make the real finder find any.
+The found branch is met under a hash cut to one byte, where two in 256 messages agree.
+"""
+
+import random
+
+import calls
+import tree
+from answers import ACCEPTED, NODE, RECORD, Answer, Place
+from drive import BLANK
+from layout import layout
+from primitives import blake2s
+from twins import Found, kept, message, twins
+
+from checks.make import Spec, flipped, made
+from checks.refusals import MIXED, MOVED
+
+SHAPES = ((1, 1, 64), (2, 3, 64), (3, 2, 64), (4, 1, 64), (5, 2, 64), (33, 64, 64))
+ROUNDS = 40
+
+
+def at7(kind, first):
+    return Found(Answer(7, Place(kind, first)))
+
+
+def pair(chance, n, p, f):
+    """A drive, its volume, and the volume before its last write."""
+    size = layout(n, p, f).length
+    got = calls.format(bytes(size), n, p, f, chance.randbytes(16), chance.randbytes(32), 7)
+    before = got.volume
+    for _ in range(chance.randrange(1, 5)):
+        before = got.volume
+        got = calls.write(got.drive, got.volume, chance.randrange(n * p * f), b"!")
+    return got.drive, got.volume, before
+
+
+def cases(chance):
+    """Sound copies, each damaged in one place or in none, older copies, and what is out of limits."""
+    for shape in SHAPES:
+        drive, volume, before = pair(chance, *shape)
+        lay, n = drive.layout, chance.randrange(shape[0])
+        places = [lay.record_at(n), lay.tag_at(n, 0), lay.record_at(0), lay.flakes - 1, lay.flakes, 20]
+        places += [lay.node_at(i) for up in range(lay.leaves.bit_length())
+                   for i in {lay.leaves + n >> up, max(1, lay.leaves + n >> up ^ 1)}]
+        copies = [volume, before, volume[:-1], b""] + [flipped(volume, at) for at in places]
+        for first in copies:
+            for second in copies:
+                yield drive, first, second, n
+        for nugget in (0, shape[0] - 1, shape[0], 2**32 - 1):
+            for given in (drive, drive._replace(node1=bytes(32)), drive._replace(f=96), BLANK):
+                yield given, volume, volume, nugget
+                yield given, volume, before, nugget
+                yield given, volume[1:], volume, nugget
+
+
+def refusals(tally):
+    """The order, each with the next one's fault beside it."""
+    for state, records in ((0, MOVED), (1, MIXED)):
+        drive, volume = made(Spec(3, 2, 64, state, 3, 9, records))
+        lay = drive.layout
+        record, node, top = (flipped(volume, at) for at in (lay.record_at(1), lay.node_at(2), lay.node_at(1)))
+        stale = drive._replace(node1=bytes(32))
+        for what, given, want in (
+                ("1 before 2", (BLANK, b"", volume, 1), Found(Answer(1))),
+                ("2 of the first before 8", (drive, b"", volume, 3), Found(Answer(2))),
+                ("2 of the second before 8", (drive, volume, b"", 3), Found(Answer(2))),
+                ("8 before the paths", (drive, record, record, 3), Found(Answer(8))),
+                ("the first before the second", (drive, node, record, 1), at7(NODE, 2)),
+                ("the first's node 1 before the second", (stale, volume, record, 1), at7(NODE, 1)),
+                ("the second", (drive, volume, record, 1), at7(RECORD, 1)),
+                ("its path", (drive, volume, node, 1), at7(NODE, 2)),
+                ("its node 1", (drive, volume, top, 1), at7(NODE, 1)),
+                ("another nugget's record", (drive, volume, record, 2), Found(ACCEPTED)),
+                ("a head and a flake", (drive, flipped(volume, 20), flipped(volume, lay.flakes), 1), Found(ACCEPTED)),
+                ("one volume twice", (drive, volume, volume, 0), Found(ACCEPTED))):
+            tally.same(f"twins, {what}", twins(*given), want)
+
+
+def cut(key, text):
+    return blake2s(key, text)[:1] + bytes(31)
+
+
+def alike(work, other, lay, n):
+    """The lowest node of the path that both have."""
+    i = lay.leaves + n
+    while tree.node(work, lay, i) != tree.node(other, lay, i):
+        i //= 2
+    return i
+
+
+def found(tally, chance):
+    """Under the cut hash: other tags are drawn until node 1 is the same again."""
+    met = set()
+    for i in range(ROUNDS):
+        n, p, f = chance.choice(((1, 1, 64), (2, 2, 64), (3, 2, 64), (5, 1, 64)))
+        drive, volume, _ = pair(chance, n, p, f)
+        lay, nugget = drive.layout, chance.randrange(n)
+        first = bytearray(volume)
+        first[lay.tree:lay.flakes] = tree.build(first, lay)
+        drive = drive._replace(node1=tree.node(first, lay, 1))
+        second = bytearray(first)
+        while True:
+            at = lay.tag_at(nugget, chance.randrange(p))
+            second[at:at + 16] = chance.randbytes(16)
+            tree.renew(second, lay, nugget)
+            if tree.node(second, lay, 1) == drive.node1:
+                break
+        got, top = twins(drive, bytes(first), bytes(second), nugget), alike(first, second, lay, nugget)
+        met.add(lay.leaves + nugget == top)
+        tally.same(f"found {i}", got, Found(ACCEPTED, message(first, lay, top), message(second, lay, top)))
+        tally.holds(f"found {i} differ", got.one != got.two and kept(first, lay, nugget) != kept(second, lay, nugget))
+        tally.same(f"found {i} have one value", cut(b"", got.one), cut(b"", got.two))
+        tally.same(f"found {i} are as long", len(got.one), len(got.two))
+        tally.same(f"nothing {i}", twins(drive, bytes(first), bytes(first), nugget), Found(ACCEPTED))
+    tally.same("leaves and inner nodes are met", met, {True, False})
+
+
+def run(tally):
+    chance = random.Random(f"twins {tally.seed}")
+    refusals(tally)
+    for i, (drive, first, second, n) in enumerate(cases(chance)):
+        tally.same(f"twins {i} finds nothing", twins(drive, first, second, n)[1:], (b"", b""))
+    real, tree.blake2s = tree.blake2s, cut
+    try:
+        found(tally, chance)
+    finally:
+        tree.blake2s = real
