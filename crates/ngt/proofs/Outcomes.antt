@@ -36,3 +36,15 @@ ngt-queue κs a x y u v p q = (agree (p .tells .told) (q .tells .told), agree (p
 
 pub ngt-fleet : OneOutcome fn.ngt_fleet.ended fn.ngt_fleet.Reads.Post
 ngt-fleet κs a x y u v p q = (agree (p .behind) (q .behind), refl ∥ agree (p .stored) (q .stored) ∥ refl)
+
+pub summary-ngt-tally : OneOutcome fn.summary.ngt_tally.ended fn.summary.ngt_tally.Reads.Post
+summary-ngt-tally κs a x y u v p q = (agree (p .tells .told) (q .tells .told), refl ∥ refl ∥ agree (p .numbers) (q .numbers) ∥ agree (p .tells .shown) (q .tells .shown) ∥ refl)
+
+pub summary-ngt-summary-build : OneOutcome fn.summary.ngt_summary_build.ended fn.summary.ngt_summary_build.Reads.Post
+summary-ngt-summary-build κs a x y u v p q = (agree (p .tells .told) (q .tells .told), refl ∥ refl ∥ agree (p .bytes) (q .bytes) ∥ agree (p .tells .shown) (q .tells .shown) ∥ refl)
+
+pub summary-ngt-summary-renew : OneOutcome fn.summary.ngt_summary_renew.ended fn.summary.ngt_summary_renew.Reads.Post
+summary-ngt-summary-renew κs a x y u v p q = (agree (p .tells .told) (q .tells .told), refl ∥ refl ∥ agree (p .bytes) (q .bytes) ∥ refl ∥ agree (p .tells .shown) (q .tells .shown) ∥ refl)
+
+pub summary-ngt-summary-report : OneOutcome fn.summary.ngt_summary_report.ended fn.summary.ngt_summary_report.Reads.Post
+summary-ngt-summary-report κs a x y u v p q = (agree (p .tells .told) (q .tells .told), refl ∥ refl ∥ refl ∥ agree (p .numbers) (q .numbers) ∥ agree (p .tells .shown) (q .tells .shown) ∥ refl)
