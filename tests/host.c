@@ -145,6 +145,17 @@ static void changes_secret(const uint8_t *contents) {
     holds("the image left before is refused by 6", ngt_mount(copy, LENGTH, other, secret, 20, opened, answer) == 6 && memcmp(opened, blank, 144) == 0);
 }
 
+static void summaries(void) {
+    uint8_t sum[84], kept[84], whole[24], top[24], bytes[10] = {9};
+    memset(sum, 7, sizeof sum), memcpy(kept, sum, sizeof sum), keep();
+    holds("a summary too short is refused by 2", ngt_summary_build(drive, vol, LENGTH, sum, 83, answer) == 2 && memcmp(sum, kept, 84) == 0 && as_kept());
+    holds("a summary is built", ngt_summary_build(drive, vol, LENGTH, sum, 84, answer) == 0 && as_kept());
+    holds("its top report is the whole one", ngt_summary_report(drive, vol, LENGTH, sum, 84, top, answer) == 0 && ngt_tally(drive, vol, LENGTH, whole, answer) == 0 && memcmp(top, whole, 24) == 0);
+    holds("no such nugget is refused by 8", ngt_summary_renew(drive, vol, LENGTH, sum, 84, N, answer) == 8);
+    holds("a path is renewed after a write", ngt_write(drive, vol, LENGTH, 128, bytes, 10, answer) == 0 && ngt_summary_renew(drive, vol, LENGTH, sum, 84, 1, answer) == 0);
+    holds("that is what building gives", ngt_summary_build(drive, vol, LENGTH, kept, 84, answer) == 0 && memcmp(sum, kept, 84) == 0);
+}
+
 static void spent(void) {
     uint8_t byte = 1;
     holds("a counter reaches its top", ngt_format(vol, LENGTH, N, P, F, salt, secret, UINT64_MAX - 1, drive, answer) == 0);
@@ -173,6 +184,7 @@ int main(void) {
     writes(contents);
     queues(contents);
     changes_secret(contents);
+    summaries();
     spent();
     fleet();
     printf("%d passed, %d failed\n", passed, failed);
