@@ -36,6 +36,7 @@ echo "as built: $([ "$machine" = x86_64 ] && echo "the toolchain's archive, for 
 gcc "${flags[@]}" -o "$made/bench" bench/bench.c "${peers[@]}" "$made"/primitives.o "$made"/primitives-here.o "${openssl[@]}"
 gcc "${flags[@]}" -o "$made/mount" bench/mount.c "${peers[@]}" "$made"/ngt.o "$made"/ngt-here.o
 gcc "${flags[@]}" -o "$made/changes" bench/changes.c "${peers[@]}" "$made"/ngt.o "$made"/ngt-here.o
+gcc "${flags[@]}" -o "$made/summary" bench/summary.c "$made"/ngt.o
 lost=0
 "$made/bench" || lost=1
 if [ "$machine" = x86_64 ] && [ ${#openssl[@]} -gt 0 ]; then
@@ -43,6 +44,7 @@ if [ "$machine" = x86_64 ] && [ ${#openssl[@]} -gt 0 ]; then
     OPENSSL_ia32cap='~0x1000000000000000:0' "$made/bench" | tail -n 6 | grep -v LOST
 fi
 "$made/mount"
+"$made/summary"
 "$made/changes"
 
 # Once more with the peers by the compiler and at the level of the proved module; the toolchain has no C headers of its own.

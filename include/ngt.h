@@ -70,6 +70,24 @@ uint32_t ngt_stored_flake(const uint8_t drive[144], const uint8_t *vol, size_t v
  * be the same pointer or overlap. */
 uint32_t ngt_twins(const uint8_t drive[144], const uint8_t *first, size_t first_len, const uint8_t *second, size_t second_len,
                    uint32_t nugget, uint8_t one[1055], uint8_t two[1055], uint8_t length[4], uint8_t answer[16]);
+/* The report with a sixth number, the present flakes in moved nuggets: N, moved, left, flakes, share, done, 4 bytes each; all
+ * zero if refused. */
+uint32_t ngt_tally(const uint8_t drive[144], const uint8_t *vol, size_t vol_len, uint8_t report[24], uint8_t answer[16]);
+
+/* A summary beside the tree, for a report that reads no record. sum: 12 (2L - 1) bytes, L the smallest power of two not below N;
+ * node i at 12 (i - 1): the moved nuggets and the present flakes beneath it, and the present flakes in moved nuggets, 4 bytes
+ * each. Tests: 1, 2, 2 if sum_len is another, 7 head; then building 7 whole, renewing 8 and 7 path. A refusal stores no byte of
+ * sum. Build once, then renew the path of each nugget that a write, a queue or a sweep changed, in any order: that gives what
+ * building gives. After a begin build again. A finish and whatever is refused leave the summary as it has to be.
+ * ngt_summary_report is ngt_tally's report, of a summary kept so and a volume that ngt_tally wouldn't call altered; it looks at the head
+ * and the entry of node 1 alone. Over bytes that are no summary it is exact too: sums roll over at 32 bits, left is 0 where moved
+ * is above N, the share is at most 10,000, and at most 9,999 where moved is below N. */
+uint32_t ngt_summary_build(const uint8_t drive[144], const uint8_t *vol, size_t vol_len, uint8_t *sum, size_t sum_len,
+                           uint8_t answer[16]);
+uint32_t ngt_summary_renew(const uint8_t drive[144], const uint8_t *vol, size_t vol_len, uint8_t *sum, size_t sum_len,
+                           uint32_t nugget, uint8_t answer[16]);
+uint32_t ngt_summary_report(const uint8_t drive[144], const uint8_t *vol, size_t vol_len, const uint8_t *sum, size_t sum_len,
+                            uint8_t report[24], uint8_t answer[16]);
 
 /* The fleet's sheet. lines: sheet lines, one a drive, 256 at most, each ended by a newline (the last may lack it). The line, with
  * its newline, stands in the first bytes of line; returns how many they are, at most 140. The bytes behind them stay as they

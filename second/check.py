@@ -13,6 +13,8 @@ from checks.tally import Tally
 
 GROUPS = ("vectors", "figures", "refusals", "edges", "queues", "twins", "flips", "places", "garbage",
           "histories", "programs")
+GROUPS = ("vectors", "figures", "refusals", "edges", "queues", "summaries", "flips", "places",
+          "garbage", "histories", "programs")
 SHOWN = 20
 
 

@@ -58,6 +58,7 @@ counts "keys, pads, tags, leaves, nodes, path and whole agree with the second pr
 counts "the calls agree with the second program through the C interface" python3 tests/calls.py
 counts "two volumes compared agree with the second program through the C interface" python3 tests/twins.py
 counts "histories of calls agree with the second program to the byte" python3 tests/histories.py
+counts "summaries agree with the second program to the byte" python3 tests/summaries.py
 counts "a host in C links the archive and runs" bash tests/host.sh
 counts "memory holds contents in the caller's buffer alone, and every byte is stored with its final value" bash tests/snapshot.sh target/staticlib/libngt.a
 counts "calls that may store nothing run where nothing can be stored" python3 tests/readonly.py

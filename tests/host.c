@@ -158,6 +158,15 @@ static void twins(void) {
     holds("no such nugget is refused by 8", ngt_twins(drive, vol, LENGTH, copy, LENGTH, N, one, two, length, answer) == 8 && one[0] == 7 && two[0] == 7);
     memcpy(again, drive, 144), again[48] ^= 1;
     holds("another node 1 is told", ngt_twins(again, vol, LENGTH, vol, LENGTH, 1, one, two, length, answer) == 7 && number(answer + 4, 4) == 3 && number(answer + 8, 4) == 1);
+static void summaries(void) {
+    uint8_t sum[84], kept[84], whole[24], top[24], bytes[10] = {9};
+    memset(sum, 7, sizeof sum), memcpy(kept, sum, sizeof sum), keep();
+    holds("a summary too short is refused by 2", ngt_summary_build(drive, vol, LENGTH, sum, 83, answer) == 2 && memcmp(sum, kept, 84) == 0 && as_kept());
+    holds("a summary is built", ngt_summary_build(drive, vol, LENGTH, sum, 84, answer) == 0 && as_kept());
+    holds("its top report is the whole one", ngt_summary_report(drive, vol, LENGTH, sum, 84, top, answer) == 0 && ngt_tally(drive, vol, LENGTH, whole, answer) == 0 && memcmp(top, whole, 24) == 0);
+    holds("no such nugget is refused by 8", ngt_summary_renew(drive, vol, LENGTH, sum, 84, N, answer) == 8);
+    holds("a path is renewed after a write", ngt_write(drive, vol, LENGTH, 128, bytes, 10, answer) == 0 && ngt_summary_renew(drive, vol, LENGTH, sum, 84, 1, answer) == 0);
+    holds("that is what building gives", ngt_summary_build(drive, vol, LENGTH, kept, 84, answer) == 0 && memcmp(sum, kept, 84) == 0);
 }
 
 static void spent(void) {
@@ -189,6 +198,7 @@ int main(void) {
     queues(contents);
     changes_secret(contents);
     twins();
+    summaries();
     spent();
     fleet();
     printf("%d passed, %d failed\n", passed, failed);

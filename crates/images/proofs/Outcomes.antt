@@ -4,5 +4,8 @@ use Rattle.base.specs.Outcome.{OneOutcome}
 use Rattle.base.proofs.OutcomeLaws.{agree}
 use Rattle.images.proofs as fn
 
+pub six : OneOutcome fn.six.ended fn.six.Reads.Post
+six κs a x y u v p q = (agree p q, refl)
+
 pub answer-image : OneOutcome fn.answer_image.ended fn.answer_image.Reads.Post
 answer-image κs a x y u v p q = (agree p q, refl)

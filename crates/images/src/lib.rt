@@ -67,6 +67,20 @@ fn four(a: u32, b: u32, c: u32, d: u32) -> [u8; 16]
     out
 }
 
+// Six numbers, 4 bytes each.
+pub fn six(a: u32, b: u32, c: u32, d: u32, e: u32, f: u32) -> [u8; 24]
+    ensures { λ r. ⌜ r ≡ le 4 a ++ (le 4 b ++ (le 4 c ++ (le 4 d ++ (le 4 e ++ le 4 f)))) ⌝ }
+{
+    let mut out = [0u8; 24];
+    words::store32(&mut out, 0, a);
+    words::store32(&mut out, 4, b);
+    words::store32(&mut out, 8, c);
+    words::store32(&mut out, 12, d);
+    words::store32(&mut out, 16, e);
+    words::store32(&mut out, 20, f);
+    out
+}
+
 // The answer's image.
 pub fn answer_image(a: Answer) -> [u8; 16]
     ensures { λ r. ⌜ r ≡ answerImage a ⌝ }

@@ -20,6 +20,7 @@ use Rattle.records.specs.declared.Record.{Record}
 use Rattle.records.specs.Record.{recordRow, recordValues, recordBytes}
 use Rattle.nodes.specs.Nodes.{nodeIn, recordPart, tagsPart, leafOf, innerOf, zeroLeaf}
 use Rattle.nodes.specs.Made.{bottomOf, madeOf, storeNode}
+use Rattle.heaps.specs.Paths as Paths
 use Rattle.tree.specs.Renewed.{storedDown, built}
 use Rattle.keys.specs.Keys.{checkOf, sealOf}
 use Rattle.drive.specs.Drive.{zeros}
@@ -97,7 +98,7 @@ made-bytes s v i = go (ltb i (leaves (s .n))) (ltb i (leaves (s .n) + s .n))
     go false false = bytes-zeros 32
 
 down-bytes : (s : Shape) (k : ℕ) (v : List ℕ) → Bytes v → Bytes (storedDown s k v)
-unfolding storedDown storeNode
+unfolding Paths.storedDown storeNode
 down-bytes s zero v b = b
 down-bytes s (suc k) v b = down-bytes s k (storeNode s (suc k) v) (bytes-sets (madeOf s v (suc k)) v (nodeAt s (suc k)) b (made-bytes s v (suc k)))
 

@@ -14,6 +14,7 @@ use Rattle.records.specs.Record.{recordBytes, recordOf}
 use Rattle.records.specs.Rule.{turned}
 use Rattle.records.specs.Listing.{Entry}
 use Rattle.nodes.specs.Made.{storeNode}
+use Rattle.heaps.specs.Paths as Paths
 use Rattle.tree.specs.Renewed.{storedUp, renewed}
 use Rattle.drive.specs.declared.Drive.{Drive}
 use Rattle.drive.specs.Drive.{shapeOf}
@@ -60,7 +61,7 @@ mark-stores s head way v (suc n) w =
 
 -- leaves and paths
 up-stores : (s : Shape) (k i : ℕ) (w : List ℕ) → applied (upStores s k i w) w ≡ storedUp s k i w
-unfolding upStores storedUp storeNode applied
+unfolding upStores Paths.storedUp storeNode applied
 up-stores s zero i w = refl
 up-stores s (suc k) i w = up-stores s k (i / 2) (storeNode s i w)
 

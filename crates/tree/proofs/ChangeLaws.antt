@@ -5,12 +5,12 @@ use mathlib.Core.List.{List}
 use Prim.Native.Nat.{ℕ, _+_, _-_, _*_, _<_, _≤_}
 use native.Mathlib.Omega.{arith}
 use Rattle.base.proofs.PickLaws.{clash}
-use Rattle.layout.specs.Shape.{leaves}
+use Rattle.layout.specs.Shape.{heightOf, leaves}
 use Rattle.layout.specs.declared.Shape.{Shape}
 use Rattle.nodes.specs.Alike.{Alike}
 use Rattle.nodes.proofs.MadeLaws.{made-alike}
 use Rattle.tree.specs.Good.{GoodBut, Beside}
-use Rattle.tree.proofs.UpwardLaws.{path-leaf}
+use Rattle.heaps.proofs.PathLaws.{path-leaf}
 
 -- the nuggets of E join those left to renew
 pub changed-but : (s : Shape) (v w : List ℕ) (D E : ℕ → Type 0) → Beside s E v w → GoodBut s D v → GoodBut s (λ m. D m ⊎ E m) w
@@ -22,4 +22,4 @@ changed-but s v w D E x g i a b none =
     leaf h k =
         let m = i - leaves (s .n) in
         let e : leaves (s .n) + m ≡ i = omega arith in
-        x .others m (omega arith) (λ q. clash (rw e at (path-leaf s m)) (none m (omega arith) (inr q)))
+        x .others m (omega arith) (λ q. clash (rw e at (path-leaf (heightOf (s .n)) m)) (none m (omega arith) (inr q)))

@@ -8,6 +8,7 @@ use Rattle.layout.specs.declared.Shape.{Shape}
 use Rattle.nodes.specs.Nodes.{nodeIn, innerOf}
 use Rattle.nodes.specs.Alike.{Alike}
 use Rattle.nodes.proofs.MadeLaws.{made-inner, made-bottom, made-alike}
+use Rattle.heaps.proofs.HeapLaws.{by-two}
 use Rattle.tree.specs.Whole.{HasHeight}
 use Rattle.tree.specs.Fresh.{treeFrom}
 use Rattle.tree.specs.Good.{AllGood}
@@ -25,14 +26,8 @@ pub good-root : (s : Shape) (v : List ℕ) → AllGood s v → nodeIn s v 1 ≡ 
 good-root s v g = good-fresh s v g (heightOf (s .n)) 1 (stands-top s)
 
 -- two good trees over the same records and tags have the same nodes
-module _ (s : Shape) (v w : List ℕ) (g : AllGood s v) (f : AllGood s w) (x : (n : ℕ) → n < s .n → Alike s v w n) where
-  from-end : (k i : ℕ) → 2 * leaves (s .n) ≤ i + k → 1 ≤ i → i < 2 * leaves (s .n) → nodeIn s v i ≡ nodeIn s w i
-  from-end zero i e a b = absurd (omega arith)
-  from-end (suc k) i e a b =
-      g i a b
-      ∙ made-alike s v w i (λ h. (from-end k (2 * i) (omega arith) (omega arith) (omega arith), from-end k (2 * i + 1) (omega arith) (omega arith) (omega arith)))
-      (λ h l. x (i - leaves (s .n)) (omega arith))
-      ∙ sym (f i a b)
-
-  pub same-nodes : (i : ℕ) → 1 ≤ i → i < 2 * leaves (s .n) → nodeIn s v i ≡ nodeIn s w i
-  same-nodes i a b = from-end (2 * leaves (s .n)) i (omega arith) a b
+pub same-nodes : (s : Shape) (v w : List ℕ) → AllGood s v → AllGood s w → ((n : ℕ) → n < s .n → Alike s v w n)
+    → (i : ℕ) → 1 ≤ i → i < 2 * leaves (s .n) → nodeIn s v i ≡ nodeIn s w i
+same-nodes s v w g f x =
+    by-two (heightOf (s .n)) (λ i. nodeIn s v i ≡ nodeIn s w i)
+    (λ i a b two. g i a b ∙ made-alike s v w i two (λ h l. x (i - leaves (s .n)) (omega arith)) ∙ sym (f i a b))

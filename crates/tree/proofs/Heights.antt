@@ -1,6 +1,6 @@
 -- How many nodes a path has, and at which height a node stands.
 use mathlib.Core.Path.{_≡_}
-use Prim.Native.Nat.{ℕ, zero, suc, _+_, _-_, _*_, _/_, _^_, _<_, _≤_}
+use Prim.Native.Nat.{ℕ, zero, suc, _+_, _-_, _*_, _^_, _<_, _≤_}
 use native.Mathlib.Nat.{pow-suc, mul-le-mul-left}
 use native.Mathlib.Omega.{arith}
 use lib.Pow.{pow-pos}
@@ -9,6 +9,8 @@ use Rattle.layout.specs.Shape.{heightOf, leaves}
 use Rattle.layout.specs.declared.Shape.{Shape}
 use Rattle.layout.proofs.Limits.{Limits, Small}
 use Rattle.layout.proofs.Height.{height-least}
+pub use Rattle.heaps.proofs.PathLaws.{rises-some, rises-half, rises-next}
+use Rattle.heaps.proofs.PathLaws.{rises-leaf as leaf-rises}
 use Rattle.tree.specs.Path.{Rises}
 use Rattle.tree.specs.Whole.{HasHeight}
 
@@ -16,24 +18,9 @@ use Rattle.tree.specs.Whole.{HasHeight}
 pub times-pow : (i h : ℕ) → i ≤ i * 2 ^ h
 times-pow i h = omega (arith, mul-le-mul-left i (pow-pos h))
 
--- a path of some nodes has a first one, and then the path of its parent
-pub rises-some : (k i : ℕ) → Rises k i → 0 < k → 1 ≤ i
-rises-some zero i r h = absurd (omega arith)
-rises-some (suc k) i r h = omega (arith, rw (pow-suc 2 k) at (r .reaches), pow-pos k)
-
-pub rises-half : (k i : ℕ) → Rises (suc k) i → Rises k (i / 2)
-rises-half k i r =
-    record { reaches = omega (arith, rw (pow-suc 2 k) at (r .reaches)); ends = omega (arith, rw (pow-suc 2 k) at (r .ends)) }
-
-pub rises-next : (k i : ℕ) → Rises k i → 0 < k → Rises (k - 1) (i / 2)
-rises-next zero i r h = absurd (omega arith)
-rises-next (suc k) i r h = let e : suc k - 1 ≡ k = omega arith in rw e (rises-half k i r)
-
 -- the leaf of a nugget
 pub rises-leaf : (s : Shape) (n : ℕ) → Small s → n < s .n → Rises (suc (heightOf (s .n))) (leaves (s .n) + n)
-rises-leaf s n q h =
-    let e = pow-suc 2 (heightOf (s .n)) in
-    record { reaches = omega (arith, e); ends = omega (arith, e, q .enough-leaves) }
+rises-leaf s n q h = leaf-rises (heightOf (s .n)) n (omega (arith, q .enough-leaves))
 
 module _ (s : Shape) (h i : ℕ) (t : HasHeight s (suc h) i) where
   pub stands-left : HasHeight s h (2 * i)

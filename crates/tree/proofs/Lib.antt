@@ -1,9 +1,9 @@
 pub mod Heights
 pub mod Steps
-pub mod UpwardLaws
 pub mod PathLaws
 pub mod WorstLaws
 pub mod WholeLaws
+pub mod Heap
 pub mod RenewLaws
 pub mod ChangeLaws
 pub mod BuildLaws

@@ -23,7 +23,7 @@ use Rattle.nodes.proofs.MadeLaws.{made-leaf, made-inner, good-true, true-good}
 use Rattle.tree.specs.Path.{formed, goodRecord, climbed, pathOf, Rises}
 use Rattle.tree.specs.Good.{AllGood, upward}
 use Rattle.tree.proofs.Heights.{rises-some, rises-half, rises-leaf}
-use Rattle.tree.proofs.UpwardLaws.{upward-le}
+use Rattle.heaps.proofs.PathLaws.{upward-le}
 use Rattle.layout.specs.Shaped.{Shaped}
 use Rattle.layout.proofs.Limits.{lent-small}
 

@@ -54,26 +54,6 @@ module _ (s : Shape) (v : List ℕ) where
   unfolding worst
   worst-end h i e = rw e
 
-  pub storedUp-on : (k i : ℕ) → 0 < k → storedUp s (k - 1) (i / 2) (storeNode s i v) ≡ storedUp s k i v
-  unfolding storedUp
-  storedUp-on zero i h = absurd (omega arith)
-  storedUp-on (suc k) i h = let q : suc k - 1 ≡ k = omega arith in rw q
-
-  pub storedUp-end : (k i : ℕ) → k ≤ 0 → v ≡ storedUp s k i v
-  unfolding storedUp
-  storedUp-end zero i h = refl
-  storedUp-end (suc k) i h = absurd (omega arith)
-
-  pub storedDown-on : (k : ℕ) → 0 < k → storedDown s (k - 1) (storeNode s k v) ≡ storedDown s k v
-  unfolding storedDown
-  storedDown-on zero h = absurd (omega arith)
-  storedDown-on (suc k) h = let q : suc k - 1 ≡ k = omega arith in rw q
-
-  pub storedDown-end : (k : ℕ) → k ≤ 0 → v ≡ storedDown s k v
-  unfolding storedDown
-  storedDown-end zero h = refl
-  storedDown-end (suc k) h = absurd (omega arith)
-
 -- is node i the leaf of a nugget
 module _ (s : Shape) (i : ℕ) where
   pub nugget-yes : leaves (s .n) ≤ i → i < leaves (s .n) + s .n → nuggetLeaf s i ≡ true

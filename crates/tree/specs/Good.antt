@@ -2,27 +2,22 @@
 use mathlib.Core.Path.{_≡_}
 use mathlib.Core.Bool.{Bool, false}
 use mathlib.Core.List.{List}
-use Prim.Native.Nat.{ℕ, zero, suc, _+_, _*_, _/_, _<_, _≤_}
-use lib.Dec.{eqb}
-use Rattle.base.specs.Pick.{either}
+use Prim.Native.Nat.{ℕ, _*_, _<_, _≤_}
 use Rattle.layout.specs.Shape.{heightOf, leaves}
 use Rattle.layout.specs.declared.Shape.{Shape}
 use Rattle.nodes.specs.Nodes.{nodeIn}
 use Rattle.nodes.specs.Alike.{Alike}
 use Rattle.nodes.specs.Made.{Good}
+use Rattle.heaps.specs.Paths as Paths
+unfoldable pub use Rattle.heaps.specs.Paths.{upward}
 
 -- "nodes 1 to 2L - 1", each what it has to be
 abbrev pub AllGood : Shape → List ℕ → Type 0
 AllGood s v = (i : ℕ) → 1 ≤ i → i < 2 * leaves (s .n) → Good s v i
 
--- node i is node j, or one of those above it, k in all
-unfoldable pub upward : ℕ → ℕ → ℕ → Bool
-upward zero j i = false
-upward (suc k) j i = either (eqb j i) (upward k (j / 2) i)
-
 -- node i is the leaf of nugget n, or stands above it
-unfoldable pub onPath : Shape → ℕ → ℕ → Bool
-onPath s n i = upward (suc (heightOf (s .n))) (leaves (s .n) + n) i
+abbrev pub onPath : Shape → ℕ → ℕ → Bool
+onPath s n i = Paths.onPath (heightOf (s .n)) n i
 
 -- every node is good that is on no path of a nugget in D
 abbrev pub GoodBut : Shape → (ℕ → Type 0) → List ℕ → Type 0

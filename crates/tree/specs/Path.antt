@@ -1,7 +1,7 @@
 -- Document 01, *Path*: "record n if ill formed or its leaf isn't node L + n; then node i, from its parent up, that isn't made of its two."
 use mathlib.Core.Bool.{Bool}
 use mathlib.Core.List.{List}
-use Prim.Native.Nat.{ℕ, zero, suc, _+_, _*_, _/_, _^_, _<_, _≤_}
+use Prim.Native.Nat.{ℕ, zero, suc, _+_, _/_}
 use Rattle.base.specs.Pick.{pick, both}
 use Rattle.layout.specs.Shape.{heightOf, leaves}
 use Rattle.layout.specs.declared.Shape.{Shape}
@@ -11,6 +11,7 @@ use Rattle.answers.specs.declared.Place.the-variants as P
 use Rattle.records.specs.declared.Gauge.{Gauge}
 use Rattle.records.specs.Record.{recordOf, wellFormed}
 use Rattle.nodes.specs.Made.{goodNode}
+pub use Rattle.heaps.specs.Paths.{Rises}
 
 -- it is well formed
 abbrev pub formed : Shape → Gauge → List ℕ → ℕ → Bool
@@ -28,8 +29,3 @@ climbed s v (suc k) i = pick (goodNode s v i) (climbed s v k (i / 2)) (A.Altered
 unfoldable pub pathOf : Shape → Gauge → List ℕ → ℕ → Answer
 pathOf s gauge v n =
     pick (goodRecord s gauge v n) (climbed s v (heightOf (s .n)) ((leaves (s .n) + n) / 2)) (A.Altered (P.Record n))
-
--- node i and those above it, up to node 1, are k nodes
-pub record Rises (k i : ℕ) : Type 0 where
-  pub reaches : 2 ^ k ≤ 2 * i + 1
-  pub ends : i < 2 ^ k

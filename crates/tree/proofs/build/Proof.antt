@@ -6,7 +6,8 @@ use lib.ListN.{length}
 use borrow.Author.Needs.{needs}
 use Rattle.layout.specs.Shape.{leaves}
 use Rattle.tree.specs.Renewed.{built, storedDown}
-use Rattle.tree.proofs.Steps.{storedDown-on, storedDown-end}
+use Rattle.nodes.specs.Made.{storeNode}
+use Rattle.heaps.proofs.Steps.{storedDown-on, storedDown-end}
 use Rattle.tree.proofs.build.Statement.{statement}
 use Rattle.tree.proofs.build.Tie as tie
 use Rattle.layout.specs.Shaped.{Shaped}
@@ -54,7 +55,7 @@ loop-again c =
       omega (arith, l .inv .0),
       record { limited = l .inv .1 .limited; size = st .kept .0 ∙ l .inv .1 .size },
       st .kept .0 ∙ l .inv .2,
-      ap (λ (w : List ℕ). storedDown (a .s) (l .k - 1) w) (st .ensures) ∙ storedDown-on (a .s) (l .vol) (l .k) (c .before .before .before .before .loop-test .taken) ∙ l .inv .3,
+      ap (λ (w : List ℕ). storedDown (a .s) (l .k - 1) w) (st .ensures) ∙ storedDown-on (storeNode (a .s)) (l .vol) (l .k) (c .before .before .before .before .loop-test .taken) ∙ l .inv .3,
     )
 
 same-length : tie.Need-same-length Inv-loop μ-loop

@@ -9,7 +9,9 @@ use Rattle.layout.proofs.Limits.{limits, lent-small}
 use Rattle.tree.specs.Path.{Rises}
 use Rattle.tree.specs.Renewed.{renewed, storedUp}
 use Rattle.tree.proofs.Heights.{rises-some, rises-next, height-few}
-use Rattle.tree.proofs.Steps.{storedUp-on, storedUp-end, renew-starts}
+use Rattle.nodes.specs.Made.{storeNode}
+use Rattle.heaps.proofs.Steps.{storedUp-on, storedUp-end}
+use Rattle.tree.proofs.Steps.{renew-starts}
 use Rattle.tree.proofs.renew.Statement.{statement}
 use Rattle.tree.proofs.renew.Tie as tie
 use Rattle.layout.specs.Shaped.{Shaped}
@@ -60,7 +62,7 @@ loop-again c =
       omega (arith, l .inv .1),
       record { limited = l .inv .2 .limited; size = st .kept .0 ∙ l .inv .2 .size },
       st .kept .0 ∙ l .inv .3,
-      ap (λ (w : List ℕ). storedUp (a .s) (l .k - 1) (l .i / 2) w) (st .ensures) ∙ storedUp-on (a .s) (l .vol) (l .k) (l .i) (c .before .before .before .before .loop-test .taken) ∙ l .inv .4,
+      ap (λ (w : List ℕ). storedUp (a .s) (l .k - 1) (l .i / 2) w) (st .ensures) ∙ storedUp-on (storeNode (a .s)) (l .vol) (l .k) (l .i) (c .before .before .before .before .loop-test .taken) ∙ l .inv .4,
     )
 
 same-length : tie.Need-same-length Inv-loop μ-loop

@@ -1,0 +1,3 @@
+pub mod PathLaws
+pub mod Steps
+pub mod HeapLaws

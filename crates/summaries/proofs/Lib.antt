@@ -1,0 +1,9 @@
+pub mod EntryLaws
+pub mod Starts
+pub mod Heap
+pub mod BelongLaws
+pub mod SumLaws
+pub mod AnswerLaws
+pub mod TopLaws
+pub mod Refused
+pub mod Outcomes
