@@ -114,7 +114,7 @@ static void make_inner(const Open *o, const uint8_t *vol, uint32_t i, uint8_t ma
 static uint32_t path(const Open *o, const uint8_t *vol, uint32_t n, uint8_t answer[16]) {
     uint8_t made[NODE];
     Record r = record_of(vol, n);
-    if ((o->p < 64 && r.journal >> o->p) || (r.epoch != o->epoch && !(o->changing && r.epoch == o->epoch - 1)))
+    if ((o->p < 64 && r.journal >> o->p) || r.keycount > o->counter || (r.epoch != o->epoch && !(o->changing && r.epoch == o->epoch - 1)))
         return say(answer, 7, AT_RECORD, n, 0);
     make_leaf(o, vol, n, made);
     if (memcmp(made, vol + node_at(o, o->leaves + n), NODE))
@@ -233,8 +233,6 @@ static uint32_t write_tests(const Open *o, const uint8_t *vol, uint32_t n, uint6
         return answer[0];
     if (!needs_rekey(o, &r, mask))
         return 0;
-    if (r.keycount == UINT64_MAX)
-        return say(answer, 14, NO_PLACE, 0, 0);
     return flakes(o, vol, n, &r, r.journal, answer);
 }
 

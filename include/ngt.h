@@ -2,7 +2,8 @@
  *
  * No function has a precondition but that each pointer is to as many bytes as its type or its length says, and that no two
  * of them overlap; a pointer whose length is 0 may be null. Each but ngt_fleet returns the answer's number, 0 if the call is
- * accepted, and always stores the answer's image.
+ * accepted, and always stores the answer's image. The numbers are 1 to 13 and 15; 14 is given to no answer.
+ * docs/HANDBOOK.md explains each.
  *
  * The drive's image, 144 bytes: 0-3 N; 4-7 P; 8-11 F; 12 state (0 steady, 1 changing); 13 zero; 14-15 epoch; 16-17 the epoch
  * being left; 18-23 zero; 24-39 salt; 40-47 counter; 48-79 node 1; 80-111 present secret; 112-143 old secret. Bytes 13 and

@@ -91,7 +91,7 @@ def mount_tests(drive, volume, outside):
         return Answer(5)
     if drive.counter != outside:
         return Answer(6)
-    return altered(tree.whole_test(volume, drive.layout, drive.epoch, drive.changing))
+    return altered(tree.whole_test(volume, drive.layout, drive.head))
 
 
 def mount(volume, present, old, outside):
@@ -200,7 +200,7 @@ def begin(drive, volume, secret):
 
 
 def sweep_tests(drive, volume, nugget):
-    """9, 8, 7 path, 12, 13, then 14 and 7 flakes."""
+    """9, 8, 7 path, 12, 13, 7 flakes."""
     if not drive.changing:
         return Answer(9)
     if nugget >= drive.n:
@@ -234,7 +234,7 @@ def count(drive, volume):
 
 
 def whole_answer(drive, volume):
-    return altered(tree.whole_test(volume, drive.layout, drive.epoch, drive.changing))
+    return altered(tree.whole_test(volume, drive.layout, drive.head))
 
 
 def finish_tests(drive, volume):

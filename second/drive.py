@@ -34,6 +34,11 @@ class Drive(NamedTuple):
         return self.state == CHANGING
 
     @property
+    def head(self):
+        """What a record is held against: epoch, whether changing, and counter."""
+        return self.epoch, self.changing, self.counter
+
+    @property
     def layout(self):
         return layout(self.n, self.p, self.f)
 

@@ -70,8 +70,8 @@ class Record(NamedTuple):
         """The flakes present, ascending."""
         return [f for f in range(64) if self.journal >> f & 1]
 
-    def well_formed(self, p, epoch, changing):
-        if self.journal >> p:
+    def well_formed(self, p, epoch, changing, counter):
+        if self.journal >> p or self.keycount > counter:
             return False
         return self.epoch == epoch or (changing and self.epoch == epoch - 1)
 

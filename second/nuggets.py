@@ -4,8 +4,8 @@ from typing import NamedTuple
 
 import keys
 import tree
-from answers import FLAKE, Answer, Place, altered
-from layout import RECORD, TAG, TOP, Record, read_record
+from answers import FLAKE, Place, altered
+from layout import RECORD, TAG, Record, read_record
 from primitives import xor
 
 
@@ -79,7 +79,7 @@ def flakes_test(volume, drive, n, flakes):
 
 
 def path_answer(volume, drive, n):
-    return altered(tree.path_test(volume, drive.layout, drive.epoch, drive.changing, n))
+    return altered(tree.path_test(volume, drive.layout, drive.head, n))
 
 
 def read_tests(volume, drive, n, flakes):
@@ -91,11 +91,8 @@ def read_tests(volume, drive, n, flakes):
 
 
 def rekey_tests(volume, drive, n):
-    """14, then all of the journal."""
-    record = read_record(volume, drive.layout, n)
-    if record.keycount == TOP:
-        return Answer(14)
-    return altered(flakes_test(volume, drive, n, record.present()))
+    """All of the journal. The path passed and 13 wasn't due, so the keycount isn't at its top."""
+    return altered(flakes_test(volume, drive, n, read_record(volume, drive.layout, n).present()))
 
 
 def write_tests(volume, drive, n, flakes):

@@ -1,4 +1,5 @@
 """Runs a script of calls. Run: python3 second/run.py SCRIPT   (the README has the format)
+or: python3 second/run.py -c 'LINE; LINE; ..'
 
 A line that isn't understood gets a refusal line, changes nothing, and the script goes on;
 the exit status is then 1.
@@ -152,11 +153,15 @@ def run(text):
 
 
 def main(arguments):
-    if len(arguments) != 1:
-        print("usage: python3 second/run.py SCRIPT", file=sys.stderr)
+    if len(arguments) == 2 and arguments[0] == "-c":
+        text = arguments[1].replace(";", "\n")
+    elif len(arguments) == 1:
+        with open(arguments[0], encoding="utf-8", errors="replace") as script:
+            text = script.read()
+    else:
+        print("usage: python3 second/run.py SCRIPT, or -c 'LINE; LINE; ..'", file=sys.stderr)
         return 2
-    with open(arguments[0], encoding="utf-8", errors="replace") as script:
-        lines, good = run(script.read())
+    lines, good = run(text)
     for line in lines:
         print(line.encode("ascii", "replace").decode())
     return 0 if good else 1

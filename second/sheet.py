@@ -9,9 +9,9 @@ LEAST, MOST = 72, 72 + 61440
 
 
 def class_of(answer_number):
-    """The class of answers 1 to 15; None for a number that is no answer."""
+    """The class of an answer; None for a number that is none: 14 is given to no answer."""
     for last, name in ((0, None), (3, "form"), (6, "key"), (7, "altered"), (12, "request"),
-                       (15, "spent")):
+                       (13, "spent"), (14, None), (15, "spent")):
         if answer_number <= last:
             return name
     return None

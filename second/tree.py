@@ -33,15 +33,15 @@ def inner_of(volume, lay, i):
     return inner(node(volume, lay, 2 * i), node(volume, lay, 2 * i + 1))
 
 
-def record_fails(volume, lay, epoch, changing, n):
+def record_fails(volume, lay, head, n):
     record = read_record(volume, lay, n)
-    return (not record.well_formed(lay.p, epoch, changing)
+    return (not record.well_formed(lay.p, *head)
             or leaf_of(volume, lay, n) != node(volume, lay, lay.leaves + n))
 
 
-def path_test(volume, lay, epoch, changing, n):
-    """The first bad place on nugget n's path, or None."""
-    if record_fails(volume, lay, epoch, changing, n):
+def path_test(volume, lay, head, n):
+    """The first bad place on nugget n's path, or None. `head` is epoch, changing and counter."""
+    if record_fails(volume, lay, head, n):
         return Place(RECORD_PLACE, n)
     i = (lay.leaves + n) // 2
     while i >= 1:
@@ -51,13 +51,13 @@ def path_test(volume, lay, epoch, changing, n):
     return None
 
 
-def whole_test(volume, lay, epoch, changing):
+def whole_test(volume, lay, head):
     """The first bad place of the whole volume, or None.
 
     Records ascending; then the nodes that are no nugget's leaf, from 2L - 1 down.
     """
     for n in range(lay.n):
-        if record_fails(volume, lay, epoch, changing, n):
+        if record_fails(volume, lay, head, n):
             return Place(RECORD_PLACE, n)
     for i in range(lay.nodes, lay.leaves + lay.n - 1, -1):
         if node(volume, lay, i) != ZEROS:

@@ -30,8 +30,8 @@ def some_journal(source, p):
     return source.choice((0, (1 << p) - 1, 1 << source.randrange(p), source.getrandbits(p)))
 
 
-def some_record(source, p, state, epoch):
-    keycount = source.choice((0, source.randrange(12), 10 ** source.randrange(20), TOP))
+def some_record(source, p, state, epoch, counter):
+    keycount = min(source.choice((0, source.randrange(12), 10 ** source.randrange(20), counter)), counter)
     return [keycount, some_journal(source, p), epoch - state * source.randrange(2)]
 
 
@@ -39,7 +39,7 @@ def some_spec(source, n, p, f=64):
     state = source.randrange(2)
     epoch = source.choice((1 + state, 9 + state, source.randint(1 + state, EPOCH_TOP), EPOCH_TOP))
     counter = source.choice((0, source.getrandbits(64), 10 ** source.randrange(20), TOP))
-    return Spec(n, p, f, state, epoch, counter, [some_record(source, p, state, epoch) for _ in range(n)])
+    return Spec(n, p, f, state, epoch, counter, [some_record(source, p, state, epoch, counter) for _ in range(n)])
 
 
 def drives(source):
@@ -58,10 +58,13 @@ def at_the_end():
 
 
 def spoilt(source, spec):
-    """The spec with one record ill formed: a bit past P, or an epoch that isn't the head's nor the one left."""
+    """The spec with one record ill formed: a keycount above the counter, a bit past P, or an epoch that isn't the head's nor the
+    one left."""
     records = [list(record) for record in spec.records]
     record = source.choice(records)
-    if spec.p < 64 and source.randrange(2):
+    if source.randrange(3) == 0:
+        record[0] = spec.counter + 1
+    elif spec.p < 64 and source.randrange(2):
         record[1] |= 1 << source.randint(spec.p, 63)
     else:
         record[2] = source.choice([e for e in (0, spec.epoch - 2, spec.epoch - 1 + spec.state * 2, EPOCH_TOP)
@@ -72,7 +75,7 @@ def spoilt(source, spec):
 def hostile(source):
     for case in range(24):
         spec = some_spec(source, source.randint(1, 6), source.choice((1, 2, 63, 64)))._replace(epoch=5, counter=7)
-        spec = spec._replace(records=[[k, j, 5 - (e != 5) * spec.state] for k, j, e in spec.records])
+        spec = spec._replace(records=[[min(k, 7), j, 5 - (e != 5) * spec.state] for k, j, e in spec.records])
         yield f"ill-formed record, case {case}", given(spoilt(source, spec))
         yield f"another present secret, case {case}", given(spec, present=bytes(32))
         yield f"another old secret, case {case}", given(spec, old=bytes(32))

@@ -60,6 +60,7 @@ counts "histories of calls agree with the second program to the byte" python3 te
 counts "a host in C links the archive and runs" bash tests/host.sh
 counts "calls that may store nothing run where nothing can be stored" python3 tests/readonly.py
 counts "README.md does as written" python3 tests/readme.py
+counts "docs/HANDBOOK.md does as written" python3 tests/handbook.py
 counts "the sheet agrees with the second program" python3 tests/sheet.py
 counts "the auditor's page agrees with the second program" python3 tests/audit.py
 counts "the fleet's sheet agrees with the second program" python3 tests/fleet.py

@@ -13,7 +13,7 @@ sys.path.insert(0, str(ROOT / "second"))
 import answers  # noqa: E402
 import keys  # noqa: E402
 import tree  # noqa: E402
-from layout import layout  # noqa: E402
+from layout import TOP, layout  # noqa: E402
 from primitives import xor  # noqa: E402
 
 U16, U32, U64, FLAG = ctypes.c_uint16, ctypes.c_uint32, ctypes.c_uint64, ctypes.c_bool
@@ -47,7 +47,7 @@ def compare_keys(tally, proved, source, case):
     tally.same("tag", case, out(proved.ngt_tag, 16, *slice_of(stored), b, U64(k), U32(f)), keys.tag(b, k, f, stored))
 
 
-def volume_of(source, lay, epoch, changing):
+def volume_of(source, lay, epoch, changing, counter):
     """Records mostly well formed, any tags, any flakes, and the tree that belongs to them."""
     v = bytearray(source.randbytes(lay.length))
     for n in range(lay.n):
@@ -57,7 +57,10 @@ def volume_of(source, lay, epoch, changing):
         behind = source.choice([0, 1]) if changing else 0
         if source.randrange(12) == 0:
             behind = source.choice([1, 2, -1])
-        v[lay.record_at(n):lay.record_at(n) + 18] = struct.pack("<QQH", source.randrange(2**64), journal, (epoch - behind) % 2**16)
+        keycount = source.choice([0, counter, source.randrange(counter + 1)])
+        if source.randrange(12) == 0:
+            keycount = min(counter + source.choice([1, 2**32]), TOP)
+        v[lay.record_at(n):lay.record_at(n) + 18] = struct.pack("<QQH", keycount, journal, (epoch - behind) % 2**16)
     v[lay.tree:lay.flakes] = tree.build(v, lay)
     return v
 
@@ -71,13 +74,14 @@ def damaged(source, lay, v):
     return v
 
 
-def compare_tests(tally, proved, case, lay, v, epoch, changing):
+def compare_tests(tally, proved, case, lay, v, head):
     n, p, f = U32(lay.n), U32(lay.p), U32(lay.f)
-    said = out(proved.ngt_whole, 16, *slice_of(bytes(v)), n, p, f, U16(epoch), FLAG(changing))
-    tally.same("whole", case, said, image(tree.whole_test(v, lay, epoch, changing)))
+    held = U16(head[0]), FLAG(head[1]), U64(head[2])
+    said = out(proved.ngt_whole, 16, *slice_of(bytes(v)), n, p, f, *held)
+    tally.same("whole", case, said, image(tree.whole_test(v, lay, head)))
     for i in range(lay.n):
-        said = out(proved.ngt_path, 16, *slice_of(bytes(v)), n, p, f, U16(epoch), FLAG(changing), U32(i))
-        tally.same("path", (case, i), said, image(tree.path_test(v, lay, epoch, changing, i)))
+        said = out(proved.ngt_path, 16, *slice_of(bytes(v)), n, p, f, *held, U32(i))
+        tally.same("path", (case, i), said, image(tree.path_test(v, lay, head, i)))
 
 
 def compare_stores(tally, proved, source, case, lay, v):
@@ -99,7 +103,7 @@ def compare_refusals(tally, proved, case, lay, v):
     for what, words, number in (("length", (bytes(v[:-1]), n, p, f, U32(0)), 2), ("limits", (bytes(v), U32(16385), p, f, U32(0)), 1),
                                 ("nugget", (bytes(v), n, p, f, U32(lay.n)), 8)):
         data, a, b, c, nugget = words
-        said = out(proved.ngt_path, 16, *slice_of(data), a, b, c, U16(1), FLAG(False), nugget)
+        said = out(proved.ngt_path, 16, *slice_of(data), a, b, c, U16(1), FLAG(False), U64(9), nugget)
         tally.same(f"path refuses {what}", case, said, struct.pack("<IIII", number, 0, 0, 0))
         mine = room(data)
         proved.ngt_renew(mine, ctypes.c_size_t(len(data)), a, b, c, nugget)
@@ -110,13 +114,13 @@ def places(tally, proved):
     """Readings 3, 4 and 6: one nugget alone; a padding leaf; nodes 7 and 13 of five nuggets at once."""
     def told(shape, nodes):
         lay = layout(*shape)
-        v = volume_of(random.Random(7), lay, 1, False)
+        v = volume_of(random.Random(7), lay, 1, False, 9)
         for i in range(lay.n):
             v[lay.record_at(i):lay.record_at(i) + 18] = struct.pack("<QQH", i, 1, 1)
         v[lay.tree:lay.flakes] = tree.build(v, lay)
         for i in nodes:
             v[lay.node_at(i)] ^= 1
-        return out(proved.ngt_whole, 16, *slice_of(bytes(v)), U32(lay.n), U32(lay.p), U32(lay.f), U16(1), FLAG(False))
+        return out(proved.ngt_whole, 16, *slice_of(bytes(v)), U32(lay.n), U32(lay.p), U32(lay.f), U16(1), FLAG(False), U64(9))
     for shape, nodes, kind, value in (((1, 1, 64), [1], 2, 0), ((3, 2, 64), [7], 3, 7), ((3, 2, 64), [1], 3, 1), ((5, 2, 64), [7, 13], 3, 13),
                                       ((5, 2, 64), [7], 3, 7), ((5, 2, 64), [15, 1], 3, 15), ((5, 2, 64), [12, 15], 2, 4)):
         tally.same("place", (shape, nodes), told(shape, nodes), struct.pack("<IIII", 7, kind, value, 0))
@@ -133,9 +137,10 @@ def main():
             source, lay = random.Random(f"{SEED} {shape} {case}"), layout(*shape)
             changing = source.choice([False, True])
             epoch = source.choice([2, 65535, source.randrange(2, 65536)]) if changing else source.choice([1, 2, 65535])
-            v = volume_of(source, lay, epoch, changing)
+            counter = source.choice([0, 1, 9, TOP - 1, TOP, source.randrange(2**64)])
+            v = volume_of(source, lay, epoch, changing, counter)
             hurt = damaged(source, lay, v)
-            compare_tests(tally, proved, (shape, case), lay, hurt, epoch, changing)
+            compare_tests(tally, proved, (shape, case), lay, hurt, (epoch, changing, counter))
             compare_stores(tally, proved, source, (shape, case), lay, hurt)
             if case < 3:
                 compare_refusals(tally, proved, (shape, case), lay, v)

@@ -17,11 +17,11 @@ def not_refused(tally):
     absent = flipped(volume, LAY.flake_at(2, 1))
     tally.same("an absent flake isn't tested", read_call(drive, absent).buffer,
                read_call(drive, volume).buffer)
-    case = [[TOP, 1, 3], [TOP, 0, 3], [0, 3, 3]]
+    case = [[9, 1, 3], [9, 0, 3], [0, 3, 3]]
     drive, volume = made(Spec(3, 2, 64, 0, 3, 9, case))
     got = calls.write(drive, flipped(volume, LAY.flake_at(0, 0)), 64, b"!" * 128)
-    tally.same("no rekey, so no 14 and no flake test", (got.answer, [pad[:3] for pad in got.pads]),
-               (Answer(0), [(0, TOP, 1), (1, TOP, 0)]))
+    tally.same("no rekey, so no flake test", (got.answer, [pad[:3] for pad in got.pads]),
+               (Answer(0), [(0, 9, 1), (1, 9, 0)]))
     got = calls.begin(drive, flipped(volume, LAY.record_at(1)), OTHER)
     tally.same("begin tests no record", got.answer, Answer(0))
     got = calls.stored_flake(drive, flipped(volume, 0), 1, 1)
@@ -84,7 +84,39 @@ def more_answers(tally):
     tally.same("steady, check not zero", calls.mount(odd, PRESENT, OLD, 9).answer, Answer(5))
 
 
+def keycounts(tally):
+    """Document 02, Item 7: a keycount equal to the counter is no fault, one above it is, for every
+    path and every whole test. At the counter's top 13 comes before any rekey."""
+    for counter in (0, 1, 9, TOP - 1, TOP):
+        for n in range(3):
+            records = [[0, 3, 2 + (i == 1)] for i in range(3)]
+            records[n][0] = counter
+            spec = Spec(3, 2, 64, 1, 3, counter, records)
+            drive, volume = made(spec)
+            late = 13 if counter == TOP else 0
+            for got, want in ((calls.mount(volume, PRESENT, OLD, counter), 0),
+                              (calls.report(drive, volume), 0), (read_call(drive, volume), 0),
+                              (write_call(drive, volume), late),
+                              (calls.sweep(drive, volume, n), 12 if n == 1 else late)):
+                tally.same(f"keycount {n} at the counter {counter}", got.answer, Answer(want))
+            if counter == TOP:
+                continue
+            got = write_call(drive, volume)
+            tally.same(f"keycount {n} raised with the counter {counter}",
+                       (got.drive.counter, got.pads[2 * n][:3]), (counter + 1, (n, counter + 1, 0)))
+            records[n][0] = counter + 1
+            drive, volume = made(spec)
+            for got in (calls.mount(volume, PRESENT, OLD, counter), calls.report(drive, volume),
+                        read_call(drive, volume), write_call(drive, volume),
+                        calls.sweep(drive, volume, n), calls.finish(drive, volume)):
+                tally.same(f"keycount {n} above the counter {counter}", got.answer, at7(RECORD, n))
+            other = (n + 1) % 3
+            got = calls.read(drive, volume, 128 * other, b"?" * 128)
+            tally.same(f"keycount {n} above isn't asked of nugget {other}", got.answer, Answer(0))
+
+
 def run(tally):
     not_refused(tally)
+    keycounts(tally)
     junk_kept(tally)
     more_answers(tally)

@@ -20,8 +20,8 @@ LINE = re.compile(rb"(nuggets=\d+ moved=\d+ left=\d+ flakes=\d+ share=\d+\.\d\d 
 # Which numbers each call may give at all.
 POSSIBLE = {
     "format": {0, 1, 2, 13}, "mount": {0, 1, 2, 3, 4, 5, 6, 7}, "read": {0, 1, 2, 7, 8},
-    "write": {0, 1, 2, 7, 8, 13, 14}, "queue": {0, 1, 2, 7, 8, 13, 14}, "begin": {0, 1, 2, 7, 9, 10, 13, 15},
-    "sweep": {0, 1, 2, 7, 8, 9, 12, 13, 14}, "finish": {0, 1, 2, 7, 9, 11, 13},
+    "write": {0, 1, 2, 7, 8, 13}, "queue": {0, 1, 2, 7, 8, 13}, "begin": {0, 1, 2, 7, 9, 10, 13, 15},
+    "sweep": {0, 1, 2, 7, 8, 9, 12, 13}, "finish": {0, 1, 2, 7, 9, 11, 13},
     "report": {0, 1, 2, 7}, "stored_flake": {0, 1, 2, 8},
 }
 # Which places each call's 7 may carry. Mount tests the head by its seal.
@@ -32,11 +32,12 @@ PLACES = {
 }
 
 
-def wild_record(chance, p, epoch):
+def wild_record(chance, p, epoch, counter):
     """Well formed or not, as it comes."""
     journal = chance.choice((0, 1, 2**p - 1, 2**p % 2**64, chance.getrandbits(64)))
     epochs = (epoch, epoch, epoch - 1, epoch - 1, epoch - 2, epoch + 1, 65535)
-    return [chance.choice((0, 1, TOP - 1, TOP)), journal, chance.choice(epochs) % 65536]
+    keycounts = (0, 0, counter, counter, max(counter - 1, 0), min(counter + 1, TOP), TOP)
+    return [chance.choice(keycounts), journal, chance.choice(epochs) % 65536]
 
 
 def sealed(chance):
@@ -45,7 +46,7 @@ def sealed(chance):
     state = chance.randrange(2)
     epoch = chance.choice((1 + state, 3, 65534, 65535))
     counter = chance.choice((0, 5, TOP))
-    records = [wild_record(chance, p, epoch) for _ in range(n)]
+    records = [wild_record(chance, p, epoch, counter) for _ in range(n)]
     drive, volume = made(Spec(n, p, 64, state, epoch, counter, records))
     if chance.random() < 0.3:
         volume = flipped(volume, chance.randrange(len(volume)), chance.randrange(8))

@@ -34,9 +34,9 @@ def near_tops(tally, chance, words):
     n, p, f = chance.randint(1, 5), chance.choice((1, 2, 3, 64)), 64
     state = chance.randrange(2)
     epoch = chance.choice((65533, 65534, 65535))
-    records = [[chance.choice((0, TOP - 2, TOP - 1, TOP)), chance.randrange(2**min(p, 3)),
-                epoch - chance.randrange(2) * state] for _ in range(n)]
     counter = TOP - chance.choice((0, 3, 15, 60))
+    records = [[chance.choice((0, counter - 1, counter, counter)), chance.randrange(2**min(p, 3)),
+                epoch - chance.randrange(2) * state] for _ in range(n)]
     old = secret(chance) if state else bytes(32)
     return History(tally, words, Spec(n, p, f, state, epoch, counter, records, secret(chance), old,
                                       some_text))
@@ -123,4 +123,4 @@ def run(tally):
     met = set()
     for i in range(COUNT):
         met |= one(tally, i)
-    tally.same("every answer of an undamaged history was met", met, {0, *range(8, 16)})
+    tally.same("every answer of an undamaged history was met", met, {0, *range(8, 14), 15})

@@ -132,7 +132,8 @@ class Hostile:
         journals = (0, 2**drive.p - 1, 2**drive.p % 2**64, chance.getrandbits(64))
         way = chance.randrange(4)
         if way < 2:
-            self.set(work, n, keycount=chance.choice((TOP, TOP, TOP - 1)))
+            counter = drive.counter
+            self.set(work, n, keycount=chance.choice((TOP, counter, counter, min(counter + 1, TOP))))
         elif way == 2:
             self.set(work, n, journal=chance.choice(journals))
         else:

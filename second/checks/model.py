@@ -68,8 +68,6 @@ class Model:
             plan.setdefault(flake // self.p, set()).add(flake % self.p)
         anew = {n for n in plan
                 if plan[n] & set(self.flakes(n)) or self.records[n][2] != self.epoch}
-        if any(self.records[n][0] == TOP for n in anew):
-            return 14, []
         pads = []
         for n in plan:
             fresh = plan[n] | set(self.flakes(n)) if n in anew else plan[n]
@@ -103,8 +101,6 @@ class Model:
             return 12, []
         if self.counter == TOP:
             return 13, []
-        if self.records[n][0] == TOP:
-            return 14, []
         self.rekey(n)
         self.counter += 1
         return 0, [(n, self.records[n][0], f) for f in self.flakes(n)]

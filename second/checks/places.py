@@ -84,7 +84,7 @@ def trees(tally):
         work[lay.tag_at(n - 1, 0)] ^= 1
         tree.renew(work, lay, n - 1)
         tally.same(f"path of {n} renewed", work[lay.tree:lay.flakes], tree.build(work, lay))
-        tally.same(f"whole of {n} renewed", tree.whole_test(bytes(work), lay, 3, True), None)
+        tally.same(f"whole of {n} renewed", tree.whole_test(bytes(work), lay, (3, True, 9)), None)
 
 
 def run(tally):

@@ -87,8 +87,9 @@ def flake_fault(n, f):
     return (f"flake {n} {f}", at7(FLAKE, n, f), flip(LAY.flake_at(n, f) + 63))
 
 
-def spent(n):
-    return (f"keycount {n}", Answer(14), record(n, KEYCOUNT, TOP))
+def above(n):
+    """Document 02, Item 7: a keycount above the head's counter, which is 9."""
+    return (f"keycount {n} above", at7(RECORD, n), record(n, KEYCOUNT, 10))
 
 
 def tag_fault(n):
@@ -96,14 +97,14 @@ def tag_fault(n):
     return (f"tag of {n}", at7(RECORD, n), flip(LAY.tag_at(n, 1)))
 
 
-PATH0 = [tag_fault(0), ("journal past P", at7(RECORD, 0), record(0, JOURNAL, 7)),
+PATH0 = [tag_fault(0), above(0), ("journal past P", at7(RECORD, 0), record(0, JOURNAL, 7)),
          ("epoch too low", at7(RECORD, 0), record(0, EPOCH, 1)),
          ("epoch too high", at7(RECORD, 0), record(0, EPOCH, 4)),
          ("node 2", at7(NODE, 2), flip(LAY.node_at(2))),
          ("node 3 beside", at7(NODE, 1), flip(LAY.node_at(3)))]
 # Node 7 is a padding leaf: a path never tests it, but node 3 isn't made of it.
-PATH2 = [tag_fault(2), ("node 7 below", at7(NODE, 3), flip(LAY.node_at(7)))]
-WHOLE = [tag_fault(0), tag_fault(1), ("journal of 1", at7(RECORD, 1), record(1, JOURNAL, 4)),
+PATH2 = [tag_fault(2), above(2), ("node 7 below", at7(NODE, 3), flip(LAY.node_at(7)))]
+WHOLE = [tag_fault(0), tag_fault(1), above(1), ("journal of 1", at7(RECORD, 1), record(1, JOURNAL, 4)),
          ("leaf of 2", at7(RECORD, 2), flip(LAY.node_at(6))),
          ("epoch of 2", at7(RECORD, 2), record(2, EPOCH, 1)),
          ("node 7", at7(NODE, 7), flip(LAY.node_at(7))),
@@ -158,13 +159,12 @@ MOUNT = [("under 104", Answer(2), cut_short), ("mark", Answer(3), flip(2)),
          ("old secret", Answer(5), value(old=OTHER)),
          ("check", Answer(5), setting(check=b"\x77" * 32)),
          ("outside", Answer(6), value(outside=8))] + WHOLE
-NUGGETS = [*PATH0, spent(0), flake_fault(0, 0), flake_fault(0, 1), tag_fault(1), spent(1),
-           flake_fault(1, 0), flake_fault(1, 1), *PATH2, spent(2), flake_fault(2, 0)]
-TOUCHED = [fault for fault in NUGGETS if fault[1].number == 7]
+NUGGETS = [*PATH0, flake_fault(0, 0), flake_fault(0, 1), tag_fault(1), above(1),
+           flake_fault(1, 0), flake_fault(1, 1), *PATH2, flake_fault(2, 0)]
 
 # name, call, state, epoch, records, faults in order
 TABLE = [
-    ("read", read_call, 1, 3, MIXED, [*FIRST, WRONG_RANGE, *TOUCHED]),
+    ("read", read_call, 1, 3, MIXED, [*FIRST, WRONG_RANGE, *NUGGETS]),
     ("write", write_call, 1, 3, MIXED, [*FIRST, WRONG_RANGE, LATE_COUNTER, *NUGGETS]),
     ("empty write", empty_write, 1, 3, MIXED, [*FIRST, ("range", Answer(8), value(offset=ALL + 1))]),
     ("begin", begin_call, 0, 3, MOVED,
@@ -172,8 +172,8 @@ TABLE = [
       ("epoch top", Answer(15), setting(epoch=65535)), LATE_COUNTER]),
     ("sweep", sweep_call, 1, 3, MIXED,
      [*FIRST, ("steady", Answer(9), steady), ("nugget", Answer(8), value(nugget=3)),
-      *PATH0, ("moved", Answer(12), record(0, EPOCH, 3)), LATE_COUNTER, spent(0),
-      flake_fault(0, 0), flake_fault(0, 1)]),
+      *PATH0, ("moved", Answer(12), record(0, EPOCH, 3)), LATE_COUNTER, flake_fault(0, 0),
+      flake_fault(0, 1)]),
     ("finish", lambda drive, volume: calls.finish(drive, volume), 1, 3, MOVED,
      [*FIRST, ("steady", Answer(9), steady), *WHOLE,
       ("one left", Answer(11, left=1), record(1, EPOCH, 2)), LATE_COUNTER]),
@@ -189,7 +189,9 @@ TABLE = [
 APART = [{"longer", "shorter"}, {"under 104", "longer"}, {"under 104", "shorter"},
          {"steady", "one left"}, {"nugget", "flake"}, {"check", "old secret"},
          {"epoch too low", "epoch too high"}, {"epoch too low", "moved"},
-         {"epoch too high", "moved"}, {"steady", "epoch too low"}, {"steady", "epoch too high"}]
+         {"epoch too high", "moved"}, {"steady", "epoch too low"}, {"steady", "epoch too high"},
+         # No keycount is above a counter at its top.
+         *({"counter", f"keycount {n} above"} for n in range(3))]
 
 
 def tried(tally, row, faults):

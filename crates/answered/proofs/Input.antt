@@ -15,7 +15,7 @@ use Rattle.words.proofs.LeLaws.{length-le, num-le}
 use Rattle.answers.specs.Numbers.{accepts}
 use Rattle.answers.specs.declared.Answer.the-variants as A
 use Rattle.layout.specs.Parts.{lengthOf}
-use Rattle.records.proofs.RuleLaws.{formed-epoch}
+use Rattle.records.proofs.RuleLaws.{formed-epoch, formed-keycount}
 use Rattle.drive.specs.declared.Done.{Done}
 use Rattle.drive.specs.Drive.{shapeOf, gaugeOf, isChanging}
 use Rattle.records.specs.Record.{recordOf}
@@ -101,7 +101,7 @@ module _ (w : World) (x : Sound w) (any : List ℕ) (fits : PageTakes w any) whe
   mounted = both-on size (ap (λ (m : Done). accepts (m .answer)) mounted-is)
 
   narrow : Narrow (w .drive) (w .vol)
-  narrow n h = (omega (arith, x .inv .below n h, x .handed .counter-lt), low (formed-epoch (w .drive .p) (gaugeOf (w .drive)) (recordOf (shapeOf (w .drive)) (w .vol) n) (x .inv .formed n h)))
+  narrow n h = (omega (arith, formed-keycount (w .drive .p) (gaugeOf (w .drive)) (recordOf (shapeOf (w .drive)) (w .vol) n) (x .inv .formed n h), x .handed .counter-lt), low (formed-epoch (w .drive .p) (gaugeOf (w .drive)) (recordOf (shapeOf (w .drive)) (w .vol) n) (x .inv .formed n h)))
     where
       low : (recordOf (shapeOf (w .drive)) (w .vol) n .epoch ≡ w .drive .epoch) ⊎ ((isChanging (w .drive .state) ≡ true) × (recordOf (shapeOf (w .drive)) (w .vol) n .epoch + 1 ≡ w .drive .epoch)) → recordOf (shapeOf (w .drive)) (w .vol) n .epoch < 2 ^ 16
       low (inl e) = omega (arith, e, x .handed .epoch-lt)

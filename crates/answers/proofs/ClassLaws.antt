@@ -1,8 +1,11 @@
 -- The class of each range of numbers.
-use mathlib.Core.Path.{_≡_, refl}
+use mathlib.Core.Path.{_≡_, refl, _∙_}
+use mathlib.Core.Logic.{_⊎_, inl, inr}
 use Prim.Native.Nat.{ℕ, _≤_}
 use native.Mathlib.Omega.{arith}
-use borrow.Author.Tests.{le-leb, lt-leb}
+use lib.Dec.{eqb}
+use borrow.Author.Tests.{eq-eqb, ne-eqb, le-leb, lt-leb}
+use Rattle.base.specs.Pick.{pick}
 use Rattle.base.proofs.PickLaws.{yes, no}
 use Rattle.answers.specs.Classes.{classOf}
 use Rattle.answers.specs.declared.Class.the-variants as C
@@ -21,16 +24,20 @@ request n a b =
     no _ (lt-leb n 0 (omega arith))
     (no _ (lt-leb n 3 (omega arith)) (no _ (lt-leb n 6 (omega arith)) (no _ (lt-leb n 7 a) (yes _ (le-leb n 12 b) refl))))
 
-pub spent : (n : ℕ) → 13 ≤ n → n ≤ 15 → classOf n ≡ C.Spent
+-- past 12 there are 13 and 15 alone
+past : (n : ℕ) → 13 ≤ n → classOf n ≡ pick (eqb n 13) C.Spent (pick (eqb n 15) C.Spent C.Nothing)
 unfolding classOf
-spent n a b =
+past n a =
     no _ (lt-leb n 0 (omega arith))
-    (no _ (lt-leb n 3 (omega arith))
-    (no _ (lt-leb n 6 (omega arith)) (no _ (lt-leb n 7 (omega arith)) (no _ (lt-leb n 12 a) (yes _ (le-leb n 15 b) refl)))))
+    (no _ (lt-leb n 3 (omega arith)) (no _ (lt-leb n 6 (omega arith)) (no _ (lt-leb n 7 (omega arith)) (no _ (lt-leb n 12 a) refl))))
 
-pub nothing : (n : ℕ) → 16 ≤ n → classOf n ≡ C.Nothing
-unfolding classOf
-nothing n a =
-    no _ (lt-leb n 0 (omega arith))
-    (no _ (lt-leb n 3 (omega arith))
-    (no _ (lt-leb n 6 (omega arith)) (no _ (lt-leb n 7 (omega arith)) (no _ (lt-leb n 12 (omega arith)) (no _ (lt-leb n 15 a) refl)))))
+pub spent : (n : ℕ) → (n ≡ 13) ⊎ (n ≡ 15) → classOf n ≡ C.Spent
+spent n (inl e) = past n (omega arith) ∙ yes _ (eq-eqb n 13 e) refl
+spent n (inr e) = past n (omega arith) ∙ no _ (ne-eqb n 13 (λ q. omega arith)) (yes _ (eq-eqb n 15 e) refl)
+
+-- every other number past 12, 14 among them
+pub nothing : (n : ℕ) → 13 ≤ n → (n ≡ 13 → ⊥) → (n ≡ 15 → ⊥) → classOf n ≡ C.Nothing
+nothing n a b c = past n a ∙ no _ (ne-eqb n 13 b) (no _ (ne-eqb n 15 c) refl)
+
+pub fourteen : classOf 14 ≡ C.Nothing
+fourteen = nothing 14 (omega arith) (λ e. omega arith) (λ e. omega arith)

@@ -1,3 +1,4 @@
 pub mod ClassLaws
+pub mod NumberLaws
 pub mod Outcomes
 pub mod StageLaws

@@ -52,7 +52,6 @@ refuses A.SameSecret h = refl
 refuses (A.Left x) h = refl
 refuses A.Moved h = refl
 refuses A.CounterTop h = refl
-refuses A.KeycountTop h = refl
 refuses A.EpochTop h = refl
 
 -- a test of an accepted answer held, and what comes behind it is accepted
@@ -76,7 +75,6 @@ accepted-is A.SameSecret e = absurd (clash e refl)
 accepted-is (A.Left k) e = absurd (clash e refl)
 accepted-is A.Moved e = absurd (clash e refl)
 accepted-is A.CounterTop e = absurd (clash e refl)
-accepted-is A.KeycountTop e = absurd (clash e refl)
 accepted-is A.EpochTop e = absurd (clash e refl)
 
 -- a stage before one that accepts has the last word

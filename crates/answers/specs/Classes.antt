@@ -1,6 +1,6 @@
--- "Classes: answers 1 to 3 form, 4 to 6 key, 7 altered, 8 to 12 request, 13 to 15 spent."
+-- "Classes: answers 1 to 3 form, 4 to 6 key, 7 altered, 8 to 12 request, 13 to 15 spent." 14 is no refusal any more (Item 7).
 use Prim.Native.Nat.{ℕ}
-use lib.Dec.{leb}
+use lib.Dec.{eqb, leb}
 use Rattle.base.specs.Pick.{pick}
 use Rattle.answers.specs.declared.Class.{Class}
 use Rattle.answers.specs.declared.Class.the-variants as C
@@ -11,4 +11,4 @@ classOf n =
     pick (leb n 0) C.Nothing
     (pick (leb n 3) C.Form
     (pick (leb n 6) C.Key
-    (pick (leb n 7) C.Altered (pick (leb n 12) C.Request (pick (leb n 15) C.Spent C.Nothing)))))
+    (pick (leb n 7) C.Altered (pick (leb n 12) C.Request (pick (eqb n 13) C.Spent (pick (eqb n 15) C.Spent C.Nothing))))))

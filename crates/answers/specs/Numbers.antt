@@ -7,7 +7,7 @@ use Rattle.answers.specs.declared.Answer.the-variants as A
 use Rattle.answers.specs.declared.Carried.{Carried}
 use Rattle.answers.specs.declared.Carried.the-variants as C
 
--- "A refusal carries one of fifteen numbers"; 0 is acceptance
+-- "A refusal carries one of fifteen numbers"; 0 is acceptance. Document 02, Item 7: "14 goes and stays unassigned."
 abbrev pub numberOf : Answer → ℕ
 numberOf A.Accepted = 0
 numberOf A.Limits = 1
@@ -23,7 +23,6 @@ numberOf A.SameSecret = 10
 numberOf (A.Left k) = 11
 numberOf A.Moved = 12
 numberOf A.CounterTop = 13
-numberOf A.KeycountTop = 14
 numberOf A.EpochTop = 15
 
 -- 7: "altered, with its place"; 11: "carries how many"; the others carry nothing
@@ -42,7 +41,6 @@ carriedOf A.SameSecret = C.Nothing
 carriedOf (A.Left k) = C.Many k
 carriedOf A.Moved = C.Nothing
 carriedOf A.CounterTop = C.Nothing
-carriedOf A.KeycountTop = C.Nothing
 carriedOf A.EpochTop = C.Nothing
 
 -- the call is accepted

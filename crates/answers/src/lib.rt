@@ -1,4 +1,4 @@
-// The answers of the calls: acceptance and document 01's fifteen numbers, with places and classes.
+// The answers of the calls: acceptance and document 01's numbers, with places and classes.
 // It touches `base` alone.
 ghost use mathlib.Core.Path.{_≡_};
 ghost use Rattle.answers.specs.Numbers.{numberOf, carriedOf, accepts};
@@ -12,7 +12,7 @@ pub enum Place {
     Flake(u32, u32),
 }
 
-// A case for acceptance and one for each of the fifteen numbers, in their order.
+// A case for acceptance and one for each number that is given, in their order. Document 02, Item 7: "14 goes and stays unassigned."
 pub enum Answer {
     Accepted,
     Limits,
@@ -28,7 +28,6 @@ pub enum Answer {
     Left(u32),
     Moved,
     CounterTop,
-    KeycountTop,
     EpochTop,
 }
 
@@ -39,7 +38,7 @@ pub enum Carried {
     Many(u32),
 }
 
-// "Classes: answers 1 to 3 form, 4 to 6 key, 7 altered, 8 to 12 request, 13 to 15 spent."
+// "Classes: answers 1 to 3 form, 4 to 6 key, 7 altered, 8 to 12 request, 13 to 15 spent." 14 is no refusal any more.
 pub enum Class {
     Nothing,
     Form,
@@ -68,7 +67,6 @@ pub fn number(a: Answer) -> u32
         Answer::Left(_) => 11,
         Answer::Moved => 12,
         Answer::CounterTop => 13,
-        Answer::KeycountTop => 14,
         Answer::EpochTop => 15,
     }
 }
@@ -92,7 +90,6 @@ pub fn carried_by(a: Answer) -> Carried
         Answer::Left(k) => Carried::Many(k),
         Answer::Moved => Carried::Nothing,
         Answer::CounterTop => Carried::Nothing,
-        Answer::KeycountTop => Carried::Nothing,
         Answer::EpochTop => Carried::Nothing,
     }
 }
@@ -113,7 +110,8 @@ pub fn class_of(number: u32) -> Class
         4..=6 => Class::Key,
         7 => Class::Altered,
         8..=12 => Class::Request,
-        13..=15 => Class::Spent,
+        13 => Class::Spent,
+        15 => Class::Spent,
         _ => Class::Nothing,
     }
 }

@@ -20,7 +20,7 @@ use Rattle.records.specs.declared.Record.{Record}
 use Rattle.records.specs.declared.Way.{Way}
 use Rattle.records.specs.declared.Way.the-variants.{Idle, Add, Rekey}
 use Rattle.records.specs.Journal.{bit}
-use Rattle.records.specs.Rule.{enciphered, rekeys, atTop}
+use Rattle.records.specs.Rule.{enciphered, rekeys}
 use Rattle.records.proofs.BitLaws.{bit-empty}
 use Rattle.records.proofs.RuleLaws.{formed-epoch}
 use Rattle.nodes.specs.Nodes.{nodeIn}
@@ -94,7 +94,7 @@ module _ (d : Drive) (any v : List ℕ) (steady : isChanging (d .state) ≡ fals
   change-same l n way h =
       no-same (idles way) _
       (λ busy. yes-same (accepts (pathFor d v n)) _
-      (λ p. ap (λ (g : Nugget). pick (atTop way (recordOf (shapeOf d) v n)) A.KeycountTop (pick (rekeys way) (flakesTested (shapeOf d) v g (recordOf (shapeOf d) v n .held)) A.Accepted)) (nugget-same l n h p)))
+      (λ p. ap (λ (g : Nugget). pick (rekeys way) (flakesTested (shapeOf d) v g (recordOf (shapeOf d) v n .held)) A.Accepted) (nugget-same l n h p)))
 
   tested-same : Shaped (shapeOf d) v → (way : ℕ → Way) (n : ℕ) → n ≤ d .n → testedTo e v way n ≡ testedTo d v way n
   unfolding testedTo

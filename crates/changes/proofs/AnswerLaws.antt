@@ -2,7 +2,7 @@
 use mathlib.Core.Path.{_≡_, refl, sym, ap, _∙_}
 use mathlib.Core.Bool.{true, false}
 use mathlib.Core.List.{List}
-use Prim.Native.Nat.{ℕ, _+_, _<_, _≤_}
+use Prim.Native.Nat.{ℕ, _+_, _^_, _<_, _≤_}
 use native.Mathlib.Omega.{arith}
 use lib.Dec.{eqb, ltb}
 use borrow.Author.Tests.{ne-eqb, eqb-false, ltb-true, ltb-false}
@@ -14,9 +14,12 @@ use Rattle.answers.specs.declared.Answer.the-variants as A
 use Rattle.answers.specs.Numbers.{accepts}
 use Rattle.answers.proofs.StageLaws.{passed, both-stages, spared, accepted-is}
 use Rattle.records.specs.declared.Way.{Way}
-use Rattle.records.specs.Rule.{sweepWay, rekeys, atTop}
+use Rattle.records.specs.declared.Way.the-variants.{Idle, Add, Rekey}
+use Rattle.records.specs.Rule.{sweepWay, rekeys, CanRise}
 use Rattle.records.specs.Record.{recordOf}
+use Rattle.records.proofs.RuleLaws.{formed-keycount}
 use Rattle.tree.specs.Whole.{wholeOf}
+use Rattle.tree.proofs.PathLaws.{path-formed}
 use Rattle.drive.specs.declared.Drive.{Drive}
 use Rattle.drive.specs.Drive.{shapeOf, gaugeOf, isChanging, counterTop}
 use Rattle.drive.specs.Opening.{openingOf}
@@ -29,7 +32,8 @@ use Rattle.reports.proofs.CountLaws.{moved-le}
 use Rattle.changes.specs.Change.{idles, nuggetChange}
 use Rattle.changes.specs.Write.{writeWay, writeAnswer}
 use Rattle.changes.specs.Rekey.{epochTop, beginTests, beginAnswer, moveTests, nuggetTests, sweepAnswer, leftIn, finishTests, finishAnswer}
-use Rattle.changes.proofs.SpanLaws.{tested-each, change-room}
+use Rattle.changes.specs.First.{ThirteenFirst}
+use Rattle.changes.proofs.SpanLaws.{tested-each}
 
 pub record Begins (d : Drive) (v : List ℕ) : Type 0 where
   pub opens : openingOf d v ≡ A.Accepted
@@ -62,7 +66,6 @@ pub record Moves (d : Drive) (v : List ℕ) (n : ℕ) : Type 0 where
   pub inside : n < d .n
   pub path : pathFor d v n ≡ A.Accepted
   pub counterRoom : d .counter ≡ counterTop → ⊥
-  pub keycountRoom : atTop sweepWay (recordOf (shapeOf d) v n) ≡ false
   pub flakes : flakesOf d v n (recordOf (shapeOf d) v n .held) ≡ A.Accepted
 
 pub sweep-told : (d : Drive) (v : List ℕ) (n : ℕ) → accepts (sweepAnswer d v n) ≡ true → Moves d v n
@@ -74,7 +77,6 @@ sweep-told d v n e =
     let path = both-stages (pathFor d v n) _ (below .1) in
     let left = spared (eqb (recordOf (shapeOf d) v n .epoch) (d .epoch)) A.Moved _ refl (path .1) in
     let counter = spared (eqb (d .counter) counterTop) A.CounterTop _ refl (left .1) in
-    let keycount = spared (atTop sweepWay (recordOf (shapeOf d) v n)) A.KeycountTop _ refl (counter .1) in
     record {
       opens = accepted-is (openingOf d v) (opened .0);
       lent = opening-lent d v (opened .0);
@@ -82,8 +84,7 @@ sweep-told d v n e =
       inside = ltb-true n (d .n) (below .0);
       path = accepted-is (pathFor d v n) (path .0);
       counterRoom = eqb-false (d .counter) counterTop (counter .0);
-      keycountRoom = keycount .0;
-      flakes = accepted-is (flakesOf d v n (recordOf (shapeOf d) v n .held)) (keycount .1);
+      flakes = accepted-is (flakesOf d v n (recordOf (shapeOf d) v n .held)) (counter .1);
     }
 
 pub record Finishes (d : Drive) (v : List ℕ) : Type 0 where
@@ -112,7 +113,7 @@ finish-told d v e =
       allMoved = omega (arith, ltb-false 0 (leftIn d v) (none .0), moved-le (shapeOf d) (d .epoch) v (d .n));
     }
 
--- of a nugget that a change touches: "path; 14; flakes, ascending"; "a rekey tests all of J"
+-- of a nugget that a change touches: "path; [..] flakes, ascending"; "a rekey tests all of J"
 pub record Tests (d : Drive) (v : List ℕ) (n : ℕ) (way : Way) : Type 0 where
   pub path : pathFor d v n ≡ A.Accepted
   pub flakes : rekeys way ≡ true → flakesOf d v n (recordOf (shapeOf d) v n .held) ≡ A.Accepted
@@ -121,8 +122,7 @@ change-told : (d : Drive) (v : List ℕ) (n : ℕ) (way : Way) → idles way ≡
 unfolding nuggetChange
 change-told d v n way some e =
     let stages = both-stages (pathFor d v n) _ (rw some at e) in
-    let room = spared (atTop way (recordOf (shapeOf d) v n)) A.KeycountTop _ refl (stages .1) in
-    record { path = accepted-is (pathFor d v n) (stages .0); flakes = λ r. accepted-is _ (rw r at (room .1)) }
+    record { path = accepted-is (pathFor d v n) (stages .0); flakes = λ r. accepted-is _ (rw r at (stages .1)) }
 
 -- "All others start 1, 2, 7 head": an empty write too
 pub write-opens : (d : Drive) (v : List ℕ) (o len : ℕ) → accepts (writeAnswer d v o len) ≡ true → openingOf d v ≡ A.Accepted
@@ -133,7 +133,6 @@ write-opens d v o len e = accepted-is (openingOf d v) (both-stages (openingOf d 
 pub record Granted (d : Drive) (v : List ℕ) (o len : ℕ) : Type 0 where
   pub lent : Shaped (shapeOf d) v
   pub inRange : o + len ≤ capacity (shapeOf d)
-  pub room : (n : ℕ) → n < d .n → atTop (writeWay d v o len n) (recordOf (shapeOf d) v n) ≡ false
   pub counterRoom : d .counter ≡ counterTop → ⊥
   pub tests : (n : ℕ) → n < d .n → idles (writeWay d v o len n) ≡ false → Tests d v n (writeWay d v o len n)
 
@@ -149,7 +148,25 @@ write-told d v o len some e =
     record {
       lent = opening-lent d v opens;
       inRange = fits-within d o len refl fits;
-      room = λ n h. change-room d v n (way n) (tested-each d v way (d .n) n h nuggets);
       counterRoom = eqb-false (d .counter) counterTop low;
       tests = λ n h moves. change-told d v n (way n) moves (tested-each d v way (d .n) n h nuggets);
     }
+
+rekeys-moves : (way : Way) → rekeys way ≡ true → idles way ≡ false
+rekeys-moves Idle e = cc
+rekeys-moves (Add t) e = refl
+rekeys-moves (Rekey t) e = refl
+
+-- "answer 13 always comes first"
+pub thirteen-first : ThirteenFirst
+thirteen-first d v n wide path low =
+    let below = formed-keycount (d .p) (gaugeOf d) (recordOf (shapeOf d) v n) (path-formed (shapeOf d) (gaugeOf d) v n path) in
+    omega (arith, below, wide, low)
+
+-- so the stores of an accepted change find a successor for every keycount that they raise
+pub sweep-rise : {d : Drive} {v : List ℕ} {n : ℕ} → d .counter < 2 ^ 64 → Moves d v n → CanRise sweepWay (recordOf (shapeOf d) v n)
+sweep-rise {d} {v} {n} wide t = λ e. thirteen-first d v n wide (t .path) (t .counterRoom)
+
+pub write-rise : {d : Drive} {v : List ℕ} {o len : ℕ} → d .counter < 2 ^ 64 → Granted d v o len
+    → (n : ℕ) → n < d .n → CanRise (writeWay d v o len n) (recordOf (shapeOf d) v n)
+write-rise {d} {v} {o} {len} wide t n h = λ e. thirteen-first d v n wide (t .tests n h (rekeys-moves (writeWay d v o len n) e) .path) (t .counterRoom)

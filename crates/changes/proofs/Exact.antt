@@ -1,23 +1,22 @@
--- Where nothing is altered, and no keycount is above the counter, the calls that change answer by numbers alone; and what
--- an accepted one makes of the drive's state, numbers and secrets.
+-- Where nothing is altered the calls that change answer by numbers alone; and what an accepted one makes of the drive's state,
+-- numbers and secrets.
 use mathlib.Core.Path.{_≡_, refl, ap}
 use mathlib.Core.Bool.{Bool, true, false, not}
 use mathlib.Core.List.{List}
 use Prim.Native.Nat.{ℕ, zero, suc, _+_, _*_, _-_, _^_, _<_, _≤_}
 use native.Mathlib.Omega.{arith}
 use lib.Dec.{eqb, leb, ltb}
-use borrow.Author.Tests.{ne-eqb, eqb-false, ltb-true}
+use borrow.Author.Tests.{ltb-true}
 use Rattle.base.specs.Pick.{pick}
 use Rattle.base.specs.Lists.{same}
-use Rattle.base.proofs.PickLaws.{yes, no, clash}
+use Rattle.base.proofs.PickLaws.{yes, clash}
 use Rattle.answers.specs.declared.Answer.{Answer}
 use Rattle.answers.specs.declared.Answer.the-variants as A
 use Rattle.answers.specs.Numbers.{accepts}
 use Rattle.answers.specs.Stages.{andThen}
 use Rattle.records.specs.declared.Way.{Way}
-use Rattle.records.specs.declared.Way.the-variants.{Idle, Add, Rekey}
 use Rattle.records.specs.Journal.{many}
-use Rattle.records.specs.Rule.{rekeys, atTop, sweepWay}
+use Rattle.records.specs.Rule.{rekeys}
 use Rattle.records.specs.Record.{recordOf}
 use Rattle.tree.specs.Whole.{wholeOf}
 use Rattle.drive.specs.declared.Drive.{Drive}
@@ -40,9 +39,6 @@ pub record Clean (d : Drive) (v : List ℕ) : Type 0 where
   pub paths : (n : ℕ) → n < d .n → pathFor d v n ≡ A.Accepted
   pub whole : wholeOf (shapeOf d) (gaugeOf d) v ≡ A.Accepted
   pub flakes : (n : ℕ) → n < d .n → flakesOf d v n (recordOf (shapeOf d) v n .held) ≡ A.Accepted
-  -- no keycount is above the counter, nor that above its top
-  pub counted : d .counter ≤ counterTop
-  pub below : (n : ℕ) → n < d .n → recordOf (shapeOf d) v n .keycount ≤ d .counter
 
 -- behind a test, where it holds and where it doesn't
 pub yes-same : (b : Bool) {A : Type 0} {x y : A} (r : A) → (b ≡ true → x ≡ y) → pick b x r ≡ pick b y r
@@ -58,23 +54,14 @@ taken true p q = p
 taken false p q = q
 
 module _ (d : Drive) (v : List ℕ) (x : Clean d v) where
-  -- "14" isn't due while 13 isn't
-  room : eqb (d .counter) counterTop ≡ false → (way : Way) (n : ℕ) → n < d .n → atTop way (recordOf (shapeOf d) v n) ≡ false
-  unfolding atTop
-  room low Idle n h = refl
-  room low (Add t) n h = refl
-  room low (Rekey t) n h =
-      ne-eqb (recordOf (shapeOf d) v n .keycount) (2 ^ 64 - 1) (λ e. eqb-false (d .counter) counterTop low (omega (arith, e, x .below n h, x .counted)))
-
-  nugget-taken : eqb (d .counter) counterTop ≡ false → (n : ℕ) (way : Way) → n < d .n → nuggetChange d v n way ≡ A.Accepted
+  nugget-taken : (n : ℕ) (way : Way) → n < d .n → nuggetChange d v n way ≡ A.Accepted
   unfolding nuggetChange andThen
-  nugget-taken low n way h =
-      taken (idles way) refl (yes _ (ap accepts (x .paths n h)) (no _ (room low way n h) (taken (rekeys way) (x .flakes n h) refl)))
+  nugget-taken n way h = taken (idles way) refl (yes _ (ap accepts (x .paths n h)) (taken (rekeys way) (x .flakes n h) refl))
 
-  tested-taken : eqb (d .counter) counterTop ≡ false → (way : ℕ → Way) (n : ℕ) → n ≤ d .n → testedTo d v way n ≡ A.Accepted
+  tested-taken : (way : ℕ → Way) (n : ℕ) → n ≤ d .n → testedTo d v way n ≡ A.Accepted
   unfolding testedTo andThen
-  tested-taken low way zero h = refl
-  tested-taken low way (suc n) h = yes _ (ap accepts (tested-taken low way n (omega arith))) (nugget-taken low n (way n) (omega arith))
+  tested-taken way zero h = refl
+  tested-taken way (suc n) h = yes _ (ap accepts (tested-taken way n (omega arith))) (nugget-taken n (way n) (omega arith))
 
   pub write-exact : (o len : ℕ) → writeAnswer d v o len
       ≡ pick (leb (o + len) (d .n * d .p * d .f)) (pick (eqb len 0) A.Accepted (pick (eqb (d .counter) (2 ^ 64 - 1)) A.CounterTop A.Accepted)) A.PastEnd
@@ -83,7 +70,7 @@ module _ (d : Drive) (v : List ℕ) (x : Clean d v) where
       yes _ (ap accepts (x .opens))
       (rw (fits-leb (shapeOf d) o len (opening-lent d v (ap accepts (x .opens)) .limited))
       (yes-same (leb (o + len) (d .n * d .p * d .f)) _
-      (λ fits. no-same (eqb len 0) _ (λ some. no-same (eqb (d .counter) counterTop) _ (λ low. tested-taken low (writeWay d v o len) (d .n) (omega arith))))))
+      (λ fits. no-same (eqb len 0) _ (λ some. no-same (eqb (d .counter) counterTop) _ (λ low. tested-taken (writeWay d v o len) (d .n) (omega arith))))))
 
   pub begin-exact : (secret : List ℕ) → beginAnswer d v secret
       ≡ pick (isChanging (d .state)) A.State
@@ -103,7 +90,7 @@ module _ (d : Drive) (v : List ℕ) (x : Clean d v) where
       (λ h. yes _ (ap accepts (x .paths n (ltb-true n (d .n) h)))
       (no-same (eqb (recordOf (shapeOf d) v n .epoch) (d .epoch)) _
       (λ left. no-same (eqb (d .counter) counterTop) _
-      (λ low. no _ (room low sweepWay n (ltb-true n (d .n) h)) (x .flakes n (ltb-true n (d .n) h))))))))
+      (λ low. x .flakes n (ltb-true n (d .n) h)))))))
 
   -- those left, counted one by one
   pub left-counted : leftIn d v ≡ many (d .n) (λ i. not (eqb (recordOf (shapeOf d) v i .epoch) (d .epoch)))

@@ -17,12 +17,12 @@ use Rattle.answers.specs.declared.Answer.{Answer}
 use Rattle.answers.specs.declared.Answer.the-variants as A
 use Rattle.answers.specs.Numbers.{accepts}
 use Rattle.answers.specs.Stages.{andThen}
-use Rattle.answers.proofs.StageLaws.{goes-on, stops, both-stages, spared, accepted-is}
+use Rattle.answers.proofs.StageLaws.{goes-on, stops, accepted-is}
 use Rattle.records.specs.declared.Record.{Record}
 use Rattle.records.specs.declared.Way.{Way}
 use Rattle.records.specs.declared.Way.the-variants.{Idle, Add, Rekey}
 use Rattle.records.specs.Journal.{shareNone}
-use Rattle.records.specs.Rule.{wayOf, atTop}
+use Rattle.records.specs.Rule.{wayOf}
 use Rattle.records.specs.Listing.{padsTo}
 use Rattle.records.proofs.BitLaws.{same-bits, bit-empty}
 use Rattle.records.proofs.MaskLaws.{bit-with}
@@ -148,11 +148,3 @@ module _ (d : Drive) (v : List ℕ) (way : ℕ → Way) where
       go (inr q) f =
           let same : testedTo d v way k ≡ testedTo d v way n = f (omega (arith, h, eqb-false n (suc k) q)) in
           stops (testedTo d v way k) _ (ap accepts same ∙ e) ∙ same
-
--- what an accepted nugget says: its path, its keycount, and its flakes where it is rekeyed
-module _ (d : Drive) (v : List ℕ) (n : ℕ) where
-  pub change-room : (way : Way) → accepts (nuggetChange d v n way) ≡ true → atTop way (recordOf (shapeOf d) v n) ≡ false
-  unfolding nuggetChange atTop
-  change-room Idle e = refl
-  change-room (Add t) e = refl
-  change-room (Rekey t) e = spared _ _ _ refl (both-stages _ _ e .1) .0

@@ -13,7 +13,7 @@ use Rattle.records.specs.declared.Record.{Record}
 use Rattle.records.specs.declared.Way.{Way}
 use Rattle.records.specs.declared.Way.the-variants.{Idle, Add, Rekey}
 use Rattle.records.specs.Record.{recordBytes, recordOf}
-use Rattle.records.specs.Rule.{rekeys, turned, atTop}
+use Rattle.records.specs.Rule.{rekeys, turned}
 use Rattle.records.specs.Listing.{Entry, padsTo}
 use Rattle.nodes.specs.Nodes.{nodeIn}
 use Rattle.tree.specs.Renewed.{renewed}
@@ -29,13 +29,12 @@ idles Idle = true
 idles (Add t) = false
 idles (Rekey t) = false
 
--- "each: path; 14; flakes, ascending"; "a rekey tests all of J; a write without rekey tests none"
+-- "each: path; [..] flakes, ascending"; "a rekey tests all of J; a write without rekey tests none"
 unfoldable pub nuggetChange : Drive → List ℕ → ℕ → Way → Answer
 nuggetChange d v n way =
     pick (idles way) A.Accepted
     (andThen (pathFor d v n)
-    (pick (atTop way (recordOf (shapeOf d) v n)) A.KeycountTop
-    (pick (rekeys way) (flakesOf d v n (recordOf (shapeOf d) v n .held)) A.Accepted)))
+    (pick (rekeys way) (flakesOf d v n (recordOf (shapeOf d) v n .held)) A.Accepted))
 
 -- "*Nuggets*: ascending": those below n
 unfoldable pub testedTo : Drive → List ℕ → (ℕ → Way) → ℕ → Answer

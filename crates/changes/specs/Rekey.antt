@@ -10,7 +10,7 @@ use Rattle.answers.specs.Numbers.{accepts}
 use Rattle.answers.specs.Stages.{andThen}
 use Rattle.records.specs.declared.Way.{Way}
 use Rattle.records.specs.declared.Way.the-variants.{Idle}
-use Rattle.records.specs.Rule.{sweepWay, atTop}
+use Rattle.records.specs.Rule.{sweepWay}
 use Rattle.records.specs.Listing.{Entry}
 use Rattle.tree.specs.Whole.{wholeOf}
 use Rattle.drive.specs.declared.Drive.{Drive}
@@ -52,18 +52,17 @@ beginDone d v secret =
 unfoldable pub beginVolume : Drive → List ℕ → List ℕ → List ℕ
 beginVolume d v secret = pick (accepts (beginAnswer d v secret)) (settled (begunDrive d secret) v) v
 
--- "12, 13, 14, 7 flakes"
+-- "12, 13, [..] 7 flakes"
 unfoldable pub moveTests : Drive → List ℕ → ℕ → Answer
 moveTests d v n =
     pick (eqb (recordOf (shapeOf d) v n .epoch) (d .epoch)) A.Moved
-    (pick (eqb (d .counter) counterTop) A.CounterTop
-    (pick (atTop sweepWay (recordOf (shapeOf d) v n)) A.KeycountTop (flakesOf d v n (recordOf (shapeOf d) v n .held))))
+    (pick (eqb (d .counter) counterTop) A.CounterTop (flakesOf d v n (recordOf (shapeOf d) v n .held)))
 
 -- "7 path", and those
 unfoldable pub nuggetTests : Drive → List ℕ → ℕ → Answer
 nuggetTests d v n = andThen (pathFor d v n) (moveTests d v n)
 
--- "Sweep: 9, 8, 7 path, 12, 13, 14, 7 flakes."
+-- "Sweep: 9, 8, 7 path, 12, 13, [..] 7 flakes."
 unfoldable pub sweepAnswer : Drive → List ℕ → ℕ → Answer
 sweepAnswer d v n =
     andThen (openingOf d v)

@@ -23,7 +23,7 @@ use Rattle.records.specs.declared.Record.{Record}
 use Rattle.records.specs.Journal.{bit}
 use Rattle.records.specs.Record.{wellFormed, recordOf}
 use Rattle.records.proofs.BitLaws.{none-above, lies-bits}
-use Rattle.records.proofs.RuleLaws.{formed-spent, formed-lies, formed-epoch}
+use Rattle.records.proofs.RuleLaws.{formed-spent, formed-lies, formed-epoch, formed-keycount}
 use Rattle.keys.specs.Tags.{covered, tagOf}
 use Rattle.nodes.specs.Nodes.{leafOf, innerOf, zeroLeaf}
 use Rattle.nodes.proofs.MadeLaws.{made-leaf, made-inner, made-bottom, bottom-zero}
@@ -57,6 +57,7 @@ formed-right d r e =
       flakes = λ f h. none-above (d .p) (r .spent) f (formed-spent (d .p) (gaugeOf d) r e) h;
       held = λ f. lies-bits (r .held) (r .spent) (formed-lies (d .p) (gaugeOf d) r e) f;
       epoch = formed-epoch (d .p) (gaugeOf d) r e;
+      keycount = formed-keycount (d .p) (gaugeOf d) r e;
     }
 
 -- two steps up by halves

@@ -57,7 +57,7 @@ RekeyDetected =
     SaysPresent d v (at .nugget) (at .flake) ⊎ (recordOf (shapeOf d) v (at .nugget) .epoch ≡ d .epoch → ⊥)
     → TagsRight d v (at .nugget)
 
--- "Sweep: 9, 8, 7 path, 12, 13, 14, 7 flakes."
+-- "Sweep: 9, 8, 7 path, 12, 13, [..] 7 flakes."
 abbrev pub SweepDetected : Type 0
 SweepDetected = (d : Drive) (v : List ℕ) (n : ℕ) → sweepAnswer d v n ≡ A.Accepted → (n < d .n) × PathGood d v n × TagsRight d v n
 

@@ -28,12 +28,13 @@ pub record HeadRight (d : Drive) (v : List ℕ) : Type 0 where
   pub head : part 0 104 v ≡ headOf d
   pub node : nodeIn (shapeOf d) v 1 ≡ d .node
 
--- "no bit at or above P is set and its epoch is the head's, or, while changing, the head's or one less", and no "held bit that
--- isn't spent"
+-- "no bit at or above P is set and its epoch is the head's, or, while changing, the head's or one less", no "held bit that isn't
+-- spent", and no "keycount [..] above the head's counter"
 pub record Formed (d : Drive) (r : Record) : Type 0 where
   pub flakes : (f : ℕ) → d .p ≤ f → bit (r .spent) f ≡ false
   pub held : (f : ℕ) → bit (r .held) f ≡ true → bit (r .spent) f ≡ true
   pub epoch : (r .epoch ≡ d .epoch) ⊎ ((isChanging (d .state) ≡ true) × (r .epoch + 1 ≡ d .epoch))
+  pub keycount : r .keycount ≤ d .counter
 
 -- "Leaf, node L + n"
 abbrev pub LeafRight : Drive → List ℕ → ℕ → Type 0

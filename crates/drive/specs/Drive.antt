@@ -19,9 +19,9 @@ abbrev pub isChanging : State → Bool
 isChanging Steady = false
 isChanging (Changing left) = true
 
--- what the drive's records are held against: its epoch, and whether it is changing
+-- what the drive's records are held against: its epoch, whether it is changing, and its counter
 abbrev pub gaugeOf : Drive → Gauge
-gaugeOf d = against (d .epoch) (isChanging (d .state))
+gaugeOf d = against (d .epoch) (isChanging (d .state)) (d .counter)
 
 abbrev pub zeros : ℕ → List ℕ
 zeros n = replicate n 0

@@ -86,6 +86,7 @@ pub fn gauge_of(d: Drive) -> Gauge
     Gauge {
         epoch: d.epoch,
         changing: is_changing(state),
+        counter: d.counter,
     }
 }
 

@@ -17,7 +17,7 @@ use Rattle.records.specs.declared.Record.{Record}
 use Rattle.records.specs.declared.Way.{Way}
 use Rattle.records.specs.Journal.{bit}
 use Rattle.records.specs.Record.{Codes, recordOf}
-use Rattle.records.specs.Rule.{touchedBy, keycountAfter, turned, atTop}
+use Rattle.records.specs.Rule.{touchedBy, keycountAfter, turned, CanRise}
 use Rattle.records.proofs.RuleLaws.{well-formed-after, codes-after}
 use Rattle.keys.specs.declared.Lock.{Lock}
 use Rattle.drive.specs.declared.Drive.{Drive}
@@ -53,7 +53,7 @@ pub record Due (d : Drive) (v : List ℕ) (way : ℕ → Way) (new : ℕ → ℕ
   pub kept : keptOld (d .state) (d .old) ≡ d .old
   pub fits : (n : ℕ) → n < d .n → WayFits (d .p) (d .epoch) (recordOf (shapeOf d) v n) (way n)
   pub codes : (n : ℕ) → n < d .n → Codes (shapeOf d) (recordOf (shapeOf d) v n)
-  pub room : (n : ℕ) → n < d .n → atTop (way n) (recordOf (shapeOf d) v n) ≡ false
+  pub room : (n : ℕ) → n < d .n → CanRise (way n) (recordOf (shapeOf d) v n)
   pub long : Long (shapeOf d) new
 
 module _ (d : Drive) (v : List ℕ) (way : ℕ → Way) (new : ℕ → ℕ → List ℕ) (x : Due d v way new) where

@@ -3,7 +3,7 @@ use mathlib.Core.Path.{_≡_, refl, sym, ap, _∙_}
 use mathlib.Core.Bool.{true, false}
 use mathlib.Core.Logic.{_⊎_, inl, inr}
 use mathlib.Core.List.{List, _++_}
-use Prim.Native.Nat.{ℕ, _+_, _^_, _<_}
+use Prim.Native.Nat.{ℕ, _+_, _^_, _<_, _≤_}
 use native.Mathlib.Nat.{lt-of-lt-of-le}
 use native.Mathlib.Omega.{arith}
 use lib.ListN.{length}
@@ -17,7 +17,7 @@ use Rattle.records.specs.declared.Way.{Way}
 use Rattle.records.specs.declared.Way.the-variants.{Idle, Add, Rekey}
 use Rattle.records.specs.Journal.{bit}
 use Rattle.records.specs.Record.{Codes, recordOf}
-use Rattle.records.specs.Rule.{touchedBy, enciphered, heldAfter, turned, atTop}
+use Rattle.records.specs.Rule.{touchedBy, enciphered, heldAfter, turned}
 use Rattle.records.proofs.BitLaws.{bit-empty}
 use Rattle.drive.specs.declared.Drive.{Drive}
 use Rattle.drive.specs.declared.State.{State}
@@ -34,6 +34,7 @@ use Rattle.history.specs.World.{World}
 use Rattle.history.specs.Step.{worldAfter}
 use Rattle.history.specs.Demands.{plainIn}
 use Rattle.history.proofs.Quiet.{untouched-lent}
+use Rattle.ledger.proofs.Theorems.{keycounts-below}
 use Rattle.history.proofs.View.{kitOf, viewOf, ledgerOf}
 use Rattle.history.proofs.After.{Due, record-after, put-after, kept-after, untouched-after}
 use Rattle.history.proofs.Sound.{Sound, Keeps, counter-room}
@@ -68,11 +69,13 @@ module _ (w : World) (x : Sound w) (way : ℕ → Way) (new : ℕ → ℕ → Li
   -- what the ways and the new contents have to be
   pub record Ready : Type 0 where
     pub fits : (n : ℕ) → n < w .drive .n → WayFits (w .drive .p) (w .drive .epoch) (recordOf (shapeOf (w .drive)) (w .vol) n) (way n)
-    pub room : (n : ℕ) → n < w .drive .n → atTop (way n) (recordOf (shapeOf (w .drive)) (w .vol) n) ≡ false
     pub low : w .drive .counter ≡ counterTop → ⊥
     pub news : (n f : ℕ) → n < w .drive .n → f < w .drive .p → new n f ≡ plainIn (shapeOf (w .drive)) after n f
     pub rest : (n f : ℕ) → n < w .drive .n → f < w .drive .p → bit (touchedBy (way n)) f ≡ false
         → plainIn (shapeOf (w .drive)) after n f ≡ plainIn (shapeOf (w .drive)) (w .contents) n f
+
+  below : (n : ℕ) → n < d .n → recordOf (shapeOf d) v n .keycount ≤ d .counter
+  below = keycounts-below (kitOf d) (ledgerOf w) (x .inv)
 
   -- the records are told by their bytes, by the invariant
   codes : (n : ℕ) → n < d .n → Codes (shapeOf d) (recordOf (shapeOf d) v n)
@@ -80,7 +83,7 @@ module _ (w : World) (x : Sound w) (way : ℕ → Way) (new : ℕ → ℕ → Li
       let formed = x .inv .formed n h in
       let wide = pow-mono (limits (shapeOf d) (untouched-lent d v (x .untouched) .limited) .narrow) in
       record {
-        keycountWidth = omega (arith, x .inv .below n h, x .handed .counter-lt);
+        keycountWidth = omega (arith, below n h, x .handed .counter-lt);
         spentWidth = lt-of-lt-of-le (formed-spent (d .p) (gaugeOf d) (recordOf (shapeOf d) v n) formed) wide;
         heldWidth = lt-of-lt-of-le (formed-held (d .p) (gaugeOf d) (recordOf (shapeOf d) v n) formed) wide;
         epochWidth = low (formed-epoch (d .p) (gaugeOf d) (recordOf (shapeOf d) v n) formed);
@@ -105,7 +108,7 @@ module _ (w : World) (x : Sound w) (way : ℕ → Way) (new : ℕ → ℕ → Li
           kept = kept-twice (d .state) (w .old) (d .old) (x .handed .kept);
           fits = r .fits;
           codes = codes;
-          room = r .room;
+          room = λ n h e. omega (arith, below n h, x .handed .counter-lt, r .low);
           long = λ n f a b. ap length (r .news n f a b) ∙ plain-long n f;
         }
 

@@ -29,11 +29,11 @@ use Rattle.reports.proofs.ReportLaws.{report-full}
 use Rattle.opening.specs.Format.{freshDrive, formatDone}
 use Rattle.ledger.specs.Totals.{sum}
 use Rattle.ledger.specs.Ledger.{secretAt, entryAt}
-use Rattle.ledger.proofs.Theorems.{no-entry-twice as none-twice-in}
+use Rattle.ledger.proofs.Theorems.{no-entry-twice as none-twice-in, keycounts-below as below-in}
 use Rattle.history.specs.World.{World, write}
 use Rattle.history.specs.Step.{step}
 use Rattle.history.specs.History.{Start, begun, run, history}
-use Rattle.history.specs.Demands.{ShapeKept, ReadsBack, WrittenLast, NeverWritten, NoEntryTwice, EntriesListed, plainIn, UnderLastPad, StaleNeverMounts, MountsBack, ShareFull}
+use Rattle.history.specs.Demands.{ShapeKept, KeycountsBelow, ReadsBack, WrittenLast, NeverWritten, NoEntryTwice, EntriesListed, plainIn, UnderLastPad, StaleNeverMounts, MountsBack, ShareFull}
 use Rattle.history.proofs.Quiet.{untouched-lent, report-accepts}
 use Rattle.history.proofs.View.{kitOf, ledgerOf, secret-seen, reads-plain}
 use Rattle.history.proofs.Sound.{Sound}
@@ -55,6 +55,9 @@ pub shape-kept : ShapeKept
 shape-kept x calls =
     let e = run-base (begun x) calls (start-sound x) ∙ begun-base x in
     (ap (λ (b : Shape × List ℕ). b .0) e, ap (λ (b : Shape × List ℕ). b .1) e)
+
+pub keycounts-below : KeycountsBelow
+keycounts-below x calls n h = let w = history x calls in below-in (kitOf (w .drive)) (ledgerOf w) (sound x calls .inv) n h
 
 -- the byte at an offset is the one last written there
 byte-plain : (w : World) → Sound w → (a : ℕ) → a < capacity (shapeOf (w .drive)) → byteOf (w .drive) (w .vol) a ≡ w .contents a

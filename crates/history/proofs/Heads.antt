@@ -80,7 +80,7 @@ module _ (d : Drive) (v : List ℕ) (x : Untouched d v) (salted : length (d .sal
   unfolding inForm
   form fits = both-on (form-limits d (opening-told d v (x .opens) .form)) fits
 
-  pub headed-untouched : driveFits state epoch ≡ true → ((n : ℕ) → n < d .n → wellFormed (d .p) (against epoch (isChanging state)) (recordOf (shapeOf d) v n) ≡ true)
+  pub headed-untouched : driveFits state epoch ≡ true → ((n : ℕ) → n < d .n → wellFormed (d .p) (against epoch (isChanging state) counter) (recordOf (shapeOf d) v n) ≡ true)
       → ((n : ℕ) → n < d .n → secretFor e (recordOf (shapeOf d) v n .epoch) ≡ secretFor d (recordOf (shapeOf d) v n .epoch)) → Untouched e (settled e v)
   headed-untouched fits formed secrets =
       record {

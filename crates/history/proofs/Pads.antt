@@ -42,7 +42,7 @@ use Rattle.nuggets.specs.Nugget.{lockOf, storedIn}
 use Rattle.ledger.specs.Listing.{SameEntry, NoneTwice}
 use Rattle.ledger.specs.Ledger.{Kit}
 use Rattle.ledger.specs.Onward.{Onward}
-use Rattle.ledger.proofs.Theorems.{entry-lies, entry-below}
+use Rattle.ledger.proofs.Theorems.{keycounts-below, entry-lies, entry-below}
 use Rattle.ledger.proofs.OnwardLaws.{onward-same, onward-trans}
 use Rattle.history.specs.World.{World, Call}
 use Rattle.history.specs.Step.{step}
@@ -85,7 +85,7 @@ lain x calls n f y =
     record {
       nugget = omega (arith, nugget, ok .few);
       flake = omega (arith, y .flake, ap (λ (s : Shape). s .p) kept, ok .narrow);
-      count = omega (arith, sound x calls .inv .below n nugget, sound x calls .handed .counter-lt);
+      count = omega (arith, keycounts-below (kitOf (w .drive)) (ledgerOf w) (sound x calls .inv) n nugget, sound x calls .handed .counter-lt);
     }
 
 module _ (x : Start) where

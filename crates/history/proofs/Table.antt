@@ -35,8 +35,6 @@ module _ (w : World) (x : Sound w) where
         paths = path-quiet (w .drive) (w .vol) (x .untouched);
         whole = whole-quiet (w .drive) (w .vol) (x .untouched);
         flakes = λ n h. flakes-quiet (w .drive) (w .vol) (x .untouched) n (recordOf (shapeOf (w .drive)) (w .vol) n .held) h (λ f e. e);
-        counted = omega (arith, x .handed .counter-lt);
-        below = x .inv .below;
       }
 
   pub exactly : (c : Call) → answerTo w c ≡ due w c

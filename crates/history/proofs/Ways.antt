@@ -7,18 +7,16 @@ use Prim.Native.Nat.{ℕ, _+_, _^_, _<_, _≤_, max, min}
 use native.Mathlib.Omega.{arith}
 use lib.Dec.{eqb, leb, ltb}
 use lib.ListN.{length, getD}
-use borrow.Author.Tests.{eqb-true, leb-true, ltb-true, lt-ltb}
+use borrow.Author.Tests.{leb-true, ltb-true, lt-ltb}
 use Rattle.base.specs.Pick.{both}
 use Rattle.base.specs.Lists.{tab}
 use Rattle.base.proofs.PickLaws.{no, told, clash, both-left, both-right, both-on}
 use Rattle.base.proofs.TabLaws.{getD-tab, tab-ext}
 use Rattle.layout.specs.declared.Shape.{Shape}
 use Rattle.layout.specs.Spots.{offsetAt}
-use Rattle.records.specs.declared.Record.{Record}
 use Rattle.records.specs.declared.Way.{Way}
-use Rattle.records.specs.declared.Way.the-variants.{Idle}
 use Rattle.records.specs.Journal.{bit}
-use Rattle.records.specs.Rule.{touchedBy, turned, atTop}
+use Rattle.records.specs.Rule.{touchedBy, turned}
 use Rattle.records.proofs.MaskLaws.{bit-with, with-lt}
 use Rattle.records.proofs.RuleLaws.{way-touched}
 use Rattle.drive.specs.Drive.{shapeOf}
@@ -66,10 +64,6 @@ missed-plain s o bytes n f contents off =
     tab-ext (s .f) (λ b. over o bytes (offsetAt s n f b) (contents (offsetAt s n f b))) (λ b. contents (offsetAt s n f b))
     (λ b h. no _ (missed-byte s o (length bytes) n f b off h) refl)
 
-idle-room : (r : Record) → atTop Idle r ≡ false
-unfolding atTop
-idle-room r = refl
-
 module _ (w : World) (x : Sound w) where
   module _ (o : ℕ) (bytes : List ℕ) (b : Granted (w .drive) (w .vol) o (length bytes)) (after : ℕ → ℕ) (laid : (a : ℕ) → after a ≡ over o bytes a (w .contents a)) where
     abbrev ways : ℕ → Way
@@ -93,7 +87,6 @@ module _ (w : World) (x : Sound w) where
     ready =
         record {
           fits = λ n h. write-fits (w .drive .p) (w .drive .epoch) (recordOf (shapeOf (w .drive)) (w .vol) n) (touchedOf (shapeOf (w .drive)) o (length bytes) n) (touched-low n);
-          room = b .room;
           low = b .counterRoom;
           news = λ n f h l.
               ap (λ (was : List ℕ). written (shapeOf (w .drive)) o bytes n f was) (reads-plain (w .drive) (w .vol) (w .listing) (w .retired) (w .contents) (x .inv) n f h l)
@@ -115,15 +108,10 @@ module _ (w : World) (x : Sound w) where
     sweep-ready =
         record {
           fits = λ m h. sweep-fits (w .drive .p) (w .drive .epoch) (recordOf (shapeOf (w .drive)) (w .vol) m) (eqb m n);
-          room = λ m h. space m (told (eqb m n));
           low = b .counterRoom;
           news = λ m f h l. reads-plain (w .drive) (w .vol) (w .listing) (w .retired) (w .contents) (x .inv) m f h l;
           rest = λ m f h l e. refl;
         }
-      where
-        space : (m : ℕ) → (eqb m n ≡ true) ⊎ (eqb m n ≡ false) → atTop (sweepWays n m) (recordOf (shapeOf (w .drive)) (w .vol) m) ≡ false
-        space m (inl e) = rw (e, eqb-true m n e) (b .keycountRoom)
-        space m (inr e) = rw e (idle-room (recordOf (shapeOf (w .drive)) (w .vol) m))
 
     pub swept-turns : (m : ℕ) → m < w .drive .n → recordOf (shapeOf (w .drive)) (settled (sweptDrive (w .drive) (w .vol) n) (sweepWork (w .drive) (w .vol) n)) m
         ≡ turned (sweepWays n m) (w .drive .epoch) (recordOf (shapeOf (w .drive)) (w .vol) m)

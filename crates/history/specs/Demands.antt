@@ -48,6 +48,13 @@ ShapeKept =
     → let w = history start calls in
     (shapeOf (w .drive) ≡ start .shape) × (w .drive .salt ≡ start .salt)
 
+-- Document 02, Item 7: "from one format on no keycount is ever above the counter, so that answer 13 always comes first".
+abbrev pub KeycountsBelow : Type 0
+KeycountsBelow =
+    (start : Start) (calls : List Call) (n : ℕ)
+    → let w = history start calls in
+    n < w .drive .n → recordOf (shapeOf (w .drive)) (w .vol) n .keycount ≤ w .drive .counter
+
 -- 1. "What is written is what is later read. A place never written reads as zero."
 -- An accepted read fills its buffer with what was last written there, zeros where nothing was.
 abbrev pub ReadsBack : Type 0

@@ -10,7 +10,7 @@ use Rattle.layout.specs.Parts.{recordAt}
 use Rattle.records.specs.declared.Record.{Record}
 use Rattle.records.specs.declared.Way.{Way}
 use Rattle.records.specs.Record.{recordBytes, recordOf}
-use Rattle.records.specs.Rule.{turned, atTop}
+use Rattle.records.specs.Rule.{turned, CanRise}
 use Rattle.tree.specs.Renewed.{renewed}
 use Rattle.drive.specs.declared.Drive.{Drive}
 use Rattle.drive.specs.Drive.{shapeOf, headed, keptOld}
@@ -22,8 +22,8 @@ use Rattle.changes.specs.Change.{idles, marked, tended, advanced, settled}
 pub read-is : (v : List ℕ) (n : ℕ) {z s : Shape} {r : Record} → r ≡ recordOf z v n → z ≡ s → r ≡ recordOf s v n
 read-is v n e a = e ∙ ap (λ (x : Shape). recordOf x v n) a
 
-pub top-not : (way : Way) {r s : Record} → r ≡ s → atTop way s ≡ false → atTop way r ≡ false
-top-not way e h = ap (λ (x : Record). atTop way x) e ∙ h
+pub rise-told : (way : Way) {r s : Record} → r ≡ s → CanRise way s → CanRise way r
+rise-told way e h = rw e h
 
 -- an idle nugget's record stays; another's is stored
 module _ (s : Shape) (head : ℕ) (way : Way) (r : Record) (n : ℕ) (v : List ℕ) where

@@ -6,12 +6,11 @@ use drive::Drive;
 use layout::Shape;
 use records::Way;
 ghost use mathlib.Core.Path.{_≡_};
-ghost use mathlib.Core.Bool.{false};
 ghost use Prim.Native.Nat.{_+_, _<_, _≤_};
 ghost use lib.ListN.{length};
 ghost use Rattle.layout.specs.Shaped.{Shaped};
 ghost use Rattle.layout.specs.Spots.{capacity};
-ghost use Rattle.records.specs.Rule.{atTop};
+ghost use Rattle.records.specs.Rule.{CanRise};
 ghost use Rattle.records.specs.Listing.{padsBy};
 ghost use Rattle.drive.specs.Drive.{shapeOf, counterTop};
 ghost use Rattle.changes.specs.Laid.{laid};
@@ -21,7 +20,7 @@ ghost use Rattle.records.specs.Record.{recordOf};
 
 // The flakes that the way enciphers: new contents under the pad of the keycount after it, and the tags over what is stored.
 pub fn lay(d: Drive, vol: &mut [u8], n: u32, way: Way, o: usize, bytes: &[u8])
-    requires { ⌜ Shaped (shapeOf d) (now vol) × (n < d .n) × (o + length (now bytes) ≤ capacity (shapeOf d)) × (atTop way (recordOf (shapeOf d) (now vol) n) ≡ false) ⌝ }
+    requires { ⌜ Shaped (shapeOf d) (now vol) × (n < d .n) × (o + length (now bytes) ≤ capacity (shapeOf d)) × CanRise way (recordOf (shapeOf d) (now vol) n) ⌝ }
     ensures { λ _. ⌜ now (vol .exit) ≡ laid (shapeOf d) (d .salt) (newContents d (now (vol .entry)) o (now (bytes .entry)))
         (padsBy (d .p) way n (recordOf (shapeOf d) (now (vol .entry)) n) (d .present)) (now (vol .entry)) ⌝ }
 {
@@ -44,7 +43,7 @@ pub fn idle(way: Way) -> bool
 
 // "The journal becomes J with T."; rekeyed: "keycount plus 1", "epoch set to the head's".
 pub fn mark(d: Drive, vol: &mut [u8], n: u32, way: Way)
-    requires { ⌜ Shaped (shapeOf d) (now vol) × (n < d .n) × (atTop way (recordOf (shapeOf d) (now vol) n) ≡ false) ⌝ }
+    requires { ⌜ Shaped (shapeOf d) (now vol) × (n < d .n) × CanRise way (recordOf (shapeOf d) (now vol) n) ⌝ }
     ensures { λ _. ⌜ now (vol .exit) ≡ marked (shapeOf d) (d .epoch) way (recordOf (shapeOf d) (now (vol .entry)) n) n (now (vol .entry)) ⌝ }
 {
     if idle(way) {

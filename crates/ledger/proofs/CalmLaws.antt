@@ -13,7 +13,6 @@ use borrow.Author.Tests.{eq-eqb, ne-eqb, lt-ltb}
 use Rattle.base.specs.Pick.{pick}
 use Rattle.base.proofs.PickLaws.{clash}
 use Rattle.words.specs.Xor.{xorl}
-use Rattle.records.specs.declared.Gauge.{Gauge}
 use Rattle.records.specs.Journal.{bit, flakeCount as presentOf}
 use Rattle.records.specs.Record.{epochFits, wellFormed}
 use Rattle.records.specs.Listing.{Entry}
@@ -24,7 +23,7 @@ use Rattle.ledger.specs.Ledger.{Kit, Ledger, gaugeIn, secretAt, entryAt}
 use Rattle.ledger.specs.Invariant.{Inv, Fresh}
 use Rattle.ledger.specs.Step.{Kept, Calm, HeadBegun, HeadFinished}
 use Rattle.ledger.proofs.TotalLaws.{sum-same, sum-none}
-use Rattle.records.proofs.RuleLaws.{formed-spent, formed-lies, formed-held, formed-epoch, formed-by}
+use Rattle.records.proofs.RuleLaws.{formed-spent, formed-lies, formed-held, formed-epoch, formed-keycount, formed-by}
 use Rattle.records.proofs.CountLaws.{present-none}
 
 module _ (κ : Kit) (l m : Ledger) (inv : Inv κ l) (calm : Calm κ l m) where
@@ -61,17 +60,9 @@ module _ (κ : Kit) (l m : Ledger) (inv : Inv κ l) (calm : Calm κ l m) where
     laid = laid-after;
     blank = λ n f h few e. calm .kept .samePlain n f h few ∙ inv .blank n f h few (rw (same n h) at e);
     tally = ap (λ (es : List Entry). length es) (calm .kept .sameListing) ∙ rw (spent-same, calm .kept .sameRetired) (inv .tally);
-    below = λ n h. rw (same n h) (omega (arith, inv .below n h, calm .kept .counterUp));
   }
 
 module _ (κ : Kit) (l : Ledger) (inv : Inv κ l) where
-  -- a head that its epoch fits has a record well formed that was so under another
-  formed-again : (n : ℕ) (gauge : Gauge) → n < κ .n → epochFits gauge (l .records n .epoch) ≡ true → wellFormed (κ .p) gauge (l .records n) ≡ true
-  formed-again n gauge h fits =
-      let was = inv .formed n h in
-      formed-by (κ .p) gauge (l .records n) (lt-ltb (l .records n .spent) _ (formed-spent (κ .p) (gaugeIn l) (l .records n) was))
-      (formed-lies (κ .p) (gaugeIn l) (l .records n) was) fits
-
   -- a steady drive's records are at the head's epoch
   pub steady-epoch : l .changing ≡ false → (n : ℕ) → n < κ .n → l .records n .epoch ≡ l .epoch
   steady-epoch s n h = go (formed-epoch (κ .p) (gaugeIn l) (l .records n) (inv .formed n h))
@@ -81,12 +72,20 @@ module _ (κ : Kit) (l : Ledger) (inv : Inv κ l) where
       go (inr e) = absurd (clash (e .0) s)
 
 module _ (κ : Kit) (l m : Ledger) (inv : Inv κ l) (kept : Kept κ l m) where
+  -- a record stays well formed under a new head whose epoch and state it fits: the counter doesn't fall
+  still : (n : ℕ) → n < κ .n → epochFits (gaugeIn m) (l .records n .epoch) ≡ true → wellFormed (κ .p) (gaugeIn m) (l .records n) ≡ true
+  still n h fits =
+      let was = inv .formed n h in
+      formed-by (κ .p) (gaugeIn m) (l .records n) (lt-ltb (l .records n .spent) _ (formed-spent (κ .p) (gaugeIn l) (l .records n) was))
+      (formed-lies (κ .p) (gaugeIn l) (l .records n) was) fits
+      (omega (arith, formed-keycount (κ .p) (gaugeIn l) (l .records n) was, kept .counterUp))
+
   pub begin-calm : HeadBegun l m → Calm κ l m
   unfolding secretAt
   begin-calm b = record { kept = kept; stillFormed = formed; sameSecrets = secrets }
     where
       formed : (n : ℕ) → n < κ .n → wellFormed (κ .p) (gaugeIn m) (l .records n) ≡ true
-      formed n h = formed-again κ l inv n (gaugeIn m) h
+      formed n h = still n h
           (rw (b .isChanging, b .epochUp, steady-epoch κ l inv (b .wasSteady) n h, ne-eqb (l .epoch) (l .epoch + 1) (λ e. omega arith), eq-eqb (l .epoch + 1) (l .epoch + 1) refl))
 
       secrets : (n : ℕ) → n < κ .n → pick (eqb (l .records n .epoch) (m .epoch)) (m .present) (m .old) ≡ pick (eqb (l .records n .epoch) (l .epoch)) (l .present) (l .old)
@@ -98,8 +97,7 @@ module _ (κ : Kit) (l m : Ledger) (inv : Inv κ l) (kept : Kept κ l m) where
   finish-calm b = record { kept = kept; stillFormed = formed; sameSecrets = secrets }
     where
       formed : (n : ℕ) → n < κ .n → wellFormed (κ .p) (gaugeIn m) (l .records n) ≡ true
-      formed n h =
-          formed-again κ l inv n (gaugeIn m) h (rw (b .epochKept, b .noneLeft n h, eq-eqb (l .epoch) (l .epoch) refl))
+      formed n h = still n h (rw (b .epochKept, b .noneLeft n h, eq-eqb (l .epoch) (l .epoch) refl))
 
       secrets : (n : ℕ) → n < κ .n → pick (eqb (l .records n .epoch) (m .epoch)) (m .present) (m .old) ≡ pick (eqb (l .records n .epoch) (l .epoch)) (l .present) (l .old)
       secrets n h = rw (b .epochKept, b .noneLeft n h, eq-eqb (l .epoch) (l .epoch) refl) (b .presentKept)
@@ -125,10 +123,9 @@ module _ (κ : Kit) (l : Ledger) (new : Fresh κ l) where
     wide = λ n k f h. unlisted n k f;
     fresh = λ n k f h up. unlisted n k f;
     now = λ n f h. unlisted n (l .records n .keycount) f ∙ rw (unspent n f h);
-    formed = λ n h. formed-by (κ .p) (gaugeIn l) (l .records n) (rw (new .empty n h) (lt-ltb 0 _ (pow-pos (κ .p)))) (rw (new .empty n h) (lies-self 0)) (rw (new .empty n h, eq-eqb (l .epoch) (l .epoch) refl));
+    formed = λ n h. formed-by (κ .p) (gaugeIn l) (l .records n) (rw (new .empty n h) (lt-ltb 0 _ (pow-pos (κ .p)))) (rw (new .empty n h) (lies-self 0)) (rw (new .empty n h, eq-eqb (l .epoch) (l .epoch) refl)) (rw (new .empty n h) (omega arith));
     named = λ n f h e. absurd (clash e (absent n f h));
     laid = λ n f h e. absurd (clash e (absent n f h));
     blank = λ n f h few e. new .zeros n f h few;
     tally = ap (λ (es : List Entry). length es) (new .unlisted) ∙ rw (none-spent, new .unretired);
-    below = λ n h. rw (new .empty n h) (omega arith);
   }

@@ -28,7 +28,7 @@ use Rattle.ledger.specs.Step.{Step}
 use Rattle.ledger.proofs.ListingLaws.{times-append, last-append}
 use Rattle.ledger.proofs.CallLaws.{times-by, last-by, last-by-none, times-past, times-call, last-call, length-call}
 use Rattle.ledger.proofs.TotalLaws.{sum-same, sum-pairs}
-use Rattle.ledger.proofs.TurnLaws.{Adds, Rekeyed, turn-told, new-epoch, old-stays, touched-lt, enciphered-lt, untouched-by, absent-after, keycount-step, one-once, one-now, one-tally}
+use Rattle.ledger.proofs.TurnLaws.{Adds, Rekeyed, turn-told, new-epoch, old-stays, touched-lt, enciphered-lt, untouched-by, absent-after, one-once, one-now, one-tally}
 
 module _ (κ : Kit) (way : ℕ → Way) (l m : Ledger) (inv : Inv κ l) (step : Step κ way l m) where
   abbrev before : ℕ → Record
@@ -102,11 +102,8 @@ module _ (κ : Kit) (way : ℕ → Way) (l m : Ledger) (inv : Inv κ l) (step : 
 
   formed-after : (n : ℕ) → n < κ .n → wellFormed (κ .p) (gaugeIn m) (m .records n) ≡ true
   formed-after n h =
-      rw (step .turns n h, step .epochs, step .states)
+      rw (step .turns n h, step .epochs, step .states, step .counts)
       (well-formed-after (κ .p) (way n) (gaugeIn l) (before n) (touched-lt (κ .p) (l .epoch) (before n) (way n) (step .ways n h)) (inv .formed n h))
-
-  below-after : (n : ℕ) → n < κ .n → m .records n .keycount ≤ m .counter
-  below-after n h = rw (step .turns n h, step .counts) (omega (arith, keycount-step (way n) (before n), inv .below n h))
 
   tally-after : length (m .listing) ≡ spentIn (κ .p) (κ .n) (m .records) + m .retired
   tally-after =
@@ -187,5 +184,4 @@ module _ (κ : Kit) (way : ℕ → Way) (l m : Ledger) (inv : Inv κ l) (step : 
     laid = laid-after;
     blank = blank-after;
     tally = tally-after;
-    below = below-after;
   }

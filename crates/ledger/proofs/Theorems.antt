@@ -14,9 +14,10 @@ use Rattle.words.specs.Xor.{xorl}
 use Rattle.words.proofs.XorLaws.{xorl-back}
 use Rattle.records.specs.Journal.{bit}
 use Rattle.records.specs.Listing.{Entry}
+use Rattle.records.proofs.RuleLaws.{formed-keycount}
 use Rattle.ledger.specs.Listing.{times, lastOf, NoneTwice}
 use Rattle.ledger.specs.Totals.{spentIn}
-use Rattle.ledger.specs.Ledger.{Kit, Ledger, entryAt, blankFlake, contents}
+use Rattle.ledger.specs.Ledger.{Kit, Ledger, gaugeIn, entryAt, blankFlake, contents}
 use Rattle.ledger.specs.Invariant.{Inv}
 use Rattle.ledger.proofs.PlaceLaws.{counted, none-twice}
 
@@ -28,6 +29,10 @@ module _ (κ : Kit) (l : Ledger) (inv : Inv κ l) where
   -- "Entries listed equal flakes now present plus, for each keycount rise, its nugget's flakes present just before."
   pub entries-listed : length (l .listing) ≡ spentIn (κ .p) (κ .n) (l .records) + l .retired
   entries-listed = inv .tally
+
+  -- document 02, Item 7: "no keycount is ever above the counter"
+  pub keycounts-below : (n : ℕ) → n < κ .n → l .records n .keycount ≤ l .counter
+  keycounts-below n h = formed-keycount (κ .p) (gaugeIn l) (l .records n) (inv .formed n h)
 
   -- "Each present flake is its contents under the pad last listed for it.": that pad is the nugget's keycount's, under the
   -- secret of its epoch
@@ -70,4 +75,4 @@ module _ (κ : Kit) (l : Ledger) (inv : Inv κ l) where
 
   -- "no keycount is ever above the counter", of listed entries too
   pub entry-below : (i : ℕ) (e : Entry) → getElem? (l .listing) i ≡ some e → e .keycount ≤ l .counter
-  entry-below i e at = let (h, few, k) = entry-lies i e at in omega (arith, k, inv .below (e .nugget) h)
+  entry-below i e at = let (h, few, k) = entry-lies i e at in omega (arith, k, keycounts-below (e .nugget) h)

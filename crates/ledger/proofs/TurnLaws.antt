@@ -3,7 +3,6 @@ use mathlib.Core.Path.{_≡_, refl, sym, _∙_}
 use mathlib.Core.Bool.{Bool, true, false}
 use mathlib.Core.Logic.{_⊎_, inl, inr}
 use Prim.Native.Nat.{ℕ, _+_, _^_, _<_, _≤_}
-use native.Mathlib.Nat.{le-refl}
 use native.Mathlib.Omega.{arith}
 use lib.Bits.{or-lt}
 use lib.Pow.{pow-pos}
@@ -117,12 +116,6 @@ untouched-by (Rekey t) r f e = either-off (bit (r .held) f) (bit t f) (sym (bit-
 pub absent-after : (way : Way) (r : Record) (f : ℕ) → bit (heldAfter way r) f ≡ false → (bit (r .held) f ≡ false) × (bit (touchedBy way) f ≡ false)
 unfolding heldAfter
 absent-after way r f e = either-off (bit (r .held) f) (bit (touchedBy way) f) (sym (bit-union (r .held) (touchedBy way) f) ∙ e)
-
-pub keycount-step : (way : Way) (r : Record) → keycountAfter way r ≤ r .keycount + 1
-unfolding keycountAfter
-keycount-step Idle r = omega arith
-keycount-step (Add t) r = omega arith
-keycount-step (Rekey t) r = le-refl (r .keycount + 1)
 
 apart-le : (a b : Bool) → both a b ≡ false → one a + one b ≤ 1
 apart-le true true e = absurd (clash refl e)

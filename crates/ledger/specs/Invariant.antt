@@ -22,7 +22,7 @@ pub record Inv (κ : Kit) (l : Ledger) : Type 0 where
   -- above a nugget's keycount nothing is listed yet, and at it exactly the spent flakes are
   pub fresh : (n k f : ℕ) → n < κ .n → l .records n .keycount < k → times n k f (l .listing) ≡ 0
   pub now : (n f : ℕ) → n < κ .n → times n (l .records n .keycount) f (l .listing) ≡ one (bit (l .records n .spent) f)
-  -- "A record is well formed"
+  -- "A record is well formed": so no keycount is above the counter
   pub formed : (n : ℕ) → n < κ .n → wellFormed (κ .p) (gaugeIn l) (l .records n) ≡ true
   -- "Each present flake is its contents under the pad last listed for it."
   pub named : (n f : ℕ) → n < κ .n → bit (l .records n .held) f ≡ true → lastOf n f (l .listing) ≡ some (entryAt l n f)
@@ -31,8 +31,6 @@ pub record Inv (κ : Kit) (l : Ledger) : Type 0 where
   pub blank : (n f : ℕ) → n < κ .n → f < κ .p → bit (l .records n .held) f ≡ false → l .plain n f ≡ blankFlake κ
   -- "Entries listed equal flakes now present plus, for each keycount rise, its nugget's flakes present just before."
   pub tally : length (l .listing) ≡ spentIn (κ .p) (κ .n) (l .records) + l .retired
-  -- no keycount is above the counter
-  pub below : (n : ℕ) → n < κ .n → l .records n .keycount ≤ l .counter
 
 -- a drive just formatted: "Everything is zero but the head and tree; epochs are 1"
 pub record Fresh (κ : Kit) (l : Ledger) : Type 0 where

@@ -35,7 +35,7 @@ pub record Ledger : Type 0 where
 
 -- what its records are held against
 abbrev pub gaugeIn : Ledger → Gauge
-gaugeIn l = against (l .epoch) (l .changing)
+gaugeIn l = against (l .epoch) (l .changing) (l .counter)
 
 -- "its epoch is the head's, or, while changing, the head's or one less. [..] One less means: under the old secret."
 unfoldable pub secretAt : Ledger → ℕ → List ℕ

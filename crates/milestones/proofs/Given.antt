@@ -24,7 +24,7 @@ use Rattle.milestones.proofs.Over.{over-record, over-reports}
 use Rattle.milestones.proofs.ByteLaws.{over-bytes}
 
 -- possible numbers are those of well-formed records
-pub possible-records : (t : Standing) → Possible t → ((k : ℕ) → wellFormed 64 (against 2 true) (recordFor t k) ≡ true) × (countsFor t (t .n) ≡ t .counts)
+pub possible-records : (t : Standing) → Possible t → ((k : ℕ) → wellFormed 64 (against 2 true 0) (recordFor t k) ≡ true) × (countsFor t (t .n) ≡ t .counts)
 possible-records t p = (spread-formed t, spread-counts t p)
 
 -- a volume with those records counts them

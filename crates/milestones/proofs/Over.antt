@@ -62,7 +62,7 @@ laid-record s g (suc k) v j w l h i = go (told (eqb j k)) (λ b. laid-record s g
         let b : j < k = omega (arith, eqb-false j k e) in
         record-told s (recordAt s j) (sets (laidTo s g k v) (recordAt s k) (recordBytes s (g k))) (laidTo s g k v) (part-sets-below (recordAt s j) (widthOf s) (laidTo s g k v) (recordAt s k) (recordBytes s (g k)) (records-above s j k b)) ∙ again b
 
-module _ (n : ℕ) (some : 1 ≤ n) (few : n ≤ 16384) (g : ℕ → Record) (codes : (k : ℕ) → Codes (wideShape n) (g k)) (good : (k : ℕ) → wellFormed 64 (against 2 true) (g k) ≡ true) where
+module _ (n : ℕ) (some : 1 ≤ n) (few : n ≤ 16384) (g : ℕ → Record) (codes : (k : ℕ) → Codes (wideShape n) (g k)) (good : (k : ℕ) → wellFormed 64 (against 2 true 0) (g k) ≡ true) where
   abbrev s : Shape
   s = wideShape n
 
@@ -121,7 +121,7 @@ module _ (n : ℕ) (some : 1 ≤ n) (few : n ≤ 16384) (g : ℕ → Record) (co
   pub over-record : (k : ℕ) → k < n → recordOf (wideShape n) (volumeOver n g) k ≡ g k
   over-record k h = sym (record-told s (recordAt s k) (treed n g) (volumeOver n g) (alike-over k .records)) ∙ treed-record k h
 
-  formed-over : (k : ℕ) → k < n → formed (wideShape n) (against 2 true) (volumeOver n g) k ≡ true
+  formed-over : (k : ℕ) → k < n → formed (wideShape n) (against 2 true 0) (volumeOver n g) k ≡ true
   formed-over k h = rw (over-record k h) (good k)
 
   opens-over : openingOf (driveOver n g) (volumeOver n g) ≡ A.Accepted
@@ -136,4 +136,4 @@ module _ (n : ℕ) (some : 1 ≤ n) (few : n ≤ 16384) (g : ℕ → Record) (co
   -- and its report is accepted
   pub over-reports : reportAnswer (driveOver n g) (volumeOver n g) ≡ A.Accepted
   unfolding reportAnswer driveOver
-  over-reports = yes _ (ap accepts opens-over) (good-whole s (against 2 true) (volumeOver n g) lent-over good-over formed-over)
+  over-reports = yes _ (ap accepts opens-over) (good-whole s (against 2 true 0) (volumeOver n g) lent-over good-over formed-over)

@@ -43,10 +43,11 @@ few t k = go (ltb k (t .counts .moved))
     go false = omega arith
 
 -- each record is well formed in a drive whose epoch becomes 2
-pub spread-formed : (t : Standing) (k : ℕ) → wellFormed 64 (against 2 true) (recordFor t k) ≡ true
+pub spread-formed : (t : Standing) (k : ℕ) → wellFormed 64 (against 2 true 0) (recordFor t k) ≡ true
 unfolding recordFor
 spread-formed t k =
-    formed-by 64 (against 2 true) (recordFor t k) (lt-ltb (allFlakes (flakesFor t k)) (2 ^ 64) (with-lt 64 (λ f. ltb f (flakesFor t k)))) (lies-self (allFlakes (flakesFor t k))) (go (ltb k (t .counts .moved)))
+    formed-by 64 (against 2 true 0) (recordFor t k) (lt-ltb (allFlakes (flakesFor t k)) (2 ^ 64) (with-lt 64 (λ f. ltb f (flakesFor t k)))) (lies-self (allFlakes (flakesFor t k))) (go (ltb k (t .counts .moved)))
+    (omega arith)
   where
     go : (x : Bool) → either (eqb (pick x 2 1) 2) (eqb (pick x 2 1 + 1) 2) ≡ true
     go true = refl

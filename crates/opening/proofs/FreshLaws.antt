@@ -24,8 +24,8 @@ use Rattle.layout.proofs.Limits.{by-numbers}
 use Rattle.layout.proofs.Places.{record-inside, records-above, parts-inside}
 use Rattle.records.specs.Record.{against, recordBytes, recordIn, Codes}
 use Rattle.records.proofs.BitLaws.{lies-self}
-use Rattle.records.proofs.RuleLaws.{formed-by}
 use Rattle.records.proofs.RecordLaws.{read-stored, record-told}
+use Rattle.records.proofs.RuleLaws.{formed-by}
 use Rattle.nodes.specs.Nodes.{nodeIn}
 use Rattle.nodes.specs.Alike.{Alike}
 use Rattle.nodes.proofs.Bounds.{node-above}
@@ -104,16 +104,16 @@ module _ (s : Shape) (limited : inLimits s ≡ true) where
         ∙ made-alike s (planted s) (sets (planted s) 0 head) i (λ h. (sym (headed-node (2 * i) (omega arith)), sym (headed-node (2 * i + 1) (omega arith))))
         (λ h k. headed-alike (i - leaves (s .n)))
 
-    headed-formed : (n : ℕ) → n < s .n → formed s (against 1 false) (sets (planted s) 0 head) n ≡ true
-    headed-formed n h =
+    headed-formed : (counter n : ℕ) → n < s .n → formed s (against 1 false counter) (sets (planted s) 0 head) n ≡ true
+    headed-formed counter n h =
         let e = sym (record-told s (recordAt s n) (planted s) (sets (planted s) 0 head) (headed-alike n .records)) ∙ planted-fresh n h in
-        rw e (formed-by (s .p) (against 1 false) freshRecord (lt-ltb 0 (2 ^ s .p) (pow-pos (s .p))) (lies-self 0) refl)
+        rw e (formed-by (s .p) (against 1 false counter) freshRecord (lt-ltb 0 (2 ^ s .p) (pow-pos (s .p))) (lies-self 0) refl (omega arith))
 
     headed-lent : Shaped s (sets (planted s) 0 head)
     headed-lent = record { limited = limited; size = length-sets (planted s) 0 head ∙ length-planted s }
 
-    pub headed-whole : wholeOf s (against 1 false) (sets (planted s) 0 head) ≡ A.Accepted
-    headed-whole = good-whole s (against 1 false) (sets (planted s) 0 head) headed-lent headed-good headed-formed
+    pub headed-whole : (counter : ℕ) → wholeOf s (against 1 false counter) (sets (planted s) 0 head) ≡ A.Accepted
+    headed-whole counter = good-whole s (against 1 false counter) (sets (planted s) 0 head) headed-lent headed-good (headed-formed counter)
 
 module _ (n p f : ℕ) (salt secret : List ℕ) (outside : ℕ) (salted : length salt ≡ 16) (limited : inLimits (shape n p f) ≡ true) where
   abbrev s : Shape
@@ -136,7 +136,7 @@ module _ (n p f : ℕ) (salt secret : List ℕ) (outside : ℕ) (salted : length
 
   numbers-whole : wholeIn (freshDrive s salt secret outside) (freshVolume s salt secret outside) ≡ A.Accepted
   unfolding freshDrive freshVolume
-  numbers-whole = headed-whole s limited (headOf (freshDrive s salt secret outside)) head-long
+  numbers-whole = headed-whole s limited (headOf (freshDrive s salt secret outside)) head-long (outside + 1)
 
 -- a shape in limits is its N, P and F under version 1 and ChaCha20, and only such a one has been formatted
 numbers-limited : (s : Shape) → inLimits s ≡ true → inLimits (shape (s .n) (s .p) (s .f)) ≡ true

@@ -23,10 +23,10 @@ pub ngt-lay-pad : OneOutcome fn.ngt_lay_pad.ended fn.ngt_lay_pad.Reads.Post
 ngt-lay-pad κs a x y u v p q = (refl, agree p q ∥ refl)
 
 pub ngt-path : OneOutcome fn.ngt_path.ended fn.ngt_path.Reads.Post
-ngt-path κs a x y u v p q = (refl, refl ∥ refl ∥ refl ∥ refl ∥ refl ∥ refl ∥ refl ∥ agree p q ∥ refl)
+ngt-path κs a x y u v p q = (refl, refl ∥ refl ∥ refl ∥ refl ∥ refl ∥ refl ∥ refl ∥ refl ∥ agree p q ∥ refl)
 
 pub ngt-whole : OneOutcome fn.ngt_whole.ended fn.ngt_whole.Reads.Post
-ngt-whole κs a x y u v p q = (refl, refl ∥ refl ∥ refl ∥ refl ∥ refl ∥ refl ∥ agree p q ∥ refl)
+ngt-whole κs a x y u v p q = (refl, refl ∥ refl ∥ refl ∥ refl ∥ refl ∥ refl ∥ refl ∥ agree p q ∥ refl)
 
 pub ngt-renew : OneOutcome fn.ngt_renew.ended fn.ngt_renew.Reads.Post
 ngt-renew κs a x y u v p q = (refl, agree p q ∥ refl)

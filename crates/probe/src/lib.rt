@@ -129,10 +129,11 @@ pub extern "C" fn ngt_path(
     f: u32,
     epoch: u16,
     changing: bool,
+    counter: u64,
     nugget: u32,
     answer: &mut [u8; 16],
 )
-    ensures { λ _. ⌜ now (answer .exit) ≡ answerImage (pathAnswer (shape n p f) (against epoch changing) (now (vol .entry)) nugget) ⌝ }
+    ensures { λ _. ⌜ now (answer .exit) ≡ answerImage (pathAnswer (shape n p f) (against epoch changing counter) (now (vol .entry)) nugget) ⌝ }
 {
     let a = path(
         vol,
@@ -143,7 +144,11 @@ pub extern "C" fn ngt_path(
             version: 1,
             cipher: 0,
         },
-        Gauge { epoch, changing },
+        Gauge {
+            epoch,
+            changing,
+            counter,
+        },
         nugget,
     );
     *answer = images::answer_image(a);
@@ -157,9 +162,10 @@ pub extern "C" fn ngt_whole(
     f: u32,
     epoch: u16,
     changing: bool,
+    counter: u64,
     answer: &mut [u8; 16],
 )
-    ensures { λ _. ⌜ now (answer .exit) ≡ answerImage (wholeAnswer (shape n p f) (against epoch changing) (now (vol .entry))) ⌝ }
+    ensures { λ _. ⌜ now (answer .exit) ≡ answerImage (wholeAnswer (shape n p f) (against epoch changing counter) (now (vol .entry))) ⌝ }
 {
     let a = whole(
         vol,
@@ -170,7 +176,11 @@ pub extern "C" fn ngt_whole(
             version: 1,
             cipher: 0,
         },
-        Gauge { epoch, changing },
+        Gauge {
+            epoch,
+            changing,
+            counter,
+        },
     );
     *answer = images::answer_image(a);
 }

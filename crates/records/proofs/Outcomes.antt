@@ -40,8 +40,5 @@ is-rekey κs a x y u v p q = (agree p q, refl)
 pub enciphers : OneOutcome fn.enciphers.ended fn.enciphers.Reads.Post
 enciphers κs a x y u v p q = (agree p q, refl)
 
-pub at-top : OneOutcome fn.at_top.ended fn.at_top.Reads.Post
-at-top κs a x y u v p q = (agree p q, refl)
-
 pub turn : OneOutcome fn.turn.ended fn.turn.Reads.Post
 turn κs a x y u v p q = (agree p q, refl)

@@ -6,7 +6,7 @@ use native.Mathlib.Nat.{le-refl}
 use native.Mathlib.Omega.{arith}
 use lib.Bits.{or-zero-r, or-lt}
 use lib.Dec.{eqb}
-use borrow.Author.Tests.{eq-eqb, ne-eqb, eqb-true, eqb-false, lt-ltb, ltb-true}
+use borrow.Author.Tests.{eq-eqb, ne-eqb, eqb-true, lt-ltb, ltb-true, le-leb, leb-true}
 use Rattle.base.specs.Pick.{pick, both}
 use Rattle.base.proofs.PickLaws.{clash, both-left, both-right, both-on, either-right, either-told}
 use Rattle.records.specs.declared.Record.{Record}
@@ -15,8 +15,8 @@ use Rattle.records.specs.declared.Way.{Way}
 use Rattle.records.specs.declared.Way.the-variants.{Idle, Add, Rekey}
 use Rattle.layout.specs.declared.Shape.{Shape}
 use Rattle.records.specs.Journal.{bit, union, shareNone, liesIn}
-use Rattle.records.specs.Record.{noneFrom, epochFits, wellFormed, Codes}
-use Rattle.records.specs.Rule.{wayOf, touchedBy, rekeys, enciphered, keycountAfter, spentAfter, heldAfter, epochAfter, turned, atTop}
+use Rattle.records.specs.Record.{against, noneFrom, epochFits, notAbove, wellFormed, Codes}
+use Rattle.records.specs.Rule.{wayOf, touchedBy, rekeys, enciphered, keycountAfter, spentAfter, heldAfter, epochAfter, turned, CanRise}
 use Rattle.records.proofs.BitLaws.{bit-union, bit-empty, lies-lt, lies-self, lies-union}
 use mathlib.Core.Logic.{_⊎_, inl, inr}
 
@@ -63,13 +63,20 @@ keycount-rises Idle r = le-refl (r .keycount)
 keycount-rises (Add t) r = le-refl (r .keycount)
 keycount-rises (Rekey t) r = omega arith
 
+-- and rise by one at most
+pub keycount-step : (way : Way) (r : Record) → keycountAfter way r ≤ r .keycount + 1
+unfolding keycountAfter
+keycount-step Idle r = omega arith
+keycount-step (Add t) r = omega arith
+keycount-step (Rekey t) r = le-refl (r .keycount + 1)
+
 epoch-after : (way : Way) (gauge : Gauge) (r : Record) → epochFits gauge (r .epoch) ≡ true → epochFits gauge (epochAfter way (gauge .epoch) r) ≡ true
 unfolding epochAfter
 epoch-after Idle gauge r e = e
 epoch-after (Add t) gauge r e = e
 epoch-after (Rekey t) gauge r e = rw (eq-eqb (gauge .epoch) (gauge .epoch) refl)
 
--- what the three tests of a well-formed record say
+-- what the tests of a well-formed record say
 pub formed-spent : (p : ℕ) (gauge : Gauge) (r : Record) → wellFormed p gauge r ≡ true → r .spent < 2 ^ p
 unfolding wellFormed
 formed-spent p gauge r e = ltb-true (r .spent) (2 ^ p) (both-left (noneFrom p (r .spent)) _ e)
@@ -81,9 +88,17 @@ formed-lies p gauge r e = both-left (liesIn (r .held) (r .spent)) _ (both-right 
 pub formed-held : (p : ℕ) (gauge : Gauge) (r : Record) → wellFormed p gauge r ≡ true → r .held < 2 ^ p
 formed-held p gauge r e = lies-lt p (r .held) (r .spent) (formed-lies p gauge r e) (formed-spent p gauge r e)
 
-pub formed-fits : (p : ℕ) (gauge : Gauge) (r : Record) → wellFormed p gauge r ≡ true → epochFits gauge (r .epoch) ≡ true
+-- its epoch and its keycount against the head's numbers
+formed-head : (p : ℕ) (gauge : Gauge) (r : Record) → wellFormed p gauge r ≡ true → both (epochFits gauge (r .epoch)) (notAbove gauge (r .keycount)) ≡ true
 unfolding wellFormed
-formed-fits p gauge r e = both-right (liesIn (r .held) (r .spent)) _ (both-right (noneFrom p (r .spent)) _ e)
+formed-head p gauge r e = both-right (liesIn (r .held) (r .spent)) _ (both-right (noneFrom p (r .spent)) _ e)
+
+pub formed-fits : (p : ℕ) (gauge : Gauge) (r : Record) → wellFormed p gauge r ≡ true → epochFits gauge (r .epoch) ≡ true
+formed-fits p gauge r e = both-left (epochFits gauge (r .epoch)) (notAbove gauge (r .keycount)) (formed-head p gauge r e)
+
+pub formed-keycount : (p : ℕ) (gauge : Gauge) (r : Record) → wellFormed p gauge r ≡ true → r .keycount ≤ gauge .counter
+formed-keycount p gauge r e =
+    leb-true (r .keycount) (gauge .counter) (both-right (epochFits gauge (r .epoch)) (notAbove gauge (r .keycount)) (formed-head p gauge r e))
 
 pub formed-epoch : (p : ℕ) (gauge : Gauge) (r : Record) → wellFormed p gauge r ≡ true
     → (r .epoch ≡ gauge .epoch) ⊎ ((gauge .changing ≡ true) × (r .epoch + 1 ≡ gauge .epoch))
@@ -99,9 +114,9 @@ formed-epoch p gauge r e =
 
 -- and a record that passes them is well formed
 pub formed-by : (p : ℕ) (gauge : Gauge) (r : Record) → noneFrom p (r .spent) ≡ true → liesIn (r .held) (r .spent) ≡ true
-    → epochFits gauge (r .epoch) ≡ true → wellFormed p gauge r ≡ true
+    → epochFits gauge (r .epoch) ≡ true → r .keycount ≤ gauge .counter → wellFormed p gauge r ≡ true
 unfolding wellFormed
-formed-by p gauge r none lies fits = both-on none (both-on lies fits)
+formed-by p gauge r none lies fits low = both-on none (both-on lies (both-on fits (le-leb (r .keycount) (gauge .counter) low)))
 
 -- the masks afterwards
 spent-after : (p : ℕ) (way : Way) (r : Record) → touchedBy way < 2 ^ p → r .spent < 2 ^ p → r .held < 2 ^ p → spentAfter way r < 2 ^ p
@@ -126,26 +141,21 @@ one-after Idle r e = rw e refl
 one-after (Add t) r e = rw e refl
 one-after (Rekey t) r e = refl
 
--- the record afterwards is well formed where the one before was
+-- the record afterwards is well formed, under a counter one higher, where the one before was
 pub well-formed-after : (p : ℕ) (way : Way) (gauge : Gauge) (r : Record) → touchedBy way < 2 ^ p
-    → wellFormed p gauge r ≡ true → wellFormed p gauge (turned way (gauge .epoch) r) ≡ true
+    → wellFormed p gauge r ≡ true → wellFormed p (against (gauge .epoch) (gauge .changing) (gauge .counter + 1)) (turned way (gauge .epoch) r) ≡ true
 well-formed-after p way gauge r h e =
     let few = spent-after p way r h (formed-spent p gauge r e) (formed-held p gauge r e) in
-    formed-by p gauge (turned way (gauge .epoch) r) (lt-ltb (spentAfter way r) (2 ^ p) few) (lies-after way r (formed-lies p gauge r e))
+    formed-by p (against (gauge .epoch) (gauge .changing) (gauge .counter + 1)) (turned way (gauge .epoch) r)
+    (lt-ltb (spentAfter way r) (2 ^ p) few) (lies-after way r (formed-lies p gauge r e))
     (epoch-after way gauge r (formed-fits p gauge r e))
+    (omega (arith, keycount-step way r, formed-keycount p gauge r e))
 
--- below its top the keycount has room for one more
-pub room : (way : Way) (r : Record) → rekeys way ≡ true → atTop way r ≡ false → r .keycount < 2 ^ 64 → r .keycount + 1 < 2 ^ 64
-unfolding atTop
-room way r e top h =
-    let d : eqb (r .keycount) (2 ^ 64 - 1) ≡ false = rw e at top in
-    omega (arith, eqb-false (r .keycount) (2 ^ 64 - 1) d)
-
-keycount-width : (way : Way) (r : Record) → r .keycount < 2 ^ 64 → atTop way r ≡ false → keycountAfter way r < 2 ^ 64
+keycount-width : (way : Way) (r : Record) → r .keycount < 2 ^ 64 → CanRise way r → keycountAfter way r < 2 ^ 64
 unfolding keycountAfter
 keycount-width Idle r w e = w
 keycount-width (Add u) r w e = w
-keycount-width (Rekey u) r w e = room (Rekey u) r refl e w
+keycount-width (Rekey u) r w e = omega (arith, e refl)
 
 epoch-width : (way : Way) (head : ℕ) (r : Record) → r .epoch < 2 ^ 16 → head < 2 ^ 16 → epochAfter way head r < 2 ^ 16
 unfolding epochAfter
@@ -154,7 +164,7 @@ epoch-width (Add u) head r w h = w
 epoch-width (Rekey u) head r w h = h
 
 -- and its bytes tell it, below the keycount's top
-pub codes-after : (s : Shape) (way : Way) (head : ℕ) (r : Record) → Codes s r → touchedBy way < 2 ^ 64 → head < 2 ^ 16 → atTop way r ≡ false → Codes s (turned way head r)
+pub codes-after : (s : Shape) (way : Way) (head : ℕ) (r : Record) → Codes s r → touchedBy way < 2 ^ 64 → head < 2 ^ 16 → CanRise way r → Codes s (turned way head r)
 codes-after s way head r w t h e =
     record {
       keycountWidth = keycount-width way r (w .keycountWidth) e;

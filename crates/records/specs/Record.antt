@@ -5,7 +5,7 @@ use Prim.Native.Nat.{ℕ, _+_, _^_, _<_}
 use mathlib.Core.Bool.{Bool, true, false}
 use mathlib.Core.Path.{_≡_}
 use mathlib.Core.List.{List, [], _∷_}
-use lib.Dec.{eqb, ltb}
+use lib.Dec.{eqb, leb, ltb}
 use Rattle.base.specs.Pick.{both, either}
 use Rattle.layout.specs.declared.Shape.{Shape}
 use Rattle.layout.specs.Shape.{isOne}
@@ -41,8 +41,8 @@ abbrev pub recordOf : Shape → List ℕ → ℕ → Record
 recordOf s v n = recordIn s (recordAt s n) v
 
 -- what a record is held against
-abbrev pub against : ℕ → Bool → Gauge
-against epoch changing = record { epoch = epoch; changing = changing }
+abbrev pub against : ℕ → Bool → ℕ → Gauge
+against epoch changing counter = record { epoch = epoch; changing = changing; counter = counter }
 
 -- "no bit at or above P is set"
 abbrev pub noneFrom : ℕ → ℕ → Bool
@@ -52,10 +52,14 @@ noneFrom p j = ltb j (2 ^ p)
 abbrev pub epochFits : Gauge → ℕ → Bool
 epochFits gauge e = either (eqb e (gauge .epoch)) (both (gauge .changing) (eqb (e + 1) (gauge .epoch)))
 
+-- document 02, Item 7: "A record whose keycount is above the head's counter is ill formed."
+abbrev pub notAbove : Gauge → ℕ → Bool
+notAbove gauge k = leb k (gauge .counter)
+
 -- "A record is well formed if no bit at or above P is set and its epoch is the head's, or, while changing, the head's or one less."
 -- Document 02, Item 4: "An ill-formed record now includes a held bit that isn't spent." In version 1 there is none.
 unfoldable pub wellFormed : ℕ → Gauge → Record → Bool
-wellFormed p gauge r = both (noneFrom p (r .spent)) (both (liesIn (r .held) (r .spent)) (epochFits gauge (r .epoch)))
+wellFormed p gauge r = both (noneFrom p (r .spent)) (both (liesIn (r .held) (r .spent)) (both (epochFits gauge (r .epoch)) (notAbove gauge (r .keycount))))
 
 -- each field is within its width, and a record of version 1 has one mask for both
 pub record Codes (s : Shape) (r : Record) : Type 0 where

@@ -1,5 +1,6 @@
 -- The rule of a change on one nugget: what becomes of its record, and which flakes are enciphered under which keycount.
-use Prim.Native.Nat.{ℕ, _+_, _-_, _^_}
+use Prim.Native.Nat.{ℕ, _+_, _-_, _^_, _<_}
+use mathlib.Core.Path.{_≡_}
 use mathlib.Core.Bool.{Bool, true, false}
 use lib.Dec.{eqb}
 use Rattle.base.specs.Pick.{pick, both}
@@ -59,6 +60,6 @@ epochAfter way head r = pick (rekeys way) head (r .epoch)
 abbrev pub turned : Way → ℕ → Record → Record
 turned way head r = record { keycount = keycountAfter way r; spent = spentAfter way r; held = heldAfter way r; epoch = epochAfter way head r }
 
--- "14: a rekey needed and the keycount at its top"
-unfoldable pub atTop : Way → Record → Bool
-atTop way r = both (rekeys way) (eqb (r .keycount) (2 ^ 64 - 1))
+-- what "keycount plus 1" asks of eight bytes: a nugget that is rekeyed isn't at its keycount's top
+abbrev pub CanRise : Way → Record → Type 0
+CanRise way r = rekeys way ≡ true → r .keycount < 2 ^ 64 - 1

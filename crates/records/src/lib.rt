@@ -2,7 +2,6 @@
 // It touches `base`, `words`, `codec` and `layout`.
 use layout::Shape;
 ghost use mathlib.Core.Path.{_≡_};
-ghost use mathlib.Core.Bool.{false};
 ghost use Prim.Native.Nat.{_+_, _<_, _≤_, _^_};
 ghost use lib.ListN.{length};
 ghost use lib.Seq.{sets};
@@ -10,8 +9,8 @@ ghost use Rattle.layout.specs.Shape.{widthOf};
 ghost use Rattle.layout.specs.Parts.{recordAt};
 ghost use Rattle.layout.specs.Shaped.{Shaped};
 ghost use Rattle.records.specs.Journal.{bit, union, shareNone, liesIn, flakesFrom, allFlakes, flakeCount};
-ghost use Rattle.records.specs.Record.{recordBytes, recordIn, recordOf, noneFrom, epochFits, wellFormed};
-ghost use Rattle.records.specs.Rule.{wayOf, rekeys, enciphered, turned, atTop};
+ghost use Rattle.records.specs.Record.{recordBytes, recordIn, recordOf, noneFrom, epochFits, notAbove, wellFormed};
+ghost use Rattle.records.specs.Rule.{wayOf, rekeys, enciphered, turned, CanRise};
 
 pub struct Record {
     pub keycount: u64,
@@ -20,10 +19,11 @@ pub struct Record {
     pub epoch: u16,
 }
 
-// What a record is held against: the head's epoch, and whether the secret is being changed.
+// What a record is held against: the head's epoch, whether the secret is being changed, and the head's counter.
 pub struct Gauge {
     pub epoch: u16,
     pub changing: bool,
+    pub counter: u64,
 }
 
 // What a change does to one nugget: nothing, add the touched flakes, or rekey it with them.
@@ -163,13 +163,22 @@ fn lies_in(held: u64, spent: u64) -> bool
     held & spent == held
 }
 
+// Document 02, Item 7: "A record whose keycount is above the head's counter is ill formed."
+fn not_above(gauge: Gauge, keycount: u64) -> bool
+    ensures { λ r. ⌜ r ≡ notAbove gauge keycount ⌝ }
+{
+    keycount <= gauge.counter
+}
+
 // "A record is well formed if no bit at or above P is set and its epoch is .."
 pub fn well_formed(r: Record, p: u32, gauge: Gauge) -> bool
     ensures { λ ok. ⌜ ok ≡ wellFormed p gauge r ⌝ }
 {
     if none_from(r.spent, p) {
         if lies_in(r.held, r.spent) {
-            return epoch_fits(gauge, r.epoch);
+            if epoch_fits(gauge, r.epoch) {
+                return not_above(gauge, r.keycount);
+            }
         }
     }
     false
@@ -212,17 +221,6 @@ pub fn enciphers(way: Way, r: Record) -> u64
     }
 }
 
-// "14: a rekey needed and the keycount at its top"
-pub fn at_top(way: Way, r: Record) -> bool
-    ensures { λ top. ⌜ top ≡ atTop way r ⌝ }
-{
-    if is_rekey(way) {
-        r.keycount == 0xffff_ffff_ffff_ffff
-    } else {
-        false
-    }
-}
-
 // "keycount plus 1"
 fn next(keycount: u64) -> u64
     requires { ⌜ keycount + 1 < 2 ^ 64 ⌝ }
@@ -233,7 +231,7 @@ fn next(keycount: u64) -> u64
 
 // The record afterwards; the flakes are enciphered under its keycount.
 pub fn turn(way: Way, epoch: u16, r: Record) -> Record
-    requires { ⌜ atTop way r ≡ false ⌝ }
+    requires { ⌜ CanRise way r ⌝ }
     ensures { λ after. ⌜ after ≡ turned way epoch r ⌝ }
 {
     match way {

@@ -1,7 +1,6 @@
 // The tests of begin, sweep and finish, in document 01's order.
 use answers::Answer;
 use drive::Drive;
-use records::Way;
 ghost use mathlib.Core.Path.{_≡_};
 ghost use Prim.Native.Nat.{_<_};
 ghost use Rattle.layout.specs.Shaped.{Shaped};
@@ -40,7 +39,7 @@ pub fn begin(d: Drive, vol: &[u8], secret: [u8; 32]) -> Answer
     a
 }
 
-// "12, 13, 14, 7 flakes": all flakes present, since all are enciphered afresh.
+// "12, 13, [..] 7 flakes": all flakes present, since all are enciphered afresh.
 fn move_tests(d: Drive, vol: &[u8], n: u32) -> Answer
     requires { ⌜ Shaped (shapeOf d) (now vol) × (n < d .n) ⌝ }
     ensures { λ r. ⌜ r ≡ moveTests d (now (vol .entry)) n ⌝ }
@@ -52,14 +51,11 @@ fn move_tests(d: Drive, vol: &[u8], n: u32) -> Answer
     if d.counter == 0xffff_ffff_ffff_ffff {
         return Answer::CounterTop;
     }
-    if records::at_top(Way::Rekey(0), r) {
-        return Answer::KeycountTop;
-    }
     let g = nuggets::nugget_of(d, vol, n);
     nuggets::flakes(vol, drive::shape_of(d), g, r.held)
 }
 
-// "7 path, 12, 13, 14, 7 flakes"
+// "7 path, 12, 13, [..] 7 flakes"
 fn nugget_tests(d: Drive, vol: &[u8], n: u32) -> Answer
     requires { ⌜ Shaped (shapeOf d) (now vol) × (n < d .n) ⌝ }
     ensures { λ r. ⌜ r ≡ nuggetTests d (now (vol .entry)) n ⌝ }
@@ -71,7 +67,7 @@ fn nugget_tests(d: Drive, vol: &[u8], n: u32) -> Answer
     a
 }
 
-// "Sweep: 9, 8, 7 path, 12, 13, 14, 7 flakes."
+// "Sweep: 9, 8, 7 path, 12, 13, [..] 7 flakes."
 pub fn sweep(d: Drive, vol: &[u8], n: u32) -> Answer
     ensures { λ r. ⌜ r ≡ sweepAnswer d (now (vol .entry)) n ⌝ }
 {

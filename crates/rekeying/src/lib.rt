@@ -7,10 +7,9 @@ use drive::Drive;
 use drive::State;
 use records::Way;
 ghost use mathlib.Core.Path.{_≡_};
-ghost use mathlib.Core.Bool.{false};
 ghost use Prim.Native.Nat.{_<_};
 ghost use Rattle.layout.specs.Shaped.{Shaped};
-ghost use Rattle.records.specs.Rule.{sweepWay, atTop};
+ghost use Rattle.records.specs.Rule.{sweepWay, CanRise};
 ghost use Rattle.drive.specs.Drive.{shapeOf, counterTop};
 ghost use Rattle.changes.specs.Rekey.{epochTop, begunDrive, beginDone, beginVolume, sweepWork, sweepDone, sweepVolume, finishedDrive, finishDone, finishVolume};
 ghost use Rattle.records.specs.Record.{recordOf};
@@ -72,7 +71,7 @@ pub fn begin(d: Drive, vol: &mut [u8], secret: [u8; 32]) -> Done
 
 // All that a sweep stores before the head: flakes and tags of the nugget, its record, its leaf and path.
 fn rekey(d: Drive, vol: &mut [u8], n: u32)
-    requires { ⌜ Shaped (shapeOf d) (now vol) × (n < d .n) × (atTop sweepWay (recordOf (shapeOf d) (now vol) n) ≡ false) ⌝ }
+    requires { ⌜ Shaped (shapeOf d) (now vol) × (n < d .n) × CanRise sweepWay (recordOf (shapeOf d) (now vol) n) ⌝ }
     ensures { λ _. ⌜ now (vol .exit) ≡ sweepWork d (now (vol .entry)) n ⌝ }
 {
     let none = [0u8; 0];

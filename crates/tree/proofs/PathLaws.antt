@@ -53,6 +53,12 @@ climbed-all s v (suc k) j e i u =
     go g (inl w) again = rw (eqb-true j i w) at g
     go g (inr w) again = again w
 
+-- a path that passes has a well-formed record, whatever the volume
+pub path-formed : (s : Shape) (gauge : Gauge) (v : List ℕ) (n : ℕ) → pathOf s gauge v n ≡ A.Accepted → formed s gauge v n ≡ true
+unfolding pathOf goodRecord
+path-formed s gauge v n e =
+    both-left _ _ (accepted-pick (goodRecord s gauge v n) (climbed s v (heightOf (s .n)) ((leaves (s .n) + n) / 2)) (P.Record n) e .0)
+
 pub path-belongs : (s : Shape) (gauge : Gauge) (v : List ℕ) (n : ℕ) → Shaped s v → n < s .n → pathOf s gauge v n ≡ A.Accepted
     → Belongs s gauge v n
 unfolding pathOf goodRecord
@@ -60,7 +66,7 @@ path-belongs s gauge v n l h e =
     let small = lent-small l in
     let q = accepted-pick (goodRecord s gauge v n) (climbed s v (heightOf (s .n)) ((leaves (s .n) + n) / 2)) (P.Record n) e in
     record {
-      well-formed = both-left _ _ (q .0);
+      well-formed = path-formed s gauge v n e;
       leaf = good-true s v (leaves (s .n) + n) (both-right (formed s gauge v n) _ (q .0)) ∙ made-leaf s v n h;
       above =
           λ i u.

@@ -2,7 +2,7 @@
 use mathlib.Core.Path.{_≡_, refl, sym, ap, _∙_}
 use mathlib.Core.Bool.{true, false}
 use mathlib.Core.List.{List}
-use Prim.Native.Nat.{ℕ, _+_, _-_, _^_, _<_, _≤_}
+use Prim.Native.Nat.{ℕ, _+_, _-_, _<_, _≤_}
 use native.Mathlib.Numerals.{add-one}
 use native.Mathlib.Omega.{arith}
 use borrow.Author.Tests.{eq-eqb, ne-eqb, lt-ltb, le-ltb}
@@ -20,7 +20,7 @@ use Rattle.answers.proofs.StageLaws.{goes-on, stops, first-answers}
 use Rattle.records.specs.declared.Record.{Record}
 use Rattle.records.specs.declared.Way.{Way}
 use Rattle.records.specs.declared.Way.the-variants.{Idle, Add, Rekey}
-use Rattle.records.specs.Rule.{wayOf, sweepWay, atTop}
+use Rattle.records.specs.Rule.{wayOf, sweepWay}
 use Rattle.drive.specs.declared.Drive.{Drive}
 use Rattle.drive.specs.Drive.{shapeOf, counterTop}
 use Rattle.drive.specs.Opening.{openingOf}
@@ -46,33 +46,26 @@ module _ (d : Drive) (v : List ℕ) (n : ℕ) where
   unfolding nuggetChange
   rekey-path e h = e ∙ sym (stops (pathFor d v n) _ (ap accepts (sym e) ∙ h))
 
-  pub rekey-top : {a : Answer} {g : Nugget} → a ≡ pathFor d v n → accepts a ≡ true → g ≡ nuggetOf d v n → g .lock .keycount ≡ 2 ^ 64 - 1 → A.KeycountTop ≡ nuggetChange d v n sweepWay
-  unfolding nuggetChange atTop
-  rekey-top e h eg k =
-      let top : recordOf (shapeOf d) v n .keycount ≡ 2 ^ 64 - 1 = ap (λ (x : Nugget). x .lock .keycount) (sym eg) ∙ k in
-      sym (goes-on (pathFor d v n) _ (ap accepts (sym e) ∙ h) ∙ yes _ (eq-eqb _ _ top) refl)
-
-  pub rekey-flakes : {a r : Answer} {g : Nugget} {s : Shape} → a ≡ pathFor d v n → accepts a ≡ true → g ≡ nuggetOf d v n → (g .lock .keycount ≡ 2 ^ 64 - 1 → ⊥) → s ≡ shapeOf d
+  pub rekey-flakes : {a r : Answer} {g : Nugget} {s : Shape} → a ≡ pathFor d v n → accepts a ≡ true → g ≡ nuggetOf d v n → s ≡ shapeOf d
       → r ≡ flakesTested s v g (g .held) → r ≡ nuggetChange d v n sweepWay
-  unfolding nuggetChange atTop
-  rekey-flakes {g = g} e h eg k es er =
-      let low : recordOf (shapeOf d) v n .keycount ≡ 2 ^ 64 - 1 → ⊥ = λ q. k (ap (λ (x : Nugget). x .lock .keycount) eg ∙ q) in
+  unfolding nuggetChange
+  rekey-flakes {g = g} e h eg es er =
       er
       ∙ ap (λ (x : Shape). flakesTested x v g (g .held)) es
       ∙ ap (λ (x : Nugget). flakesTested (shapeOf d) v x (x .held)) eg
-      ∙ sym (goes-on (pathFor d v n) _ (ap accepts (sym e) ∙ h) ∙ no _ (ne-eqb _ _ low) refl)
+      ∙ sym (goes-on (pathFor d v n) _ (ap accepts (sym e) ∙ h))
 
   pub change-idle : {way : Way} → way ≡ Idle → A.Accepted ≡ nuggetChange d v n way
   unfolding nuggetChange
   change-idle e = rw e
 
   pub change-add : (t : ℕ) {way : Way} {r : Answer} → way ≡ Add t → r ≡ pathFor d v n → r ≡ nuggetChange d v n way
-  unfolding nuggetChange atTop
+  unfolding nuggetChange
   change-add t e h = rw e (h ∙ sym (first-answers (pathFor d v n) A.Accepted refl))
 
   -- a rekey's tests don't ask what it touches
   pub change-rekey : (t : ℕ) {way : Way} {r : Answer} → way ≡ Rekey t → r ≡ nuggetChange d v n sweepWay → r ≡ nuggetChange d v n way
-  unfolding nuggetChange atTop
+  unfolding nuggetChange
   change-rekey t e h = rw e h
 
 -- one turn over the nuggets that the range meets

@@ -1,6 +1,5 @@
 -- The stores of a write, nugget by nugget: what was stored for those before leaves each nugget as the tests saw it.
 use mathlib.Core.Path.{_≡_, refl, sym, ap, _∙_}
-use mathlib.Core.Bool.{false}
 use mathlib.Core.List.{List}
 use Prim.Native.Nat.{ℕ, zero, suc, _+_, _-_, _<_, _≤_}
 use native.Mathlib.Numerals.{add-one}
@@ -16,7 +15,7 @@ use Rattle.layout.proofs.Limits.{limits}
 use Rattle.records.specs.declared.Record.{Record}
 use Rattle.records.specs.declared.Way.{Way}
 use Rattle.records.specs.Journal.{bit}
-use Rattle.records.specs.Rule.{wayOf, enciphered, keycountAfter, atTop}
+use Rattle.records.specs.Rule.{wayOf, enciphered, keycountAfter, CanRise}
 use Rattle.records.specs.Listing.{Entry, padsBy, padsTo}
 use Rattle.drive.specs.declared.Drive.{Drive}
 use Rattle.drive.specs.Drive.{shapeOf}
@@ -39,9 +38,9 @@ contents-told : (d : Drive) (v w : List ℕ) (n f : ℕ) → recordOf (shapeOf d
 unfolding contentsIn
 contents-told d v w n f er es = rw (er, es) refl
 
-pub room-told : (d : Drive) (v w : List ℕ) (o len n : ℕ) {y : Way} → y ≡ writeWay d w o len n → recordOf (shapeOf d) w n ≡ recordOf (shapeOf d) v n → atTop (writeWay d v o len n) (recordOf (shapeOf d) v n) ≡ false
-    → atTop y (recordOf (shapeOf d) w n) ≡ false
-room-told d v w o len n ey e h = ap (λ (q : Way). atTop q (recordOf (shapeOf d) w n)) ey ∙ ap (λ (r : Record). atTop (wayOf r (touchedOf (shapeOf d) o len n) (d .epoch)) r) e ∙ h
+pub room-told : (d : Drive) (v w : List ℕ) (o len n : ℕ) {y : Way} → y ≡ writeWay d w o len n → recordOf (shapeOf d) w n ≡ recordOf (shapeOf d) v n → CanRise (writeWay d v o len n) (recordOf (shapeOf d) v n)
+    → CanRise y (recordOf (shapeOf d) w n)
+room-told d v w o len n ey e h = rw (ey, e) h
 
 -- new contents are F bytes each
 long : (d : Drive) (v : List ℕ) (o : ℕ) (bytes : List ℕ) → Long (shapeOf d) (newContents d v o bytes)

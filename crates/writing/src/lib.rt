@@ -28,7 +28,7 @@ fn way_at(d: Drive, vol: &[u8], o: usize, len: usize, n: u32) -> Way
     records::way_of(r, t, d.epoch)
 }
 
-// "path; 14; flakes, ascending": "a rekey tests all of J", whatever it touches.
+// "path; [..] flakes, ascending": "a rekey tests all of J", whatever it touches.
 fn test_rekey(d: Drive, vol: &[u8], n: u32) -> Answer
     requires { ⌜ Shaped (shapeOf d) (now vol) × (n < d .n) ⌝ }
     ensures { λ r. ⌜ r ≡ nuggetChange d (now (vol .entry)) n sweepWay ⌝ }
@@ -36,9 +36,6 @@ fn test_rekey(d: Drive, vol: &[u8], n: u32) -> Answer
     let a = nuggets::test_path(d, vol, n);
     if answers::accepted(a) {
         let g = nuggets::nugget_of(d, vol, n);
-        if g.lock.keycount == 0xffff_ffff_ffff_ffff {
-            return Answer::KeycountTop;
-        }
         return nuggets::flakes(vol, drive::shape_of(d), g, g.held);
     }
     a

@@ -49,9 +49,6 @@ enum-told-12 c = search needs
 enum-told-13 : tie.Need-enum-told-13
 enum-told-13 c = search needs
 
-enum-told-14 : tie.Need-enum-told-14
-enum-told-14 c = search needs
-
 returns : tie.Need-returns
 returns c = search needs
 
@@ -97,9 +94,6 @@ returns-14 c = search needs
 returns-15 : tie.Need-returns-15
 returns-15 c = search needs
 
-returns-16 : tie.Need-returns-16
-returns-16 c = search needs
-
 pub carried-by-spec : {M : Type 1} → statement M
 carried-by-spec =
     tie.close
@@ -119,7 +113,6 @@ carried-by-spec =
     enum-told-11
     enum-told-12
     enum-told-13
-    enum-told-14
     returns
     returns-2
     returns-3
@@ -134,5 +127,4 @@ carried-by-spec =
     returns-12
     returns-13
     returns-14
-    returns-15
-    returns-16)
+    returns-15)

@@ -1,5 +1,5 @@
 use Rattle.laying.proofs.FlakeLaws.{lay-is}
-use Rattle.laying.proofs.ChangeLaws.{read-is, top-not}
+use Rattle.laying.proofs.ChangeLaws.{read-is, rise-told}
 use borrow.Author.Needs.{needs}
 use Rattle.laying.proofs.lay.Statement.{statement}
 use Rattle.laying.proofs.lay.Tie as tie
@@ -13,7 +13,7 @@ read-requires c κs = rw (c .shape-of .ensures) (c .before .before .before .befo
 turn-requires : tie.Need-turn-requires
 turn-requires c κs =
     let a = c .before .before .before .before .before .args in
-    top-not (a .way) (read-is (a .vol .now) (a .n) (c .read .ensures) (c .before .shape-of .ensures)) (c .before .before .before .before .before .pre .3)
+    rise-told (a .way) (read-is (a .vol .now) (a .n) (c .read .ensures) (c .before .shape-of .ensures)) (c .before .before .before .before .before .pre .3)
 
 enciphers-requires : tie.Need-enciphers-requires
 enciphers-requires c κs = search needs

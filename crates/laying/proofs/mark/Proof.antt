@@ -1,4 +1,4 @@
-use Rattle.laying.proofs.ChangeLaws.{read-is, top-not, marked-not, marked-is}
+use Rattle.laying.proofs.ChangeLaws.{read-is, rise-told, marked-not, marked-is}
 use mathlib.Core.Path.{sym, _∙_}
 use borrow.Author.Needs.{needs}
 use Rattle.laying.proofs.mark.Statement.{statement}
@@ -23,7 +23,7 @@ read-requires c κs = rw (c .before .shape-of .ensures) (c .before .before .befo
 turn-requires : tie.Need-turn-requires
 turn-requires c κs =
     let a = c .before .before .before .before .before .before .args in
-    top-not (a .way) (read-is (a .vol .now) (a .n) (c .read .ensures) (c .before .before .shape-of .ensures)) (c .before .before .before .before .before .before .pre .2)
+    rise-told (a .way) (read-is (a .vol .now) (a .n) (c .read .ensures) (c .before .before .shape-of .ensures)) (c .before .before .before .before .before .before .pre .2)
 
 store-requires : tie.Need-store-requires
 store-requires c κs = rw (c .before .before .before .before .shape-of .ensures) (c .before .before .before .before .before .before .before .before .pre .0, c .before .before .before .before .before .before .before .before .pre .1)

@@ -2,7 +2,7 @@ use mathlib.Core.Path.{ap}
 use native.Mathlib.Omega.{arith}
 use borrow.Author.Needs.{needs}
 use Rattle.records.specs.Rule.{rekeys}
-use Rattle.records.proofs.RuleLaws.{turned-idle, turned-add, turned-rekey, room}
+use Rattle.records.proofs.RuleLaws.{turned-idle, turned-add, turned-rekey}
 use Rattle.records.proofs.turn.Statement.{statement}
 use Rattle.records.proofs.turn.Tie as tie
 
@@ -27,7 +27,7 @@ join-requires-3 c κs = search needs
 next-requires : tie.Need-next-requires
 next-requires c κs =
     let s = c .before .before .before .before in
-    omega (arith, room (s .args .way) (s .args .r) (ap rekeys (c .before .before .way2 .given .1)) (s .pre) (omega arith))
+    omega (arith, s .pre (ap rekeys (c .before .before .way2 .given .1)))
 
 returns : tie.Need-returns
 returns c = let a = c .before .before .args in turned-idle (a .way) (a .epoch) (a .r) (c .enum-told .given .1)

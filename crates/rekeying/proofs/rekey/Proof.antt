@@ -1,7 +1,5 @@
 use Rattle.changes.proofs.SweepLaws.{sweep-record, sweep-works}
-use Rattle.records.specs.declared.Record.{Record}
-use Rattle.records.specs.Rule.{sweepWay, atTop}
-use mathlib.Core.Path.{_∙_, ap}
+use mathlib.Core.Path.{_∙_}
 use borrow.Author.Needs.{needs}
 use Rattle.rekeying.proofs.rekey.Statement.{statement}
 use Rattle.rekeying.proofs.rekey.Tie as tie
@@ -19,7 +17,7 @@ mark-requires c κs =
     let n = c .before .before .before .before .before .before .before .args .n in
     let l = c .before .before .before .before .before .before .before .pre .0 in
     let same = sweep-record d v n l (c .before .before .before .before .before .before .before .pre .1) (c .before .before .before .lay .ensures) in
-    (record { limited = l .limited; size = c .before .before .before .lay .kept .1 .0 ∙ l .size }, c .before .before .before .before .before .before .before .pre .1, ap (λ (r : Record). atTop sweepWay r) same ∙ c .before .before .before .before .before .before .before .pre .2)
+    (record { limited = l .limited; size = c .before .before .before .lay .kept .1 .0 ∙ l .size }, c .before .before .before .before .before .before .before .pre .1, rw same (c .before .before .before .before .before .before .before .pre .2))
 
 shape-of-requires : tie.Need-shape-of-requires
 shape-of-requires c κs = search needs

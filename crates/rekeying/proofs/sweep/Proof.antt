@@ -1,4 +1,4 @@
-use Rattle.changes.proofs.AnswerLaws.{sweep-told}
+use Rattle.changes.proofs.AnswerLaws.{sweep-told, sweep-rise}
 use Rattle.rekeying.proofs.DoneLaws.{done-on, done-off}
 use Rattle.changes.specs.Rekey.{sweepWork, sweptDrive, sweepDone, sweepVolume}
 use Rattle.changes.specs.Change.{advanced, settled}
@@ -20,7 +20,7 @@ accepted-requires c κs = search needs
 rekey-requires : tie.Need-rekey-requires
 rekey-requires c κs =
     let is = sweep-told (c .before .before .before .before .before .before .args .d) (c .before .before .before .before .before .before .args .vol .now) (c .before .before .before .before .before .before .args .n) (ap accepts (sym (c .before .before .before .sweep .ensures)) ∙ sym (c .before .before .accepted .ensures) ∙ c .before .if1 .taken) in
-    (is .lent, is .inside, is .keycountRoom)
+    (is .lent, is .inside, sweep-rise (omega arith) is)
 
 advance-requires : tie.Need-advance-requires
 advance-requires c κs =

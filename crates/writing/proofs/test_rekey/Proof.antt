@@ -1,4 +1,4 @@
-use Rattle.writing.proofs.AnswerLaws.{rekey-path, rekey-top, rekey-flakes}
+use Rattle.writing.proofs.AnswerLaws.{rekey-path, rekey-flakes}
 use mathlib.Core.Path.{sym, _∙_}
 use borrow.Author.Needs.{needs}
 use Rattle.writing.proofs.test_rekey.Statement.{statement}
@@ -13,24 +13,19 @@ accepted-requires c κs = search needs
 nugget-of-requires : tie.Need-nugget-of-requires
 nugget-of-requires c κs = search needs
 
-returns : tie.Need-returns
-returns c =
-    let a = c .before .before .before .before .before .before .before .args in
-    rekey-top (a .d) (a .vol .now) (a .n) (c .before .before .before .before .before .test-path .ensures) (sym (c .before .before .before .before .accepted .ensures) ∙ c .before .before .before .if1 .taken) (c .before .before .nugget-of .ensures) (c .if2 .taken)
-
 shape-of-requires : tie.Need-shape-of-requires
 shape-of-requires c κs = search needs
 
 flakes-requires : tie.Need-flakes-requires
-flakes-requires c κs = rw (c .shape-of .ensures, c .before .before .before .nugget-of .ensures) (c .before .before .before .before .before .before .before .before .pre .0, c .before .before .before .before .before .before .before .before .pre .1)
+flakes-requires c κs = rw (c .shape-of .ensures, c .before .nugget-of .ensures) (c .before .before .before .before .before .before .pre .0, c .before .before .before .before .before .before .pre .1)
+
+returns : tie.Need-returns
+returns c =
+    let a = c .before .before .before .before .before .before .before .args in
+    rekey-flakes (a .d) (a .vol .now) (a .n) (c .before .before .before .before .before .test-path .ensures) (sym (c .before .before .before .before .accepted .ensures) ∙ c .before .before .before .if1 .taken) (c .before .before .nugget-of .ensures) (c .before .shape-of .ensures) (c .flakes .ensures)
 
 returns-2 : tie.Need-returns-2
 returns-2 c =
-    let a = c .before .before .before .before .before .before .before .before .before .args in
-    rekey-flakes (a .d) (a .vol .now) (a .n) (c .before .before .before .before .before .before .before .test-path .ensures) (sym (c .before .before .before .before .before .before .accepted .ensures) ∙ c .before .before .before .before .before .if1 .taken) (c .before .before .before .before .nugget-of .ensures) (c .before .before .if2 .left) (c .before .shape-of .ensures) (c .flakes .ensures)
-
-returns-3 : tie.Need-returns-3
-returns-3 c =
     let a = c .before .before .before .before .args in
     rekey-path (a .d) (a .vol .now) (a .n) (c .before .before .test-path .ensures) (sym (c .before .accepted .ensures) ∙ c .if1 .left)
 
@@ -41,8 +36,7 @@ test-rekey-spec =
     test-path-requires
     accepted-requires
     nugget-of-requires
-    returns
     shape-of-requires
     flakes-requires
-    returns-2
-    returns-3)
+    returns
+    returns-2)

@@ -1,4 +1,4 @@
-use Rattle.changes.proofs.AnswerLaws.{write-told}
+use Rattle.changes.proofs.AnswerLaws.{write-told, write-rise}
 use Rattle.writing.proofs.AnswerLaws.{met-stored, met-empty, met-refused}
 use Rattle.answers.specs.Numbers.{accepts}
 use lib.ListN.{length}
@@ -18,7 +18,7 @@ store-requires : tie.Need-store-requires
 store-requires c κs =
     let a = c .before .before .before .before .before .before .before .before .args in
     let h = write-told (a .d) (a .vol .now) (a .offset) (length (a .bytes .now)) (c .before .if2 .taken) (ap accepts (sym (c .before .before .before .before .admit .ensures)) ∙ sym (c .before .before .before .accepted .ensures) ∙ c .before .before .if1 .taken) in
-    (h .lent, c .before .if2 .taken, h .inRange, h .room, omega (arith, h .counterRoom))
+    (h .lent, c .before .if2 .taken, h .inRange, write-rise (omega arith) h, omega (arith, h .counterRoom))
 
 same-length : tie.Need-same-length
 same-length c = search needs

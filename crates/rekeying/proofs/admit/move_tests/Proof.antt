@@ -4,7 +4,6 @@ use Rattle.nuggets.specs.Nugget.{nuggetOf}
 use Rattle.nuggets.specs.Tests.{flakesTested}
 use Rattle.records.specs.declared.Record.{Record}
 use Rattle.records.specs.Record.{recordOf}
-use Rattle.records.specs.Rule.{sweepWay, atTop}
 use Rattle.layout.specs.declared.Shape.{Shape}
 use Rattle.drive.specs.Drive.{shapeOf}
 use Rattle.base.proofs.PickLaws.{yes, no}
@@ -38,18 +37,6 @@ returns-2 c =
     let e : c .before .before .before .before .before .read .result .epoch ≡ recordOf (shapeOf d) v (c .before .before .before .before .before .before .before .before .args .n) .epoch = ap (λ (x : Record). x .epoch) r in
     sym (no _ (ne-eqb _ _ (λ q. c .before .before .if1 .left (e ∙ q))) (yes _ (eq-eqb _ _ (c .if2 .taken)) refl))
 
-at-top-requires : tie.Need-at-top-requires
-at-top-requires c κs = search needs
-
-returns-3 : tie.Need-returns-3
-unfolding moveTests
-returns-3 c =
-    let d = c .before .before .before .before .before .before .before .before .before .before .args .d in
-    let v = c .before .before .before .before .before .before .before .before .before .before .args .vol .now in
-    let r : c .before .before .before .before .before .before .before .read .result ≡ recordOf (shapeOf d) v (c .before .before .before .before .before .before .before .before .before .before .args .n) = c .before .before .before .before .before .before .before .read .ensures ∙ ap (λ (x : Shape). recordOf x v (c .before .before .before .before .before .before .before .before .before .before .args .n)) (c .before .before .before .before .before .before .before .before .shape-of .ensures) in
-    let e : c .before .before .before .before .before .before .before .read .result .epoch ≡ recordOf (shapeOf d) v (c .before .before .before .before .before .before .before .before .before .before .args .n) .epoch = ap (λ (x : Record). x .epoch) r in
-    sym (no _ (ne-eqb _ _ (λ q. c .before .before .before .before .if1 .left (e ∙ q))) (no _ (ne-eqb _ _ (c .before .before .if2 .left)) (yes _ (ap (λ (x : Record). atTop sweepWay x) (sym r) ∙ sym (c .before .at-top .ensures) ∙ c .if3 .taken) refl)))
-
 nugget-of-requires : tie.Need-nugget-of-requires
 nugget-of-requires c κs = search needs
 
@@ -57,17 +44,17 @@ shape-of-requires-2 : tie.Need-shape-of-requires-2
 shape-of-requires-2 c κs = search needs
 
 flakes-requires : tie.Need-flakes-requires
-flakes-requires c κs = rw (c .shape-of2 .ensures, c .before .nugget-of .ensures) (c .before .before .before .before .before .before .before .before .before .before .before .before .pre .0, c .before .before .before .before .before .before .before .before .before .before .before .before .pre .1)
+flakes-requires c κs = rw (c .shape-of2 .ensures, c .before .nugget-of .ensures) (c .before .before .before .before .before .before .before .before .before .before .pre .0, c .before .before .before .before .before .before .before .before .before .before .pre .1)
 
-returns-4 : tie.Need-returns-4
+returns-3 : tie.Need-returns-3
 unfolding moveTests
-returns-4 c =
-    let d = c .before .before .before .before .before .before .before .before .before .before .before .before .before .args .d in
-    let v = c .before .before .before .before .before .before .before .before .before .before .before .before .before .args .vol .now in
-    let r : c .before .before .before .before .before .before .before .before .before .before .read .result ≡ recordOf (shapeOf d) v (c .before .before .before .before .before .before .before .before .before .before .before .before .before .args .n) = c .before .before .before .before .before .before .before .before .before .before .read .ensures ∙ ap (λ (x : Shape). recordOf x v (c .before .before .before .before .before .before .before .before .before .before .before .before .before .args .n)) (c .before .before .before .before .before .before .before .before .before .before .before .shape-of .ensures) in
-    let e : c .before .before .before .before .before .before .before .before .before .before .read .result .epoch ≡ recordOf (shapeOf d) v (c .before .before .before .before .before .before .before .before .before .before .before .before .before .args .n) .epoch = ap (λ (x : Record). x .epoch) r in
-    let f : c .flakes .result ≡ flakesTested (shapeOf d) v (nuggetOf d v (c .before .before .before .before .before .before .before .before .before .before .before .before .before .args .n)) (recordOf (shapeOf d) v (c .before .before .before .before .before .before .before .before .before .before .before .before .before .args .n) .held) = c .flakes .ensures ∙ ap (λ (x : Shape). flakesTested x v (c .before .before .nugget-of .result) (c .before .before .before .before .before .before .before .before .before .before .read .result .held)) (c .before .shape-of2 .ensures) ∙ ap (λ (x : Nugget). flakesTested (shapeOf d) v x (c .before .before .before .before .before .before .before .before .before .before .read .result .held)) (c .before .before .nugget-of .ensures) ∙ ap (λ (x : Record). flakesTested (shapeOf d) v (nuggetOf d v (c .before .before .before .before .before .before .before .before .before .before .before .before .before .args .n)) (x .held)) r in
-    f ∙ sym (no _ (ne-eqb _ _ (λ q. c .before .before .before .before .before .before .before .if1 .left (e ∙ q))) (no _ (ne-eqb _ _ (c .before .before .before .before .before .if2 .left)) (no _ (ap (λ (x : Record). atTop sweepWay x) (sym r) ∙ sym (c .before .before .before .before .at-top .ensures) ∙ c .before .before .before .if3 .left) refl)))
+returns-3 c =
+    let d = c .before .before .before .before .before .before .before .before .before .before .before .args .d in
+    let v = c .before .before .before .before .before .before .before .before .before .before .before .args .vol .now in
+    let r : c .before .before .before .before .before .before .before .before .read .result ≡ recordOf (shapeOf d) v (c .before .before .before .before .before .before .before .before .before .before .before .args .n) = c .before .before .before .before .before .before .before .before .read .ensures ∙ ap (λ (x : Shape). recordOf x v (c .before .before .before .before .before .before .before .before .before .before .before .args .n)) (c .before .before .before .before .before .before .before .before .before .shape-of .ensures) in
+    let e : c .before .before .before .before .before .before .before .before .read .result .epoch ≡ recordOf (shapeOf d) v (c .before .before .before .before .before .before .before .before .before .before .before .args .n) .epoch = ap (λ (x : Record). x .epoch) r in
+    let f : c .flakes .result ≡ flakesTested (shapeOf d) v (nuggetOf d v (c .before .before .before .before .before .before .before .before .before .before .before .args .n)) (recordOf (shapeOf d) v (c .before .before .before .before .before .before .before .before .before .before .before .args .n) .held) = c .flakes .ensures ∙ ap (λ (x : Shape). flakesTested x v (c .before .before .nugget-of .result) (c .before .before .before .before .before .before .before .before .read .result .held)) (c .before .shape-of2 .ensures) ∙ ap (λ (x : Nugget). flakesTested (shapeOf d) v x (c .before .before .before .before .before .before .before .before .read .result .held)) (c .before .before .nugget-of .ensures) ∙ ap (λ (x : Record). flakesTested (shapeOf d) v (nuggetOf d v (c .before .before .before .before .before .before .before .before .before .before .before .args .n)) (x .held)) r in
+    f ∙ sym (no _ (ne-eqb _ _ (λ q. c .before .before .before .before .before .if1 .left (e ∙ q))) (no _ (ne-eqb _ _ (c .before .before .before .if2 .left)) refl))
 
 pub move-tests-spec : {M : Type 1} → statement M
 move-tests-spec =
@@ -77,9 +64,7 @@ move-tests-spec =
     read-requires
     returns
     returns-2
-    at-top-requires
-    returns-3
     nugget-of-requires
     shape-of-requires-2
     flakes-requires
-    returns-4)
+    returns-3)
