@@ -11,7 +11,7 @@ import traceback
 
 from checks.tally import Tally
 
-GROUPS = ("vectors", "figures", "refusals", "edges", "queues", "flips", "places", "garbage",
+GROUPS = ("vectors", "figures", "refusals", "edges", "queues", "handing", "flips", "places", "garbage",
           "histories", "programs")
 SHOWN = 20
 
