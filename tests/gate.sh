@@ -56,6 +56,7 @@ counts "the primitives agree with independent ones" python3 tests/primitives.py
 counts "AES-256 agrees with Debian's library" python3 tests/aes.py
 counts "keys, pads, tags, leaves, nodes, path and whole agree with the second program" python3 tests/parts.py
 counts "the calls agree with the second program through the C interface" python3 tests/calls.py
+counts "a filesystem goes through import, export and a reader of its own" python3 tests/crypt.py
 counts "histories of calls agree with the second program to the byte" python3 tests/histories.py
 counts "a host in C links the archive and runs" bash tests/host.sh
 counts "calls that may store nothing run where nothing can be stored" python3 tests/readonly.py
