@@ -1,7 +1,8 @@
-/* Mount, read and write of document 01 in plain C, scalar: what the proved calls are timed against. The design is the same, test
+/* Mount, read and write of document 01, and document 02's export and import, in plain C, scalar: what the proved calls are timed against. The design is the same, test
  * by test and store by store. There are two writes: one doesn't open a flake that the new bytes cover whole, as the proved one
  * doesn't, and one opens every flake. */
 #include "peer_layer.h"
+#include "peer_xts.h"
 #include <string.h>
 
 void peer_chacha20(uint8_t *d, size_t n, const uint8_t key[32], const uint8_t nonce[12], uint32_t counter);
@@ -243,7 +244,21 @@ static void open_flake(const Open *o, uint8_t *flake, const uint8_t key[32], con
         memset(flake, 0, o->f);
 }
 
-static void change(const Open *o, uint8_t *vol, uint32_t n, uint64_t mask, uint64_t offset, const uint8_t *bytes, size_t len, int open_all) {
+/* The two keys of a buffer that is to be decrypted flake by flake. */
+typedef struct {
+    const uint8_t *data, *tweak;
+} Keys;
+
+/* The flake at `taken` of the buffer: the sectors that it meets, decrypted in scratch. */
+static void open_sectors(const Open *o, uint8_t *flake, const uint8_t *bytes, size_t taken, const Keys *keys) {
+    uint8_t scratch[4608];
+    size_t first = taken / 512, n = (taken % 512 + o->f + 511) / 512 * 512;
+    memcpy(scratch, bytes + 512 * first, n);
+    peer_xts_decrypt(scratch, n, keys->data, keys->tweak, first);
+    memcpy(flake, scratch + taken % 512, o->f);
+}
+
+static void change(const Open *o, uint8_t *vol, uint32_t n, uint64_t mask, uint64_t offset, const uint8_t *bytes, size_t len, int open_all, const Keys *keys) {
     uint8_t *at = vol + HEAD + RECORD * (size_t)n, was[32], key[32];
     size_t start, taken, part;
     Record r = record_of(vol, n);
@@ -257,7 +272,9 @@ static void change(const Open *o, uint8_t *vol, uint32_t n, uint64_t mask, uint6
         part = part_of(o, n, f, offset, len, &start, &taken);
         if (part < o->f || open_all)
             open_flake(o, flake, was, &r, f);
-        if (part)
+        if (keys && part)
+            open_sectors(o, flake, bytes, taken, keys);
+        else if (part)
             memcpy(flake + start, bytes + taken, part);
         lay(flake, 0, o->f, o->f, key, keycount, f);
         make_tag(key, keycount, f, flake, o->f, vol + tag_at(o, n, f));
@@ -266,7 +283,7 @@ static void change(const Open *o, uint8_t *vol, uint32_t n, uint64_t mask, uint6
     renew(o, vol, n);
 }
 
-static uint32_t write_by(uint8_t image[144], uint8_t *vol, size_t vol_len, uint64_t offset, const uint8_t *bytes, size_t len, uint8_t answer[16], int open_all) {
+static uint32_t write_by(uint8_t image[144], uint8_t *vol, size_t vol_len, uint64_t offset, const uint8_t *bytes, size_t len, uint8_t answer[16], int open_all, const Keys *keys) {
     Open o;
     if (first_tests(&o, image, vol, vol_len, offset, len, answer))
         return answer[0];
@@ -280,7 +297,7 @@ static uint32_t write_by(uint8_t image[144], uint8_t *vol, size_t vol_len, uint6
         if (write_tests(&o, vol, n, touched(&o, n, offset, len), answer))
             return answer[0];
     for (uint32_t n = first; n < end; n++)
-        change(&o, vol, n, touched(&o, n, offset, len), offset, bytes, len, open_all);
+        change(&o, vol, n, touched(&o, n, offset, len), offset, bytes, len, open_all, keys);
     put(image + 40, o.counter + 1, 8), memcpy(image + 48, vol + node_at(&o, 1), NODE);
     if (!o.changing)
         memset(image + 112, 0, 32), memset(image + 16, 0, 2);
@@ -290,11 +307,35 @@ static uint32_t write_by(uint8_t image[144], uint8_t *vol, size_t vol_len, uint6
 }
 
 uint32_t peer_write(uint8_t image[144], uint8_t *vol, size_t vol_len, uint64_t offset, const uint8_t *bytes, size_t len, uint8_t answer[16]) {
-    return write_by(image, vol, vol_len, offset, bytes, len, answer, 0);
+    return write_by(image, vol, vol_len, offset, bytes, len, answer, 0, NULL);
 }
 
 uint32_t peer_write_opening(uint8_t image[144], uint8_t *vol, size_t vol_len, uint64_t offset, const uint8_t *bytes, size_t len, uint8_t answer[16]) {
-    return write_by(image, vol, vol_len, offset, bytes, len, answer, 1);
+    return write_by(image, vol, vol_len, offset, bytes, len, answer, 1, NULL);
+}
+
+/* After 1, 2 and 7 head: 2, 10. */
+static uint32_t hand_tests(const uint8_t image[144], const uint8_t *vol, size_t vol_len, const uint8_t data[32], const uint8_t tweak[32], size_t len, uint8_t answer[16]) {
+    Open o;
+    if (first_tests(&o, image, vol, vol_len, 0, 0, answer))
+        return answer[0];
+    if (o.contents % 512 || len != o.contents)
+        return say(answer, 2, NO_PLACE, 0, 0);
+    return memcmp(data, tweak, 32) ? 0 : say(answer, 10, NO_PLACE, 0, 0);
+}
+
+uint32_t peer_export(const uint8_t image[144], const uint8_t *vol, size_t vol_len, const uint8_t data[32], const uint8_t tweak[32], uint8_t *out, size_t len, uint8_t answer[16]) {
+    if (hand_tests(image, vol, vol_len, data, tweak, len, answer) || peer_read(image, vol, vol_len, 0, out, len, answer))
+        return answer[0];
+    peer_xts_encrypt(out, len, data, tweak, 0);
+    return answer[0];
+}
+
+uint32_t peer_import(uint8_t image[144], uint8_t *vol, size_t vol_len, const uint8_t data[32], const uint8_t tweak[32], const uint8_t *in, size_t len, uint8_t answer[16]) {
+    Keys keys = {data, tweak};
+    if (hand_tests(image, vol, vol_len, data, tweak, len, answer))
+        return answer[0];
+    return write_by(image, vol, vol_len, 0, in, len, answer, 0, &keys);
 }
 
 /* 2 (under 104 bytes), 3, 1, 2, 4, 5, 6, 7 whole; of a steady volume whose N is a power of two. */

@@ -37,6 +37,7 @@ gcc "${flags[@]}" -o "$made/bench" bench/bench.c "${peers[@]}" "$made"/primitive
 gcc "${flags[@]}" -o "$made/mount" bench/mount.c "${peers[@]}" "$made"/ngt.o "$made"/ngt-here.o
 gcc "${flags[@]}" -o "$made/changes" bench/changes.c "${peers[@]}" "$made"/ngt.o "$made"/ngt-here.o
 gcc "${flags[@]}" -o "$made/summary" bench/summary.c "$made"/ngt.o
+gcc "${flags[@]}" -o "$made/handing" bench/handing.c "${peers[@]}" "$made"/ngt.o "$made"/ngt-here.o
 lost=0
 "$made/bench" || lost=1
 if [ "$machine" = x86_64 ] && [ ${#openssl[@]} -gt 0 ]; then
@@ -46,6 +47,7 @@ fi
 "$made/mount"
 "$made/summary"
 "$made/changes"
+"$made/handing"
 
 # Once more with the peers by the compiler and at the level of the proved module; the toolchain has no C headers of its own.
 headers=(-nostdinc -isystem "$(gcc -print-file-name=include)" -isystem "/usr/include/$(gcc -print-multiarch)" -isystem /usr/include)
@@ -55,7 +57,10 @@ for peer in "${peers[@]}"; do
     "$compiler" "${flags[@]}" -fPIE "${headers[@]}" -c -o "$object" "$peer"
     objects+=("$object")
 done
-gcc "${flags[@]}" -o "$made/changes-same" bench/changes.c "${objects[@]}" "$made"/ngt.o "$made"/ngt-here.o
+for program in changes handing; do
+    gcc "${flags[@]}" -o "$made/$program-same" "bench/$program.c" "${objects[@]}" "$made"/ngt.o "$made"/ngt-here.o
+done
 echo "peers by the toolchain's clang -O3"
 "$made/changes-same"
+"$made/handing-same"
 exit "$lost"

@@ -49,6 +49,18 @@ uint32_t ngt_sweep(uint8_t drive[144], uint8_t *vol, size_t vol_len, uint32_t nu
 uint32_t ngt_queue(uint8_t drive[144], uint8_t *vol, size_t vol_len, const uint8_t *requests, size_t requests_len,
                    const uint8_t *bytes, size_t bytes_len, uint8_t done[8], uint8_t answer[16]);
 
+/* Document 02, Item 12: the contents as XTS-AES with two 256-bit keys after IEEE 1619, sectors of 512 bytes, numbered from 0: what a
+ * plain dm-crypt device reads as aes-xts-plain64 with the 512-bit key data, tweak. data is the key for sectors, tweak the one for
+ * tweaks. 1, 2, 7 head; then 2 if N P F is no multiple of 512 or the buffer isn't N P F long; 10 if the keys are equal; then as a
+ * read of the whole. It changes neither drive nor counter. Refused, no byte of out is stored. */
+uint32_t ngt_export(const uint8_t drive[144], const uint8_t *vol, size_t vol_len, const uint8_t data[32], const uint8_t tweak[32],
+                    uint8_t *out, size_t out_len, uint8_t answer[16]);
+
+/* Such a buffer decrypted and written whole at offset 0: the same refusals up to 10, then as that one write. It needs 4,608 bytes of
+ * stack for the sectors of one flake; in is only read. */
+uint32_t ngt_import(uint8_t drive[144], uint8_t *vol, size_t vol_len, const uint8_t data[32], const uint8_t tweak[32],
+                    const uint8_t *in, size_t in_len, uint8_t answer[16]);
+
 /* Only an accepted finish is leave to destroy the old secret. Until then every mount asks for it, even with no nugget left. */
 uint32_t ngt_finish(uint8_t drive[144], uint8_t *vol, size_t vol_len, uint8_t answer[16]);
 

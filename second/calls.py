@@ -1,4 +1,4 @@
-"""The nine calls, and document 02's queue of writes. Each takes a volume as bytes, changes nothing in place and gives a Result.
+"""The nine calls, and document 02's queue of writes, export and import. Each takes a volume as bytes, changes nothing in place and gives a Result.
 
 A refused call gives everything back as it came; a refused format or mount, the blank drive; a
 queue what the writes before the refused one left.
@@ -8,6 +8,7 @@ from typing import NamedTuple
 
 import keys
 import tree
+import xts
 from answers import ACCEPTED, Answer, altered
 from drive import (BLANK, CHANGING, MARK, NO_SECRET, STEADY, Drive, counter_test, first_tests,
                    seal_change, shape_and_length_test, state_in_limits)
@@ -176,6 +177,32 @@ def queue(drive, volume, image, data):
             return Result(got.answer, drive, volume, pads=pads, done=done)
         drive, volume, at, pads = got.drive, got.volume, at + length, pads + got.pads
     return Result(ACCEPTED, drive, volume, pads=pads, done=len(image) // 16)
+
+
+def hand_tests(drive, volume, data, tweak, length):
+    """Document 02, Item 12: 1, 2, 7 head, 2 for contents or a buffer that don't fit, 10 for one key twice."""
+    bad = first_tests(drive, volume)
+    if bad:
+        return bad
+    whole = drive.layout.contents
+    if whole % xts.SECTOR or length != whole:
+        return Answer(2)
+    return Answer(10) if data == tweak else None
+
+
+def export(drive, volume, data, tweak, buffer):
+    """The contents as sectors under two keys, in a buffer of the given buffer's length."""
+    bad = hand_tests(drive, volume, data, tweak, len(buffer))
+    if bad:
+        return Result(bad, drive, volume, buffer)
+    got = read(drive, volume, 0, buffer)
+    return got if got.answer.number else got._replace(buffer=xts.encrypted(data, tweak, got.buffer))
+
+
+def take_in(drive, volume, data, tweak, buffer):
+    """Import: such a buffer decrypted and written whole at offset 0."""
+    bad = hand_tests(drive, volume, data, tweak, len(buffer))
+    return Result(bad, drive, volume) if bad else write(drive, volume, 0, xts.decrypted(data, tweak, buffer))
 
 
 def begin_tests(drive, secret):

@@ -12,6 +12,7 @@ import traceback
 from checks.tally import Tally
 
 GROUPS = ("vectors", "figures", "refusals", "edges", "queues", "twins", "flips", "places", "garbage",
+GROUPS = ("vectors", "figures", "refusals", "edges", "queues", "handing", "flips", "places", "garbage",
           "histories", "programs")
 GROUPS = ("vectors", "figures", "refusals", "edges", "queues", "summaries", "flips", "places",
           "garbage", "histories", "programs")

@@ -73,8 +73,8 @@ class Machine:
         if name in ("format", "mount"):
             result = getattr(calls, name)(self.volume, *values)
         else:
-            if name == "read":
-                values = [values[0], bytes(values[1])]
+            if name in ("read", "export"):
+                values = [*values[:-1], bytes(values[-1])]
             result = getattr(calls, name)(self.drive, self.volume, *values)
         self.volume, self.drive = result.volume, result.drive
         return result
@@ -86,6 +86,8 @@ CALLS = {
     "read": ("u64", "size"),
     "write": ("u64", "bytes"),
     "queue": ("bytes", "bytes"),
+    "export": (32, 32, "size"),
+    "take_in": (32, 32, "bytes"),
     "begin": (32,),
     "sweep": ("u32",),
     "finish": (),
@@ -111,7 +113,7 @@ def told(name, result):
     words.append("pads=" + (",".join(pads) or "-"))
     if name == "queue":
         words.append(f"done={result.done}")
-    if name == "read" and not answer.number:
+    if name in ("read", "export") and not answer.number:
         words.append(f"bytes={result.buffer.hex()}")
     if name == "report" and not answer.number:
         words.append("report=" + ",".join(str(number) for number in result.report))

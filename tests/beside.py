@@ -16,7 +16,7 @@ import calls  # noqa: E402
 from drive import STEADY  # noqa: E402
 
 U32, U64, SIZE = ctypes.c_uint32, ctypes.c_uint64, ctypes.c_size_t
-NAMES = ("format", "mount", "read", "write", "queue", "begin", "sweep", "finish", "report", "stored_flake")
+NAMES = ("format", "mount", "read", "write", "queue", "export", "take_in", "begin", "sweep", "finish", "report", "stored_flake")
 
 
 def given_image(drive):
@@ -98,6 +98,14 @@ class Beside:
         values = bytes(image), SIZE(len(image)), bytes(data), SIZE(len(data)), done
         given, got = self.on_drive(self.proved.ngt_queue, drive, volume, values, [done])
         return got, (left_image(given, drive, want), want.volume, struct.pack("<Q", want.done))
+
+    def export(self, want, drive, volume, data, tweak, buffer):
+        mine = room(buffer)
+        given, got = self.on_drive(self.proved.ngt_export, drive, volume, (data, tweak, mine, SIZE(len(buffer))), [mine])
+        return got, (given, volume, want.buffer)
+
+    def take_in(self, want, drive, volume, data, tweak, buffer):
+        return self.changes(self.proved.ngt_import, want, drive, volume, data, tweak, bytes(buffer), SIZE(len(buffer)))
 
     def begin(self, want, drive, volume, secret):
         return self.changes(self.proved.ngt_begin, want, drive, volume, secret)

@@ -2,7 +2,7 @@
 
 Each call that is made of the second program here is made of the proved library too: random volumes with a history, garbage,
 and all that the second program's own checks make (each refusal alone and in pairs, one flipped bit in every byte, the tree's
-places, queues beside their writes). NGT_SEED sets the seed; a failure prints it with the smallest case. `histories.py` has the histories.
+places, queues beside their writes, exports and imports). NGT_SEED sets the seed; a failure prints it with the smallest case. `histories.py` has the histories.
 """
 import random
 import sys
@@ -12,7 +12,7 @@ from proved import SEED, Tally, library
 
 import calls
 import checks.tally
-from checks import edges, figures, flips, garbage, places, queues, refusals
+from checks import edges, figures, flips, garbage, handing, places, queues, refusals
 from checks.make import SALT, flipped
 from layout import layout
 
@@ -39,6 +39,10 @@ def every(source, drive, volume):
     image, data = calls.request_bytes(requests), source.randbytes(sum(length for _, length in requests))
     calls.queue(drive, volume, image, source.choice((data, data, data, data + b"!", data[1:])))
     calls.queue(drive, volume, image + source.randbytes(source.randrange(1, 16)), data)
+    whole = min(capacity, 1024)
+    key, other = source.randbytes(32), source.randbytes(32)
+    for call in (calls.export, calls.take_in):
+        call(drive, volume, key, source.choice((other, other, other, key)), source.randbytes(source.choice((whole, whole, whole, 0, 512))))
     calls.begin(drive, volume, source.choice((drive.present, drive.old, source.randbytes(32))))
     calls.sweep(drive, volume, source.choice((0, drive.n - 1, drive.n, number)) % 2**32)
     calls.finish(drive, volume)
@@ -75,7 +79,7 @@ def main():
         for i in range(20):
             source = random.Random(f"{SEED} {shape} {i}")
             every(source, *lived(source, shape))
-    for group in (figures, refusals, edges, queues, flips, places):
+    for group in (figures, refusals, edges, queues, handing, flips, places):
         group.run(checks.tally.Tally(str(SEED)))
     return tally.close()
 

@@ -57,6 +57,7 @@ counts "AES-256 agrees with Debian's library" python3 tests/aes.py
 counts "keys, pads, tags, leaves, nodes, path and whole agree with the second program" python3 tests/parts.py
 counts "the calls agree with the second program through the C interface" python3 tests/calls.py
 counts "two volumes compared agree with the second program through the C interface" python3 tests/twins.py
+counts "a filesystem goes through import, export and a reader of its own" python3 tests/crypt.py
 counts "histories of calls agree with the second program to the byte" python3 tests/histories.py
 counts "summaries agree with the second program to the byte" python3 tests/summaries.py
 counts "a host in C links the archive and runs" bash tests/host.sh

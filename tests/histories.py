@@ -9,7 +9,7 @@ import concurrent.futures
 import multiprocessing
 import sys
 
-from beside import NAMES, Beside
+from beside import Beside
 from proved import SEED, Tally, library
 
 import checks.tally
@@ -35,7 +35,7 @@ def piece(first):
 
 def wanted():
     """Each call with each number and each kind of place that it can give."""
-    for name in NAMES:
+    for name in garbage.POSSIBLE:
         for number in sorted(garbage.POSSIBLE[name]):
             for kind in sorted(garbage.PLACES[name]) if number == 7 else [NOWHERE]:
                 yield name, number, kind

@@ -1,5 +1,6 @@
 /* A host in C that links the archive as it is shipped: it formats, mounts, reads, writes, queues writes, changes the secret, reports and shows
  * a stored flake, sees refusals leave everything as it came, compares two volumes, and makes a fleet's line. Its last line counts the checks. */
+ * a stored flake, sees refusals leave everything as it came, hands its contents to dm-crypt and back, and makes a fleet's line. Its last line counts the checks. */
 #include "../include/ngt.h"
 #include <stdio.h>
 #include <string.h>
@@ -178,6 +179,26 @@ static void spent(void) {
     holds("an empty write is accepted all the same", ngt_write(drive, vol, LENGTH, 0, &byte, 0, answer) == 0 && as_kept());
 }
 
+/* To dm-crypt, and back: N 4, P 2, F 64, one sector. The drive above has no whole number of sectors. */
+static void hands(void) {
+    enum { SECTOR = 512, SIZE = 104 + 18 * 4 + 16 * 8 + 32 * 7 + SECTOR };
+    static uint8_t volume[SIZE], was[SIZE], sector[SECTOR], text[SECTOR], image[144], before[144];
+    holds("a drive of no whole sectors is refused by 2", ngt_export(drive, vol, LENGTH, secret, other, sector, ALL, answer) == 2);
+    holds("a drive of one is formatted", ngt_format(volume, SIZE, 4, 2, 64, salt, secret, 0, image, answer) == 0);
+    holds("and written to", ngt_write(image, volume, SIZE, 70, (const uint8_t *)"weld 7", 6, answer) == 0);
+    memcpy(was, volume, SIZE), memcpy(before, image, 144);
+    holds("one key twice is refused by 10", ngt_export(image, volume, SIZE, secret, secret, sector, SECTOR, answer) == 10);
+    holds("a buffer too short is refused by 2 first", ngt_export(image, volume, SIZE, secret, secret, sector, SECTOR - 1, answer) == 2 && sector[0] == 0 && sector[511] == 0);
+    holds("an export is accepted", ngt_export(image, volume, SIZE, secret, other, sector, SECTOR, answer) == 0);
+    holds("it changes neither drive nor volume", memcmp(was, volume, SIZE) == 0 && memcmp(before, image, 144) == 0);
+    holds("an import under one key is refused by 10", ngt_import(image, volume, SIZE, other, other, sector, SECTOR, answer) == 10 && memcmp(was, volume, SIZE) == 0 && memcmp(before, image, 144) == 0);
+    holds("an import is accepted", ngt_import(image, volume, SIZE, secret, other, sector, SECTOR, answer) == 0 && number(image + 40, 8) == number(before + 40, 8) + 1);
+    holds("all flakes are present", number(volume + 104 + 8, 8) == 3 && number(volume + 104 + 18 + 8, 8) == 3);
+    holds("the contents are the same", ngt_read(image, volume, SIZE, 0, text, SECTOR, answer) == 0 && memcmp(text + 70, "weld 7", 6) == 0 && text[69] == 0 && text[76] == 0);
+    memcpy(was, sector, SECTOR);
+    holds("and so is what is handed out", ngt_export(image, volume, SIZE, secret, other, sector, SECTOR, answer) == 0 && memcmp(was, sector, SECTOR) == 0);
+}
+
 static void fleet(void) {
     static const char lines[] = "nuggets=3 moved=1 left=2 flakes=2 share=50.00 done=1\nnuggets=1 moved=1 left=0 flakes=0 share=100.00 done=0\n";
     static const char both[] = "drives=2 nuggets=4 moved=2 left=2 flakes=2 share=50.00 done=1 last=1\n";
@@ -200,6 +221,7 @@ int main(void) {
     twins();
     summaries();
     spent();
+    hands();
     fleet();
     printf("%d passed, %d failed\n", passed, failed);
     return failed ? 1 : 0;

@@ -4,11 +4,17 @@ use Rattle.base.specs.Outcome.{OneOutcome}
 use Rattle.base.proofs.OutcomeLaws.{agree, _∥_}
 use Rattle.laying.proofs as fn
 
+pub flake-lay-flake : OneOutcome fn.flake.lay_flake.ended fn.flake.lay_flake.Reads.Post
+flake-lay-flake κs a x y u v p q = (refl, agree p q ∥ refl)
+
 pub flake-lay-flakes : OneOutcome fn.flake.lay_flakes.ended fn.flake.lay_flakes.Reads.Post
 flake-lay-flakes κs a x y u v p q = (refl, refl ∥ agree p q ∥ refl)
 
 pub lay : OneOutcome fn.lay.ended fn.lay.Reads.Post
 lay κs a x y u v p q = (refl, refl ∥ agree p q ∥ refl)
+
+pub lay-one : OneOutcome fn.lay_one.ended fn.lay_one.Reads.Post
+lay-one κs a x y u v p q = (refl, agree p q ∥ refl)
 
 pub idle : OneOutcome fn.idle.ended fn.idle.Reads.Post
 idle κs a x y u v p q = (agree p q, refl)

@@ -15,7 +15,7 @@ ghost use Rattle.changes.specs.Laid.{written, laidFlake, laid};
 ghost use Rattle.changes.specs.Write.{newContents};
 
 // Flake f and its tag, in the volume.
-fn lay_flake(vol: &mut [u8], s: Shape, g: Nugget, lock: Lock, f: u32, o: usize, bytes: &[u8])
+pub fn lay_flake(vol: &mut [u8], s: Shape, g: Nugget, lock: Lock, f: u32, o: usize, bytes: &[u8])
     requires { ⌜ Shaped s (now vol) × (lock .number < s .n) × (f < s .p) × (o + length (now bytes) ≤ capacity s) × (g .lock .number ≡ lock .number) ⌝ }
     ensures { λ _. ⌜ now (vol .exit) ≡ laidFlake s lock f
         (written s o (now (bytes .entry)) (lock .number) f (contentsIn s (now (vol .entry)) g f)) (now (vol .entry)) ⌝ }

@@ -3,7 +3,9 @@
 mod flake;
 
 use drive::Drive;
+use keys::Lock;
 use layout::Shape;
+use nuggets::Nugget;
 use records::Way;
 ghost use mathlib.Core.Path.{_≡_};
 ghost use Prim.Native.Nat.{_+_, _<_, _≤_};
@@ -13,7 +15,8 @@ ghost use Rattle.layout.specs.Spots.{capacity};
 ghost use Rattle.records.specs.Rule.{CanRise};
 ghost use Rattle.records.specs.Listing.{padsBy};
 ghost use Rattle.drive.specs.Drive.{shapeOf, counterTop};
-ghost use Rattle.changes.specs.Laid.{laid};
+ghost use Rattle.nuggets.specs.Nugget.{contentsIn};
+ghost use Rattle.changes.specs.Laid.{written, laidFlake, laid};
 ghost use Rattle.changes.specs.Change.{idles, marked, tended, advanced, settled};
 ghost use Rattle.changes.specs.Write.{newContents};
 ghost use Rattle.records.specs.Record.{recordOf};
@@ -28,6 +31,15 @@ pub fn lay(d: Drive, vol: &mut [u8], n: u32, way: Way, o: usize, bytes: &[u8])
     let after = records::turn(way, d.epoch, r);
     let mask = records::enciphers(way, r);
     flake::lay_flakes(d, &mut *vol, n, after.keycount, mask, o, bytes);
+}
+
+// One flake and its tag, as `lay` lays each: for a change whose bytes come flake by flake.
+pub fn lay_one(vol: &mut [u8], s: Shape, g: Nugget, lock: Lock, f: u32, o: usize, bytes: &[u8])
+    requires { ⌜ Shaped s (now vol) × (lock .number < s .n) × (f < s .p) × (o + length (now bytes) ≤ capacity s) × (g .lock .number ≡ lock .number) ⌝ }
+    ensures { λ _. ⌜ now (vol .exit) ≡ laidFlake s lock f
+        (written s o (now (bytes .entry)) (lock .number) f (contentsIn s (now (vol .entry)) g f)) (now (vol .entry)) ⌝ }
+{
+    flake::lay_flake(vol, s, g, lock, f, o, bytes);
 }
 
 // Whether the nugget stays as it is.

@@ -58,6 +58,18 @@ write-at-post κs a r e = claim (λ w. fn.write_at.clauses (w .𝓤) (w .H) (w .
 pub write-at : OneOutcome fn.write_at.ended write-at-post
 write-at κs a x y u v p q = (agree (p .0) (q .0), agree (p .1 .0) (q .1 .0) ∥ agree (p .1 .1) (q .1 .1) ∥ refl)
 
+abbrev export-at-post : Promise fn.export_at.ended
+export-at-post κs a r e = claim (λ w. fn.export_at.clauses (w .𝓤) (w .H) (w .𝓖 .A) (w .𝓜 .mem) (w .𝓡 .run) κs a .ensures tt r e) (λ w. r-last _) (λ w. refl)
+
+pub export-at : OneOutcome fn.export_at.ended export-at-post
+export-at κs a x y u v p q = (agree (p .0) (q .0), refl ∥ refl ∥ refl ∥ refl ∥ agree (p .1) (q .1) ∥ refl)
+
+abbrev import-at-post : Promise fn.import_at.ended
+import-at-post κs a r e = claim (λ w. fn.import_at.clauses (w .𝓤) (w .H) (w .𝓖 .A) (w .𝓜 .mem) (w .𝓡 .run) κs a .ensures tt r e) (λ w. r-last _) (λ w. refl)
+
+pub import-at : OneOutcome fn.import_at.ended import-at-post
+import-at κs a x y u v p q = (agree (p .0) (q .0), agree (p .1 .0) (q .1 .0) ∥ agree (p .1 .1) (q .1 .1) ∥ refl)
+
 abbrev begin-at-post : Promise fn.begin_at.ended
 begin-at-post κs a r e = claim (λ w. fn.begin_at.clauses (w .𝓤) (w .H) (w .𝓖 .A) (w .𝓜 .mem) (w .𝓡 .run) κs a .ensures tt r e) (λ w. r-last _) (λ w. refl)
 

@@ -16,6 +16,7 @@ ghost use Rattle.reports.specs.Report.{reportOf};
 ghost use Rattle.reports.specs.Stored.{storedAnswer, storedFlake, storedAt, onward};
 ghost use Rattle.changes.specs.Write.{writeDone, writeVolume};
 ghost use Rattle.changes.specs.Rekey.{beginDone, beginVolume, sweepDone, sweepVolume, finishDone, finishVolume};
+ghost use Rattle.handing.specs.Handing.{exportAnswer, exportBuffer, importDone, importVolume};
 ghost use Rattle.queues.specs.Queue.{queueDone, queueVolume};
 
 // "Format takes N, P, F, salt, secret and the outside counter."
@@ -88,6 +89,33 @@ pub fn write_at(d: &mut Drive, vol: &mut [u8], offset: u64, bytes: &[u8]) -> Ans
 {
     let c = *d;
     let r = writing::write(c, vol, offset, bytes);
+    *d = r.drive;
+    r.answer
+}
+
+// Document 02, Item 12: "Write the contents into a second buffer as XTS-AES"; `one` is the key for sectors, `two` the key for tweaks.
+pub fn export_at(d: &Drive, vol: &[u8], one: [u8; 32], two: [u8; 32], out: &mut [u8]) -> Answer
+    ensures { λ r. ⌜ (r ≡ exportAnswer (now (d .entry)) (now (vol .entry)) one two (length (now (out .entry))))
+        × (now (out .exit) ≡ exportBuffer (now (d .entry)) (now (vol .entry)) one two (now (out .entry))) ⌝ }
+{
+    let c = *d;
+    handing::export(c, vol, one, two, out)
+}
+
+// "Import decrypts such a buffer and writes it whole at offset 0".
+pub fn import_at(
+    d: &mut Drive,
+    vol: &mut [u8],
+    one: [u8; 32],
+    two: [u8; 32],
+    bytes: &[u8],
+) -> Answer
+    ensures { λ r. ⌜ (r ≡ importDone (now (d .entry)) (now (vol .entry)) one two (now (bytes .entry)) .answer)
+        × ((now (d .exit) ≡ importDone (now (d .entry)) (now (vol .entry)) one two (now (bytes .entry)) .drive)
+        × (now (vol .exit) ≡ importVolume (now (d .entry)) (now (vol .entry)) one two (now (bytes .entry)))) ⌝ }
+{
+    let c = *d;
+    let r = importing::import(c, vol, one, two, bytes);
     *d = r.drive;
     r.answer
 }

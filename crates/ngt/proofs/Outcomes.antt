@@ -31,6 +31,12 @@ ngt-finish κs a x y u v p q = (agree (p .tells .told) (q .tells .told), agree (
 pub ngt-write : OneOutcome fn.ngt_write.ended fn.ngt_write.Reads.Post
 ngt-write κs a x y u v p q = (agree (p .tells .told) (q .tells .told), agree (p .drive) (q .drive) ∥ agree (p .volume) (q .volume) ∥ refl ∥ refl ∥ agree (p .tells .shown) (q .tells .shown) ∥ refl)
 
+pub ngt-export : OneOutcome fn.ngt_export.ended fn.ngt_export.Reads.Post
+ngt-export κs a x y u v p q = (agree (p .tells .told) (q .tells .told), refl ∥ refl ∥ refl ∥ refl ∥ agree (p .bytes) (q .bytes) ∥ agree (p .tells .shown) (q .tells .shown) ∥ refl)
+
+pub ngt-import : OneOutcome fn.ngt_import.ended fn.ngt_import.Reads.Post
+ngt-import κs a x y u v p q = (agree (p .tells .told) (q .tells .told), agree (p .drive) (q .drive) ∥ agree (p .volume) (q .volume) ∥ refl ∥ refl ∥ refl ∥ agree (p .tells .shown) (q .tells .shown) ∥ refl)
+
 pub ngt-queue : OneOutcome fn.ngt_queue.ended fn.ngt_queue.Reads.Post
 ngt-queue κs a x y u v p q = (agree (p .tells .told) (q .tells .told), agree (p .drive) (q .drive) ∥ agree (p .volume) (q .volume) ∥ refl ∥ refl ∥ agree (p .counts) (q .counts) ∥ agree (p .tells .shown) (q .tells .shown) ∥ refl)
 

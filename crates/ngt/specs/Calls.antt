@@ -25,6 +25,7 @@ use Rattle.reports.specs.Report.{reportOf}
 use Rattle.reports.specs.Stored.{storedAnswer}
 use Rattle.changes.specs.Rekey.{beginDone, beginVolume, sweepDone, sweepVolume, finishDone, finishVolume}
 use Rattle.changes.specs.Write.{writes, writeDone, writeVolume}
+use Rattle.handing.specs.Handing.{exportAnswer, exportBuffer, importDone, importVolume}
 use Rattle.queues.specs.declared.Queued.{Queued}
 use Rattle.queues.specs.Images.{imagesDone, imagesVolume}
 
@@ -45,6 +46,10 @@ pub record Mounted (v present old : List ℕ) (outside number : ℕ) (image answ
 pub record Filled (d : Drive) (v : List ℕ) (offset : ℕ) (given : List ℕ) (number : ℕ) (buffer answer : List ℕ) : Type 0 where
   pub tells : Tells (readAnswer d v offset (length given)) number answer
   pub bytes : buffer ≡ readBuffer d v offset given
+
+pub record Exported (d : Drive) (v key tweak given : List ℕ) (number : ℕ) (buffer answer : List ℕ) : Type 0 where
+  pub tells : Tells (exportAnswer d v key tweak (length given)) number answer
+  pub bytes : buffer ≡ exportBuffer d v key tweak given
 
 -- "N, moved, left, flakes, share in hundredths of a percent, 4 bytes each"
 abbrev pub reportImage : Report → List ℕ
@@ -88,6 +93,10 @@ Swept d v n = Rekeyed (sweepDone d v n) (sweepVolume d v n)
 -- a write changes the drive if it is accepted and not empty
 abbrev pub Written : Drive → List ℕ → ℕ → List ℕ → List ℕ → ℕ → List ℕ → List ℕ → List ℕ → Type 0
 Written d v offset bytes = Changed (writeDone d v offset bytes) (writes (writeDone d v offset bytes .answer) bytes) (writeVolume d v offset bytes)
+
+-- an import changes the drive if it is accepted: no drive is without contents
+abbrev pub Imported : Drive → List ℕ → List ℕ → List ℕ → List ℕ → List ℕ → ℕ → List ℕ → List ℕ → List ℕ → Type 0
+Imported d v key tweak bytes = Rekeyed (importDone d v key tweak bytes) (importVolume d v key tweak bytes)
 
 -- "no byte of it if none of them changed the drive": each write that changes the drive adds 1 to the counter, so the counter tells
 abbrev pub counterRose : Drive → Drive → Bool

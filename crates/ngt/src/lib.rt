@@ -15,6 +15,7 @@ ghost use Rattle.fleets.specs.Lines.{fleetLine};
 ghost use Rattle.changes.specs.Write.{writes};
 ghost use Rattle.ngt.specs.Twins.{Compared};
 ghost use Rattle.ngt.specs.Calls.{Formatted, Mounted, Filled, Reported, Shown, spanImage, imageAfter, Begun, Swept, Finished, Written, counterRose, QueuedBy};
+ghost use Rattle.ngt.specs.Calls.{Formatted, Mounted, Filled, Exported, Reported, Shown, spanImage, imageAfter, Begun, Swept, Finished, Written, Imported, counterRose, QueuedBy};
 
 // Format, with the image of the drive that it hands back.
 #[no_mangle]
@@ -98,6 +99,25 @@ pub extern "C" fn ngt_read(
 {
     let d = opened(*image);
     let a = reading::read(d, vol, offset, buf);
+    *answer = images::answer_image(a);
+    answers::number(a)
+}
+
+// Export into a lent buffer; `key` is the key for sectors, `tweak` the one for tweaks.
+#[no_mangle]
+pub extern "C" fn ngt_export(
+    image: &[u8; 144],
+    vol: &[u8],
+    key: &[u8; 32],
+    tweak: &[u8; 32],
+    out: &mut [u8],
+    answer: &mut [u8; 16],
+) -> u32
+    ensures { λ r. ⌜ Exported (driveIn (now (image .entry))) (now (vol .entry)) (now (key .entry)) (now (tweak .entry)) (now (out .entry))
+        r (now (out .exit)) (now (answer .exit)) ⌝ }
+{
+    let d = opened(*image);
+    let a = handing::export(d, vol, *key, *tweak, out);
     *answer = images::answer_image(a);
     answers::number(a)
 }
@@ -248,6 +268,28 @@ pub extern "C" fn ngt_write(
     let a = done.answer;
     let next = done.drive;
     keep(image, writes_by(a, bytes), next);
+    *answer = images::answer_image(a);
+    answers::number(a)
+}
+
+// Import of a whole buffer; an accepted one always changes the drive, since no drive is without contents.
+#[no_mangle]
+pub extern "C" fn ngt_import(
+    image: &mut [u8; 144],
+    vol: &mut [u8],
+    key: &[u8; 32],
+    tweak: &[u8; 32],
+    bytes: &[u8],
+    answer: &mut [u8; 16],
+) -> u32
+    ensures { λ r. ⌜ Imported (driveIn (now (image .entry))) (now (vol .entry)) (now (key .entry)) (now (tweak .entry)) (now (bytes .entry))
+        (now (image .entry)) r (now (vol .exit)) (now (image .exit)) (now (answer .exit)) ⌝ }
+{
+    let d = opened(*image);
+    let done = importing::import(d, vol, *key, *tweak, bytes);
+    let a = done.answer;
+    let next = done.drive;
+    keep(image, answers::accepted(a), next);
     *answer = images::answer_image(a);
     answers::number(a)
 }

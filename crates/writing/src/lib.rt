@@ -18,7 +18,7 @@ ghost use Rattle.changes.specs.Write.{writeWay, writeAnswer, newContents, write
 ghost use Rattle.writing.specs.Room.{Room};
 
 // What the write does to nugget n.
-fn way_at(d: Drive, vol: &[u8], o: usize, len: usize, n: u32) -> Way
+pub fn way_at(d: Drive, vol: &[u8], o: usize, len: usize, n: u32) -> Way
     requires { ⌜ Shaped (shapeOf d) (now vol) × (0 < len) × (o + len ≤ capacity (shapeOf d)) × (n < d .n) ⌝ }
     ensures { λ r. ⌜ r ≡ writeWay d (now (vol .entry)) o len n ⌝ }
 {
@@ -73,7 +73,7 @@ fn test_span(d: Drive, vol: &[u8], o: usize, len: usize) -> Answer
 }
 
 // "All others start 1, 2, 7 head"; "Write: 8, 13 unless empty, nuggets."
-fn admit(d: Drive, vol: &[u8], offset: u64, len: usize) -> Answer
+pub fn admit(d: Drive, vol: &[u8], offset: u64, len: usize) -> Answer
     ensures { λ r. ⌜ r ≡ writeAnswer d (now (vol .entry)) offset len ⌝ }
 {
     let a = drive::opening(d, vol);
@@ -109,7 +109,7 @@ fn lay_span(d: Drive, vol: &mut [u8], o: usize, bytes: &[u8])
 }
 
 // Their records.
-fn mark_span(d: Drive, vol: &mut [u8], o: usize, len: usize)
+pub fn mark_span(d: Drive, vol: &mut [u8], o: usize, len: usize)
     requires { ⌜ Shaped (shapeOf d) (now vol) × (0 < len) × (o + len ≤ capacity (shapeOf d)) × Room d (now vol) o len ⌝ }
     ensures { λ _. ⌜ now (vol .exit) ≡ markedTo (shapeOf d) (d .epoch) (writeWay d (now (vol .entry)) o len) (now (vol .entry)) (d .n) (now (vol .entry)) ⌝ }
 {
@@ -123,7 +123,7 @@ fn mark_span(d: Drive, vol: &mut [u8], o: usize, len: usize)
 }
 
 // Their leaves and paths. The records are marked by now and may give another way; which nuggets are idle doesn't rest on them.
-fn tend_span(d: Drive, vol: &mut [u8], o: usize, len: usize)
+pub fn tend_span(d: Drive, vol: &mut [u8], o: usize, len: usize)
     requires { ⌜ Shaped (shapeOf d) (now vol) × (0 < len) × (o + len ≤ capacity (shapeOf d)) ⌝ }
     ensures { λ _. ⌜ now (vol .exit) ≡ tendedTo (shapeOf d) (writeWay d (now (vol .entry)) o len) (d .n) (now (vol .entry)) ⌝ }
 {

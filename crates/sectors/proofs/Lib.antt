@@ -1,0 +1,4 @@
+pub mod RowLaws
+pub mod KeyLaws
+pub mod SectorLaws
+pub mod Outcomes

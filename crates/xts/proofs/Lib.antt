@@ -1,0 +1,4 @@
+pub mod AlphaLaws
+pub mod SectorCode
+pub mod XtsLaws
+pub mod Outcomes
