@@ -1,9 +1,9 @@
 /* The drive for hosts in C: link libngt.a, which `rt staticlib ngt` makes.
  *
  * No function has a precondition but that each pointer is to as many bytes as its type or its length says, and that no two
- * of them overlap (the two volumes of ngt_twins may); a pointer whose length is 0 may be null. Each but ngt_fleet returns the
- * answer's number, 0 if the call is accepted, and always stores the answer's image. The numbers are 1 to 13 and 15; 14 is given to
- * no answer. docs/HANDBOOK.md explains each.
+ * of them overlap (first and second of ngt_twins may be one or overlap: both are only read); a pointer whose length is 0 may be
+ * null. Each but ngt_fleet returns the answer's number, 0 if the call is accepted, and always stores the answer's image. The
+ * numbers are 1 to 13 and 15; 14 is given to no answer. docs/HANDBOOK.md explains each.
  *
  * The drive's image, 144 bytes: 0-3 N; 4-7 P; 8-11 F; 12 state (0 steady, 1 changing); 13 zero; 14-15 epoch; 16-17 the epoch
  * being left; 18-23 zero; 24-39 salt; 40-47 counter; 48-79 node 1; 80-111 present secret; 112-143 old secret. Bytes 13 and
@@ -74,14 +74,15 @@ uint32_t ngt_report(const uint8_t drive[144], const uint8_t *vol, size_t vol_len
 uint32_t ngt_stored_flake(const uint8_t drive[144], const uint8_t *vol, size_t vol_len, uint32_t nugget, uint32_t flake,
                           uint8_t span[16], uint8_t answer[16]);
 
-/* Two volumes against one drive. Accepted where both pass the path of this nugget, judged by the drive, up to the drive's node 1: 1; 2 for
- * the first, then the second; 8; 7 path of the first, which ends with node 1 against the drive's (place node 1), then of the
- * second. No head is tested. length: 4 bytes, always stored: 0 if the call is refused or the nugget's record bytes and tags agree in
- * both volumes. Else the two messages of the lowest node of the path that both volumes have alike, different and with the same
- * BLAKE2s value, stand in the first length bytes of one and two; every other byte of these stays as it is. first and second may
- * be the same pointer or overlap. */
+/* Two volumes against one drive. Accepted where both pass the path of this nugget, judged by the drive, up to the drive's node 1.
+ * Refused, in this order: 1; 2 for the first, then the second; 8; 7 path of the first, which ends with node 1 against the
+ * drive's (place node 1), then of the second. No head is tested. length: 4 bytes, always stored: 0 if the call is refused or the
+ * nugget's record bytes and tags agree in both volumes. Else the two messages of the lowest node of the path that both volumes
+ * have alike, different and with the same BLAKE2s value, stand in the first length bytes of one and two; every other byte of
+ * these stays as it is. first and second may be one or overlap: both are only read. */
 uint32_t ngt_twins(const uint8_t drive[144], const uint8_t *first, size_t first_len, const uint8_t *second, size_t second_len,
                    uint32_t nugget, uint8_t one[1055], uint8_t two[1055], uint8_t length[4], uint8_t answer[16]);
+
 /* The report with a sixth number, the present flakes in moved nuggets: N, moved, left, flakes, share, done, 4 bytes each; all
  * zero if refused. */
 uint32_t ngt_tally(const uint8_t drive[144], const uint8_t *vol, size_t vol_len, uint8_t report[24], uint8_t answer[16]);
@@ -90,10 +91,10 @@ uint32_t ngt_tally(const uint8_t drive[144], const uint8_t *vol, size_t vol_len,
  * node i at 12 (i - 1): the moved nuggets and the present flakes beneath it, and the present flakes in moved nuggets, 4 bytes
  * each. Tests: 1, 2, 2 if sum_len is another, 7 head; then building 7 whole, renewing 8 and 7 path. A refusal stores no byte of
  * sum. Build once, then renew the path of each nugget that a write, a queue or a sweep changed, in any order: that gives what
- * building gives. After a begin build again. A finish and whatever is refused leave the summary as it has to be.
- * ngt_summary_report is ngt_tally's report, of a summary kept so and a volume that ngt_tally wouldn't call altered; it looks at the head
- * and the entry of node 1 alone. Over bytes that are no summary it is exact too: sums roll over at 32 bits, left is 0 where moved
- * is above N, the share is at most 10,000, and at most 9,999 where moved is below N. */
+ * building gives. After a begin build again. A finish, a mount, whatever asks and whatever is refused leave the summary as it has
+ * to be. ngt_summary_report is ngt_tally's report, of a summary kept so and a volume that ngt_tally wouldn't call altered; it looks
+ * at head and node 1 of the volume and at the entry of node 1 alone. Over bytes that are no summary all three are exact too: sums
+ * roll over at 32 bits, left is 0 where moved is above N, the share is at most 10,000, and at most 9,999 where moved is below N. */
 uint32_t ngt_summary_build(const uint8_t drive[144], const uint8_t *vol, size_t vol_len, uint8_t *sum, size_t sum_len,
                            uint8_t answer[16]);
 uint32_t ngt_summary_renew(const uint8_t drive[144], const uint8_t *vol, size_t vol_len, uint8_t *sum, size_t sum_len,

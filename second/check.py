@@ -11,11 +11,8 @@ import traceback
 
 from checks.tally import Tally
 
-GROUPS = ("vectors", "figures", "refusals", "edges", "queues", "twins", "flips", "places", "garbage",
-GROUPS = ("vectors", "figures", "refusals", "edges", "queues", "handing", "flips", "places", "garbage",
-          "histories", "programs")
-GROUPS = ("vectors", "figures", "refusals", "edges", "queues", "summaries", "flips", "places",
-          "garbage", "histories", "programs")
+GROUPS = ("vectors", "figures", "refusals", "edges", "queues", "twins", "summaries", "handing", "flips",
+          "places", "garbage", "histories", "programs")
 SHOWN = 20
 
 

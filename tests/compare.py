@@ -1,6 +1,7 @@
-"""The host that compares two copies of a drive, built from hosts/compare.c, against the second program.
+"""The host that compares two copies of a drive, built from host/compare.c, against the second program.
 
-No two volumes make it say `collision`, since that would break BLAKE2s; it says so over two functions that only pretend.
+No two volumes make it say `collision`, since that would break BLAKE2s; it says so over two functions that only pretend:
+nugget 1 collides, and nugget 2 is refused behind it unless the second volume is empty.
 """
 import pathlib
 import platform
@@ -28,9 +29,9 @@ uint32_t ngt_mount(const uint8_t *vol, size_t vol_len, const uint8_t present[32]
 }
 uint32_t ngt_twins(const uint8_t drive[144], const uint8_t *first, size_t first_len, const uint8_t *second, size_t second_len, uint32_t nugget,
                    uint8_t one[1055], uint8_t two[1055], uint8_t length[4], uint8_t answer[16]) {
-    (void)drive, (void)first, (void)first_len, (void)second, (void)second_len, (void)one, (void)two;
+    (void)drive, (void)first, (void)first_len, (void)second, (void)one, (void)two;
     length[0] = nugget == 1 ? 65 : 0, length[1] = length[2] = length[3] = 0;
-    return answer[0] = 0;
+    return answer[0] = nugget == 2 && second_len ? 7 : 0;
 }
 """
 
@@ -60,6 +61,7 @@ def cases(source):
     after = calls.write(drive, volume, 0, b"later")
     later = keys[:64] + le(after.drive.counter, 8)
     yield keys, volume, volume
+    yield keys + b"!", volume, volume
     yield later, after.volume, after.volume
     yield later, after.volume, volume
     for wrong in (keys[32:64] + keys[:32] + keys[64:], keys[:32] * 2 + keys[64:], keys[:64] + bytes(8), later):
@@ -80,9 +82,11 @@ def main():
     given = list(cases(random.Random(f"{inputs.SEED} compare")))
     checks = [(said("compare", *case), wanted(*case)) for case in given]
     checks.append((said("pretends", bytes(72), b"", b""), ("collision\n", COLLISION)))
+    checks.append((said("pretends", bytes(72), b"", b"!"), ("refused=7 class=altered\n", REFUSED)))
     checks.append((said("compare", bytes(71), b"", b""), ("", UNREADABLE)))
-    missing = subprocess.run([*RUN, str(MADE / "compare"), str(MADE / "none"), str(MADE / "first")], input=bytes(72), capture_output=True)
-    checks.append(((missing.stdout, missing.returncode), (b"", UNREADABLE)))
+    for names in (["none", "first"], ["first"], ["first", "second", "first"]):
+        got = subprocess.run([*RUN, str(MADE / "compare"), *(str(MADE / name) for name in names)], input=bytes(72), capture_output=True)
+        checks.append(((got.stdout, got.returncode), (b"", UNREADABLE)))
     met = {line.split()[0] for (line, _), _ in checks if line}
     checks.append((met, {"same", "collision", *(f"refused={number}" for number in range(1, 8))}))
     bad = [f"got {got}, wanted {want}" for got, want in checks if got != want]

@@ -1,13 +1,14 @@
 #!/usr/bin/env bash
-# Builds the host that compares two copies of a drive (hosts/compare.c), over the archive as it is shipped or over the object named.
+# Builds the host that compares two copies of a drive (host/compare.c), over the archive as it is shipped or over the object named.
 # Run: tests/compare.sh OUT [OBJECT]
 set -euo pipefail
 cd "$(dirname "$0")/.."
 object=${2:-target/staticlib/libngt.a}
 if [ ! -e "$object" ] || [ -n "$(find crates crates.txt -newer "$object" -print -quit)" ]; then
-    rt staticlib ngt >/dev/null 2>&1 || { echo "rt staticlib ngt isn't done"; exit 1; }
+    mkdir -p target/compare
+    rt staticlib ngt >target/compare/library.log 2>&1 || { tail -n 20 target/compare/library.log; exit 1; }
 fi
 compiler=(gcc)
 [ "$(uname -m)" = x86_64 ] || compiler=(x86_64-linux-gnu-gcc -static)
 mkdir -p "$(dirname "$1")"
-"${compiler[@]}" -O2 -Wall -Wextra -Werror -std=c11 -o "$1" hosts/compare.c "$object"
+"${compiler[@]}" -O2 -Wall -Wextra -Werror -std=c11 -o "$1" host/compare.c "$object"

@@ -61,7 +61,7 @@ counts "a filesystem goes through import, export and a reader of its own" python
 counts "histories of calls agree with the second program to the byte" python3 tests/histories.py
 counts "summaries agree with the second program to the byte" python3 tests/summaries.py
 counts "a host in C links the archive and runs" bash tests/host.sh
-counts "memory holds contents in the caller's buffer alone, and every byte is stored with its final value" bash tests/snapshot.sh target/staticlib/libngt.a
+counts "memory holds contents in the caller's buffer alone, and no byte of the volume is stored twice" bash tests/snapshot.sh target/staticlib/libngt.a
 counts "calls that may store nothing run where nothing can be stored" python3 tests/readonly.py
 counts "README.md does as written" python3 tests/readme.py
 counts "docs/HANDBOOK.md does as written" python3 tests/handbook.py

@@ -1,6 +1,5 @@
 /* A host in C that links the archive as it is shipped: it formats, mounts, reads, writes, queues writes, changes the secret, reports and shows
- * a stored flake, sees refusals leave everything as it came, compares two volumes, and makes a fleet's line. Its last line counts the checks. */
- * a stored flake, sees refusals leave everything as it came, hands its contents to dm-crypt and back, and makes a fleet's line. Its last line counts the checks. */
+ * a stored flake, sees refusals leave everything as it came, compares two volumes, hands its contents to dm-crypt and back, and makes a fleet's line. Its last line counts the checks. */
 #include "../include/ngt.h"
 #include <stdio.h>
 #include <string.h>
@@ -159,6 +158,8 @@ static void twins(void) {
     holds("no such nugget is refused by 8", ngt_twins(drive, vol, LENGTH, copy, LENGTH, N, one, two, length, answer) == 8 && one[0] == 7 && two[0] == 7);
     memcpy(again, drive, 144), again[48] ^= 1;
     holds("another node 1 is told", ngt_twins(again, vol, LENGTH, vol, LENGTH, 1, one, two, length, answer) == 7 && number(answer + 4, 4) == 3 && number(answer + 8, 4) == 1);
+}
+
 static void summaries(void) {
     uint8_t sum[84], kept[84], whole[24], top[24], bytes[10] = {9};
     memset(sum, 7, sizeof sum), memcpy(kept, sum, sizeof sum), keep();

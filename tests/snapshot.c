@@ -1,6 +1,6 @@
 /* Calls watched one instruction at a time, by the processor's trap flag, in the archive as it is shipped: memory never holds
- * contents but in the caller's own buffer, and each byte of the volume that is stored is stored with its final value. (The C
- * library's memcpy lets its last stores overlap, so a byte may be stored twice, as the same byte.)
+ * contents but in the caller's own buffer, and each byte of the volume is stored at most once, with its final value. (The
+ * archive takes memcpy from its host. The C library's lets its last stores overlap, with equal bytes; the one here doesn't.)
  *
  * After each instruction what changed on the stack is searched for any 8 bytes in a row of the contents: those that the drive
  * holds, and those that are written. Volume, drive and answer lie on pages that can't be written, so each store there is a
@@ -39,6 +39,13 @@ static uint64_t state = 88172645463325252u;
 static uint8_t any(void) {
     state ^= state << 13, state ^= state >> 7, state ^= state << 17;
     return (uint8_t)(state >> 32);
+}
+
+/* Each byte stored once. */
+void *memcpy(void *restrict to, const void *restrict from, size_t count) {
+    void *at = to;
+    __asm__ volatile("rep movsb" : "+D"(at), "+S"(from), "+c"(count)::"memory");
+    return to;
 }
 
 /* The 8-byte runs of the contents, in a table. */
@@ -227,10 +234,13 @@ static void tries(const char *name, uint32_t (*call)(void), uint32_t f, int chan
     check(memcmp(left, kept, ROOM) == 0, "watched, it left something else", name, f);
     check(found_on_stack == 0, "contents were on the stack", name, f);
     check(found_in_kept == 0, "contents were in the volume", name, f);
-    int each = 1;
+    int each = 1, once = 1;
     size_t flakes = length - (size_t)N * P * f;
+    for (size_t i = 0; i < length; i++)
+        once &= stores[i] < 2;
     for (size_t i = 0; i < (size_t)P * f; i++)
         each &= (stores[flakes + i] > 0) == (laid >> i / f & 1);
+    check(once, "a byte of the volume was stored twice", name, f);
     check(unlike == 0, "a byte was stored with another value than its last", name, f);
     check(each, "it laid other flakes than it had to", name, f);
 }

@@ -1,7 +1,7 @@
 """Document 02, Item 10: two volumes against one drive.
 
 Two messages with one BLAKE2s value can't be had, so no volumes here make the real finder find any.
-The found branch is met under a hash cut to one byte, where two in 256 messages agree.
+The found branch is met under a hash cut to one byte, where two messages agree once in 256.
 """
 
 import random
@@ -10,15 +10,17 @@ import calls
 import tree
 from answers import ACCEPTED, NODE, RECORD, Answer, Place
 from drive import BLANK
-from layout import layout
-from primitives import blake2s
-from twins import Found, kept, message, twins
+from layout import TAG, layout, read_record
+from primitives import blake2s, le
+from twins import Found, message, twins
 
 from checks.make import Spec, flipped, made
 from checks.refusals import MIXED, MOVED
 
 SHAPES = ((1, 1, 64), (2, 3, 64), (3, 2, 64), (4, 1, 64), (5, 2, 64), (33, 64, 64))
 ROUNDS = 40
+HIGH = 2**40  # a counter that leaves a record many keycounts
+DIFFER = (("tags",), ("record",), ("record", "tags"))
 
 
 def at7(kind, first):
@@ -90,8 +92,25 @@ def alike(work, other, lay, n):
     return i
 
 
+def redraw(chance, work, lay, n, parts):
+    """Another keycount in the record of nugget n, another tag, or both; and its path made anew."""
+    if "record" in parts:
+        at = lay.record_at(n)
+        work[at:at + 8] = le(chance.randrange(HIGH), 8)
+    if "tags" in parts:
+        at = lay.tag_at(n, chance.randrange(lay.p))
+        work[at:at + TAG] = chance.randbytes(TAG)
+    tree.renew(work, lay, n)
+
+
+def differing(work, other, lay, n):
+    at, end = lay.tag_at(n, 0), lay.tag_at(n, 0) + TAG * lay.p
+    records = read_record(work, lay, n) != read_record(other, lay, n)
+    return ("record",) * records + ("tags",) * (work[at:end] != other[at:end])
+
+
 def found(tally, chance):
-    """Under the cut hash: other tags are drawn until node 1 is the same again."""
+    """Under the cut hash: another record, other tags or both are drawn until node 1 is the same again."""
     met = set()
     for i in range(ROUNDS):
         n, p, f = chance.choice(((1, 1, 64), (2, 2, 64), (3, 2, 64), (5, 1, 64)))
@@ -99,18 +118,14 @@ def found(tally, chance):
         lay, nugget = drive.layout, chance.randrange(n)
         first = bytearray(volume)
         first[lay.tree:lay.flakes] = tree.build(first, lay)
-        drive = drive._replace(node1=tree.node(first, lay, 1))
-        second = bytearray(first)
-        while True:
-            at = lay.tag_at(nugget, chance.randrange(p))
-            second[at:at + 16] = chance.randbytes(16)
-            tree.renew(second, lay, nugget)
-            if tree.node(second, lay, 1) == drive.node1:
-                break
+        drive = drive._replace(node1=tree.node(first, lay, 1), counter=HIGH)
+        second, parts = bytearray(first), DIFFER[i % len(DIFFER)]
+        while second == first or tree.node(second, lay, 1) != drive.node1:
+            redraw(chance, second, lay, nugget, parts)
         got, top = twins(drive, bytes(first), bytes(second), nugget), alike(first, second, lay, nugget)
         met.add(lay.leaves + nugget == top)
         tally.same(f"found {i}", got, Found(ACCEPTED, message(first, lay, top), message(second, lay, top)))
-        tally.holds(f"found {i} differ", got.one != got.two and kept(first, lay, nugget) != kept(second, lay, nugget))
+        tally.same(f"found {i} differ", (got.one != got.two, differing(first, second, lay, nugget)), (True, parts))
         tally.same(f"found {i} have one value", cut(b"", got.one), cut(b"", got.two))
         tally.same(f"found {i} are as long", len(got.one), len(got.two))
         tally.same(f"nothing {i}", twins(drive, bytes(first), bytes(first), nugget), Found(ACCEPTED))

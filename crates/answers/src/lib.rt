@@ -38,7 +38,7 @@ pub enum Carried {
     Many(u32),
 }
 
-// "Classes: answers 1 to 3 form, 4 to 6 key, 7 altered, 8 to 12 request, 13 to 15 spent." 14 is no refusal any more.
+// "Classes: answers 1 to 3 form, 4 to 6 key, 7 altered, 8 to 12 request, 13 to 15 spent." 14 is the number of no refusal (document 02, Item 7).
 pub enum Class {
     Nothing,
     Form,

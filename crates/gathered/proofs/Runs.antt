@@ -21,7 +21,7 @@ use Rattle.drive.specs.Opening.{inForm, measureOf}
 use Rattle.changes.specs.Write.{writeDone, writeVolume, writePads}
 use Rattle.reports.specs.Stored.{storedAnswer}
 use Rattle.queues.specs.declared.Request.{Request}
-use Rattle.queues.specs.Queue.{lentOf, lengthsOf, After, noneDone, oneMore, writesFrom, beforeWrites, queueAfter}
+use Rattle.queues.specs.Queue.{measureBy, lengthsOf, After, noneDone, oneMore, writesFrom, beforeWrites, queueAfter}
 use Rattle.queues.proofs.QueueLaws.{writes-on, writes-stop, before-off, before-on, queue-first, queue-goes-on}
 use Rattle.history.specs.World.{World, Call, asks, write, stored}
 use Rattle.history.specs.Step.{answerTo, worldAfter, step}
@@ -119,12 +119,12 @@ module _ (start : Start) (calls : List Call) where
   abbrev w : World
   w = history start calls
 
-  lent : accepts (lentOf (w .drive) (length (w .vol))) ≡ true
-  unfolding lentOf measureOf storedAnswer
-  lent = go (told (accepts (lentOf (w .drive) (length (w .vol))))) (no-false-alarm start calls (asks (stored 0 0)))
+  lent : accepts (measureBy (w .drive) (length (w .vol))) ≡ true
+  unfolding measureBy measureOf storedAnswer
+  lent = go (told (accepts (measureBy (w .drive) (length (w .vol))))) (no-false-alarm start calls (asks (stored 0 0)))
     where
-      go : (accepts (lentOf (w .drive) (length (w .vol))) ≡ true) ⊎ (accepts (lentOf (w .drive) (length (w .vol))) ≡ false)
-          → (storedAnswer (w .drive) (w .vol) 0 0 ≡ A.Accepted) ⊎ (8 ≤ numberOf (storedAnswer (w .drive) (w .vol) 0 0)) → accepts (lentOf (w .drive) (length (w .vol))) ≡ true
+      go : (accepts (measureBy (w .drive) (length (w .vol))) ≡ true) ⊎ (accepts (measureBy (w .drive) (length (w .vol))) ≡ false)
+          → (storedAnswer (w .drive) (w .vol) 0 0 ≡ A.Accepted) ⊎ (8 ≤ numberOf (storedAnswer (w .drive) (w .vol) 0 0)) → accepts (measureBy (w .drive) (length (w .vol))) ≡ true
       go (inl a) n = a
       go (inr a) n =
           let is : storedAnswer (w .drive) (w .vol) 0 0 ≡ measureOf (w .drive) (w .vol) = stops (measureOf (w .drive) (w .vol)) _ a in

@@ -60,7 +60,7 @@ abbrev pub inRange : World → ℕ → ℕ → Bool
 inRange w o len = leb (o + len) (w .drive .n * w .drive .p * w .drive .f)
 
 -- The table. 8: past the end; 9: not in this state; 10: the same secret; 11: nuggets left; 12: moved; 13: counter at its top;
--- 15: epoch at its top. 1 to 7 aren't in it; 14 is no answer's number any more.
+-- 15: epoch at its top. 1 to 7 aren't in it; 14 is no answer's number.
 abbrev pub due : World → Call → Answer
 due w (mount any) = A.Accepted
 due w (write o bytes) =

@@ -45,6 +45,7 @@ ngt-fleet κs a x y u v p q = (agree (p .behind) (q .behind), refl ∥ agree (p 
 
 pub ngt-twins : OneOutcome fn.ngt_twins.ended fn.ngt_twins.Reads.Post
 ngt-twins κs a x y u v p q = (agree (p .tells .told) (q .tells .told), refl ∥ refl ∥ refl ∥ refl ∥ agree (p .first) (q .first) ∥ agree (p .second) (q .second) ∥ agree (p .length) (q .length) ∥ agree (p .tells .shown) (q .tells .shown) ∥ refl)
+
 pub summary-ngt-tally : OneOutcome fn.summary.ngt_tally.ended fn.summary.ngt_tally.Reads.Post
 summary-ngt-tally κs a x y u v p q = (agree (p .tells .told) (q .tells .told), refl ∥ refl ∥ agree (p .numbers) (q .numbers) ∥ agree (p .tells .shown) (q .tells .shown) ∥ refl)
 

@@ -14,7 +14,6 @@ ghost use Rattle.line.specs.Lines.{Put};
 ghost use Rattle.fleets.specs.Lines.{fleetLine};
 ghost use Rattle.changes.specs.Write.{writes};
 ghost use Rattle.ngt.specs.Twins.{Compared};
-ghost use Rattle.ngt.specs.Calls.{Formatted, Mounted, Filled, Reported, Shown, spanImage, imageAfter, Begun, Swept, Finished, Written, counterRose, QueuedBy};
 ghost use Rattle.ngt.specs.Calls.{Formatted, Mounted, Filled, Exported, Reported, Shown, spanImage, imageAfter, Begun, Swept, Finished, Written, Imported, counterRose, QueuedBy};
 
 // Format, with the image of the drive that it hands back.

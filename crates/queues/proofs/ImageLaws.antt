@@ -31,10 +31,10 @@ count : (images : List ℕ) → length (requestsIn images) ≡ length images / 1
 count images = length-tab (length images / 16) (λ i. requestAt images (i * 16))
 
 -- what a turn leaves, in bounds
-pub turn-bounds : (r : Run) {s : Run} (v bytes : List ℕ) (q : Request) (m i : ℕ) → s ≡ requestStep r v bytes q → r .left ≤ m → r .queued .outcome .done ≤ i
-    → (s .left ≤ m) × (s .queued .outcome .done ≤ i + 1)
+pub turn-bounds : (r : Run) {s : Run} (v bytes : List ℕ) (q : Request) (m i : ℕ) → s ≡ requestStep r v bytes q → r .unread ≤ m → r .queued .outcome .done ≤ i
+    → (s .unread ≤ m) × (s .queued .outcome .done ≤ i + 1)
 turn-bounds r v bytes q m i e h k =
-    (omega (arith, ap (λ (x : Run). x .left) e, step-left r v bytes q, h), omega (arith, ap (λ (x : Run). x .queued .outcome .done) e, step-done r v bytes q, k))
+    (omega (arith, ap (λ (x : Run). x .unread) e, step-left r v bytes q, h), omega (arith, ap (λ (x : Run). x .queued .outcome .done) e, step-done r v bytes q, k))
 
 module _ (images bytes : List ℕ) (i : ℕ) where
   pub image-turn : (r : Run) (v : List ℕ) {s : Run} {w : List ℕ} {q : Request} → i < length images / 16 → q ≡ requestAt images (i * 16)

@@ -21,7 +21,7 @@ use Rattle.writing.proofs.Refused.{write-refused}
 use Rattle.queues.specs.declared.Request.{Request}
 use Rattle.queues.specs.declared.Queued.{Queued}
 use Rattle.queues.specs.declared.Run.{Run}
-use Rattle.queues.specs.Queue.{lentOf, lengthsOf, After, writesFrom, queueAfter, queuedBy, queueDone, queueVolume}
+use Rattle.queues.specs.Queue.{measureBy, lengthsOf, After, writesFrom, queueAfter, queuedBy, queueDone, queueVolume}
 use Rattle.queues.specs.Pass.{queuedAt, runAt, answerIn, begunRun, addedRun, requestStep, requestVolume, wroteOne, Stand, passOf}
 use Rattle.queues.proofs.QueueLaws.{writes-on, writes-stop, before-lent, before-off, before-on, queue-first, queue-goes-on}
 use Rattle.queues.proofs.StepLaws.{added-up, added-off, added-stopped, added-left, added-done, step-stopped, step-past, step-adds, step-writes, step-left, step-adding}
@@ -57,7 +57,7 @@ pass-stopped r v bytes [] a = refl
 pass-stopped r v bytes (q ∷ qs) a = stepping r r v v bytes q qs (step-stopped r v bytes q a) ∙ pass-stopped r v bytes qs a
 
 -- what is left doesn't grow, and while lengths are added up nothing is done
-pub pass-left : (r : Run) (v bytes : List ℕ) (qs : List Request) → passOf r v bytes qs .run .left ≤ r .left
+pub pass-left : (r : Run) (v bytes : List ℕ) (qs : List Request) → passOf r v bytes qs .run .unread ≤ r .unread
 unfolding passOf
 pass-left r v bytes [] = omega arith
 pass-left r v bytes (q ∷ qs) = omega (arith, pass-left (requestStep r v bytes q) (requestVolume r v bytes q) bytes qs, step-left r v bytes q)
@@ -71,14 +71,14 @@ pass-adding r v bytes (q ∷ qs) e =
 
 module _ (d : Drive) (bytes v : List ℕ) where
   abbrev adding : ℕ → Run
-  adding left = runAt A.Accepted 0 d left false
+  adding unread = runAt A.Accepted 0 d unread false
 
   -- the lengths add up to what is left
-  pub adds-up : (left : ℕ) (qs : List Request) → lengthsOf qs ≡ left → passOf (adding left) v bytes qs ≡ stand (adding 0) v
+  pub adds-up : (unread : ℕ) (qs : List Request) → lengthsOf qs ≡ unread → passOf (adding unread) v bytes qs ≡ stand (adding 0) v
   unfolding passOf lengthsOf
-  adds-up left [] e = rw (← e) refl
-  adds-up left (q ∷ qs) e =
-      stepping (adding left) (adding (left - q .length)) v v bytes q qs (step-adds (adding left) v bytes q refl (omega (arith, e)) refl) ∙ adds-up (left - q .length) qs (omega (arith, e))
+  adds-up unread [] e = rw (← e) refl
+  adds-up unread (q ∷ qs) e =
+      stepping (adding unread) (adding (unread - q .length)) v v bytes q qs (step-adds (adding unread) v bytes q refl (omega (arith, e)) refl) ∙ adds-up (unread - q .length) qs (omega (arith, e))
 
   -- they don't: 8, whichever way
   abbrev Off : ℕ → Stand → Type 0
@@ -87,31 +87,31 @@ module _ (d : Drive) (bytes v : List ℕ) where
   off-by : (len : ℕ) {x y : Stand} → x ≡ y → Off len y → Off len x
   off-by len e h = (ap (λ (z : Stand). z .vol) e ∙ h .0, ap (λ (z : Stand). addedRun (z .run) len .queued) e ∙ h .1)
 
-  off-over : (left len : ℕ) (q : Request) (qs : List Request) → left < q .length → Off len (passOf (adding left) v bytes (q ∷ qs))
-  off-over left len q qs h =
-      let stopped = runAt A.PastEnd 0 d left false in
-      off-by len (stepping (adding left) stopped v v bytes q qs (step-past (adding left) v bytes q refl h refl) ∙ pass-stopped stopped v bytes qs refl)
+  off-over : (unread len : ℕ) (q : Request) (qs : List Request) → unread < q .length → Off len (passOf (adding unread) v bytes (q ∷ qs))
+  off-over unread len q qs h =
+      let stopped = runAt A.PastEnd 0 d unread false in
+      off-by len (stepping (adding unread) stopped v v bytes q qs (step-past (adding unread) v bytes q refl h refl) ∙ pass-stopped stopped v bytes qs refl)
       (refl, ap (λ (r : Run). r .queued) (sym (added-stopped stopped len refl)))
 
-  pub adds-off : (left len : ℕ) (qs : List Request) → (lengthsOf qs ≡ left → ⊥) → Off len (passOf (adding left) v bytes qs)
+  pub adds-off : (unread len : ℕ) (qs : List Request) → (lengthsOf qs ≡ unread → ⊥) → Off len (passOf (adding unread) v bytes qs)
   unfolding passOf lengthsOf
-  adds-off left len [] h = (refl, ap (λ (r : Run). r .queued) (sym (added-off (adding left) len refl (λ e. h (sym e)) refl)))
-  adds-off left len (q ∷ qs) h = go (adds-off (left - q .length) len qs) (told (leb (q .length) left))
+  adds-off unread len [] h = (refl, ap (λ (r : Run). r .queued) (sym (added-off (adding unread) len refl (λ e. h (sym e)) refl)))
+  adds-off unread len (q ∷ qs) h = go (adds-off (unread - q .length) len qs) (told (leb (q .length) unread))
     where
-      go : ((lengthsOf qs ≡ left - q .length → ⊥) → Off len (passOf (adding (left - q .length)) v bytes qs)) → (leb (q .length) left ≡ true) ⊎ (leb (q .length) left ≡ false)
-          → Off len (passOf (adding left) v bytes (q ∷ qs))
+      go : ((lengthsOf qs ≡ unread - q .length → ⊥) → Off len (passOf (adding (unread - q .length)) v bytes qs)) → (leb (q .length) unread ≡ true) ⊎ (leb (q .length) unread ≡ false)
+          → Off len (passOf (adding unread) v bytes (q ∷ qs))
       go ih (inl e) =
-          let fits = leb-true (q .length) left e in
-          off-by len (stepping (adding left) (adding (left - q .length)) v v bytes q qs (step-adds (adding left) v bytes q refl fits refl)) (ih (λ g. h (omega (arith, g, fits))))
-      go ih (inr e) = off-over left len q qs (omega (arith, leb-false (q .length) left e))
+          let fits = leb-true (q .length) unread e in
+          off-by len (stepping (adding unread) (adding (unread - q .length)) v v bytes q qs (step-adds (adding unread) v bytes q refl fits refl)) (ih (λ g. h (omega (arith, g, fits))))
+      go ih (inr e) = off-over unread len q qs (omega (arith, leb-false (q .length) unread e))
 
 -- what the second pass stands at once some writes are made, with those that were done before
 abbrev Ends : ℕ → Stand → After → Type 0
 Ends done x y = (x .run .queued ≡ queuedAt (y .answer) (done + y .done) (y .drive)) × (x .vol ≡ y .vol)
 
-module _ (d : Drive) (v bytes : List ℕ) (done left : ℕ) (q : Request) (qs : List Request) (fits : q .length ≤ left) where
+module _ (d : Drive) (v bytes : List ℕ) (done unread : ℕ) (q : Request) (qs : List Request) (fits : q .length ≤ unread) where
   abbrev rest : List ℕ
-  rest = drop (length bytes - left) bytes
+  rest = drop (length bytes - unread) bytes
 
   abbrev one : Done
   one = writeDone d v (q .offset) (take (q .length) rest)
@@ -120,26 +120,26 @@ module _ (d : Drive) (v bytes : List ℕ) (done left : ℕ) (q : Request) (qs : 
   after = writeVolume d v (q .offset) (take (q .length) rest)
 
   abbrev now : Run
-  now = runAt A.Accepted done d left true
+  now = runAt A.Accepted done d unread true
 
-  pass-on : accepts (one .answer) ≡ true → passOf now v bytes (q ∷ qs) ≡ passOf (runAt A.Accepted (done + 1) (one .drive) (left - q .length) true) after bytes qs
+  pass-on : accepts (one .answer) ≡ true → passOf now v bytes (q ∷ qs) ≡ passOf (runAt A.Accepted (done + 1) (one .drive) (unread - q .length) true) after bytes qs
   unfolding wroteOne
   pass-on a =
-      stepping now (runAt A.Accepted (done + 1) (one .drive) (left - q .length) true) v after bytes q qs
+      stepping now (runAt A.Accepted (done + 1) (one .drive) (unread - q .length) true) v after bytes q qs
       (step-writes now v bytes q refl fits refl
-      (ap (λ (x : Answer). runAt x (done + 1) (one .drive) (left - q .length) true) (sym (accepted-is (one .answer) a)) ∙ sym (yes _ a refl), refl))
+      (ap (λ (x : Answer). runAt x (done + 1) (one .drive) (unread - q .length) true) (sym (accepted-is (one .answer) a)) ∙ sym (yes _ a refl), refl))
 
-  pass-stop : accepts (one .answer) ≡ false → passOf now v bytes (q ∷ qs) ≡ stand (runAt (one .answer) done d left true) v
+  pass-stop : accepts (one .answer) ≡ false → passOf now v bytes (q ∷ qs) ≡ stand (runAt (one .answer) done d unread true) v
   unfolding wroteOne writeDone
   pass-stop a =
-      stepping now (runAt (one .answer) done d left true) v v bytes q qs (step-writes now v bytes q refl fits refl (sym (no _ a refl), sym (write-refused d v (q .offset) (take (q .length) rest) a .volume)))
-      ∙ pass-stopped (runAt (one .answer) done d left true) v bytes qs a
+      stepping now (runAt (one .answer) done d unread true) v v bytes q qs (step-writes now v bytes q refl fits refl (sym (no _ a refl), sym (write-refused d v (q .offset) (take (q .length) rest) a .volume)))
+      ∙ pass-stopped (runAt (one .answer) done d unread true) v bytes qs a
 
 one-later : (k m : ℕ) → k + 1 + m ≡ k + suc m
 one-later k m = omega arith
 
-moved-on : (n left k : ℕ) → left ≤ n → k ≤ left → n - (left - k) ≡ n - left + k
-moved-on n left k h g = omega (arith, h, g)
+moved-on : (n unread k : ℕ) → unread ≤ n → k ≤ unread → n - (unread - k) ≡ n - unread + k
+moved-on n unread k h g = omega (arith, h, g)
 
 none-left : (n : ℕ) → n - n ≡ 0
 none-left n = omega arith
@@ -152,33 +152,33 @@ none-later k = omega arith
 
 abbrev WritesAll : List Request → Type 0
 WritesAll qs =
-    (d : Drive) (v bytes : List ℕ) (done left : ℕ) → left ≤ length bytes → lengthsOf qs ≡ left
-    → Ends done (passOf (runAt A.Accepted done d left true) v bytes qs) (writesFrom d v qs (drop (length bytes - left) bytes))
+    (d : Drive) (v bytes : List ℕ) (done unread : ℕ) → unread ≤ length bytes → lengthsOf qs ≡ unread
+    → Ends done (passOf (runAt A.Accepted done d unread true) v bytes qs) (writesFrom d v qs (drop (length bytes - unread) bytes))
 
-module _ (q : Request) (qs : List Request) (ih : WritesAll qs) (d : Drive) (v bytes : List ℕ) (done left : ℕ) (h : left ≤ length bytes) (e : q .length + lengthsOf qs ≡ left) where
-  fits : q .length ≤ left
+module _ (q : Request) (qs : List Request) (ih : WritesAll qs) (d : Drive) (v bytes : List ℕ) (done unread : ℕ) (h : unread ≤ length bytes) (e : q .length + lengthsOf qs ≡ unread) where
+  fits : q .length ≤ unread
   fits = omega (arith, e)
 
   abbrev part-left : List ℕ
-  part-left = rest d v bytes done left q qs fits
+  part-left = rest d v bytes done unread q qs fits
 
   abbrev this : Done
-  this = one d v bytes done left q qs fits
+  this = one d v bytes done unread q qs fits
 
   abbrev later : After
-  later = writesFrom (this .drive) (after d v bytes done left q qs fits) qs (drop (q .length) part-left)
+  later = writesFrom (this .drive) (after d v bytes done unread q qs fits) qs (drop (q .length) part-left)
 
   abbrev Ended : Type 0
-  Ended = Ends done (passOf (runAt A.Accepted done d left true) v bytes (q ∷ qs)) (writesFrom d v (q ∷ qs) part-left)
+  Ended = Ends done (passOf (runAt A.Accepted done d unread true) v bytes (q ∷ qs)) (writesFrom d v (q ∷ qs) part-left)
 
   ends-on : accepts (this .answer) ≡ true → Ended
   ends-on a =
-      let w = after d v bytes done left q qs fits in
-      let on = pass-on d v bytes done left q qs fits a in
+      let w = after d v bytes done unread q qs fits in
+      let on = pass-on d v bytes done unread q qs fits a in
       let was = writes-on d v q qs part-left a in
-      let x = ih (this .drive) w bytes (done + 1) (left - q .length) (omega (arith, h)) (omega (arith, e)) in
-      let from : drop (length bytes - (left - q .length)) bytes ≡ drop (q .length) part-left =
-      ap (λ (k : ℕ). drop k bytes) (moved-on (length bytes) left (q .length) h fits) ∙ sym (drop-drop (q .length) (length bytes - left) bytes) in
+      let x = ih (this .drive) w bytes (done + 1) (unread - q .length) (omega (arith, h)) (omega (arith, e)) in
+      let from : drop (length bytes - (unread - q .length)) bytes ≡ drop (q .length) part-left =
+      ap (λ (k : ℕ). drop k bytes) (moved-on (length bytes) unread (q .length) h fits) ∙ sym (drop-drop (q .length) (length bytes - unread) bytes) in
       let y : List ℕ → After = λ l. writesFrom (this .drive) w qs l in (
         ap (λ (z : Stand). z .run .queued) on ∙ x .0
             ∙ ap (λ (l : List ℕ). queuedAt (y l .answer) (done + 1 + y l .done) (y l .drive)) from
@@ -189,7 +189,7 @@ module _ (q : Request) (qs : List Request) (ih : WritesAll qs) (d : Drive) (v by
 
   ends-stop : accepts (this .answer) ≡ false → Ended
   ends-stop a =
-      let stop = pass-stop d v bytes done left q qs fits a in
+      let stop = pass-stop d v bytes done unread q qs fits a in
       let was = writes-stop d v q qs part-left a in (
         ap (λ (z : Stand). z .run .queued) stop ∙ ap (λ (k : ℕ). queuedAt (this .answer) k d) (none-later done)
             ∙ sym (ap (λ (z : After). queuedAt (z .answer) (done + z .done) (z .drive)) was),
@@ -201,8 +201,8 @@ module _ (q : Request) (qs : List Request) (ih : WritesAll qs) (d : Drive) (v by
 
 pub writes-all : (qs : List Request) → WritesAll qs
 unfolding passOf lengthsOf writesFrom
-writes-all [] d v bytes done left h e = (ap (λ (k : ℕ). queuedAt A.Accepted k d) (none-later done), refl)
-writes-all (q ∷ qs) d v bytes done left h e = ends q qs (writes-all qs) d v bytes done left h e
+writes-all [] d v bytes done unread h e = (ap (λ (k : ℕ). queuedAt A.Accepted k d) (none-later done), refl)
+writes-all (q ∷ qs) d v bytes done unread h e = ends q qs (writes-all qs) d v bytes done unread h e
 
 -- the two passes
 abbrev first : Drive → List ℕ → List ℕ → List Request → Stand
@@ -222,17 +222,17 @@ module _ (d : Drive) (v bytes : List ℕ) (qs : List Request) where
   stand-is : {x : Stand} {r : Run} {w : List ℕ} → x ≡ stand r w → (x .run .queued ≡ r .queued) × (x .vol ≡ w)
   stand-is e = (ap (λ (z : Stand). z .run .queued) e, ap (λ (z : Stand). z .vol) e)
 
-  by-stopped : accepts (lentOf d (length v)) ≡ false → Queues (second d v bytes qs)
+  by-stopped : accepts (measureBy d (length v)) ≡ false → Queues (second d v bytes qs)
   by-stopped a =
       let r = begunRun d (length v) (length bytes) in
       let one : first d v bytes qs ≡ stand r v = pass-stopped r v bytes qs a in
       let two : second d v bytes qs ≡ stand r v =
       ap (λ (z : Stand). passOf (addedRun (z .run) (length bytes)) (z .vol) bytes qs) one ∙ ap (λ (z : Run). passOf z v bytes qs) (sym (added-stopped r (length bytes) a)) ∙ pass-stopped r v bytes qs a in
-      queues (second d v bytes qs) (queue-first d v qs bytes (lentOf d (length v)) (before-lent d v qs bytes a) a) (stand-is two .0) (stand-is two .1)
+      queues (second d v bytes qs) (queue-first d v qs bytes (measureBy d (length v)) (before-lent d v qs bytes a) a) (stand-is two .0) (stand-is two .1)
 
-  module _ (a : accepts (lentOf d (length v)) ≡ true) where
+  module _ (a : accepts (measureBy d (length v)) ≡ true) where
     begins : first d v bytes qs ≡ passOf (runAt A.Accepted 0 d (length bytes) false) v bytes qs
-    begins = ap (λ (x : Answer). passOf (runAt x 0 d (length bytes) false) v bytes qs) (accepted-is (lentOf d (length v)) a)
+    begins = ap (λ (x : Answer). passOf (runAt x 0 d (length bytes) false) v bytes qs) (accepted-is (measureBy d (length v)) a)
 
     by-writes : lengthsOf qs ≡ length bytes → Queues (second d v bytes qs)
     by-writes e =
@@ -256,9 +256,9 @@ module _ (d : Drive) (v bytes : List ℕ) (qs : List Request) where
         queues (second d v bytes qs) (queue-first d v qs bytes A.PastEnd (before-off d v qs bytes a e) refl) (stand-is two .0 ∙ off .1) (stand-is two .1 ∙ off .0)
 
   pub two-passes : Queues (second d v bytes qs)
-  two-passes = go (told (accepts (lentOf d (length v)))) (told (eqb (lengthsOf qs) (length bytes)))
+  two-passes = go (told (accepts (measureBy d (length v)))) (told (eqb (lengthsOf qs) (length bytes)))
     where
-      go : (accepts (lentOf d (length v)) ≡ true) ⊎ (accepts (lentOf d (length v)) ≡ false)
+      go : (accepts (measureBy d (length v)) ≡ true) ⊎ (accepts (measureBy d (length v)) ≡ false)
           → (eqb (lengthsOf qs) (length bytes) ≡ true) ⊎ (eqb (lengthsOf qs) (length bytes) ≡ false) → Queues (second d v bytes qs)
       go (inr a) e = by-stopped a
       go (inl a) (inl e) = by-writes a (eqb-true (lengthsOf qs) (length bytes) e)
@@ -266,18 +266,18 @@ module _ (d : Drive) (v bytes : List ℕ) (qs : List Request) where
 
 -- the same of what the code has in hand: the run before each pass, and what each left
 module _ (d : Drive) (v bytes : List ℕ) (qs : List Request) {b : Run} (eb : b ≡ begunRun d (length v) (length bytes)) where
-  pub first-starts : (b .left ≤ length bytes) × (b .queued .outcome .done ≡ 0)
-  first-starts = (omega (arith, ap (λ (r : Run). r .left) eb), ap (λ (r : Run). r .queued .outcome .done) eb)
+  pub first-starts : (b .unread ≤ length bytes) × (b .queued .outcome .done ≡ 0)
+  first-starts = (omega (arith, ap (λ (r : Run). r .unread) eb), ap (λ (r : Run). r .queued .outcome .done) eb)
 
   module _ {f a : Run} {w : List ℕ} (ef : (f ≡ passOf b v bytes qs .run) × (w ≡ passOf b v bytes qs .vol)) (ea : a ≡ addedRun f (length bytes)) where
     passed-first : f ≡ first d v bytes qs .run
     passed-first = ef .0 ∙ ap (λ (r : Run). passOf r v bytes qs .run) eb
 
-    pub second-starts : (a .left ≤ length bytes) × (a .queued .outcome .done ≡ 0)
+    pub second-starts : (a .unread ≤ length bytes) × (a .queued .outcome .done ≡ 0)
     second-starts =
         let start = begunRun d (length v) (length bytes) in
-        let low : f .left ≤ length bytes = omega (arith, ap (λ (r : Run). r .left) passed-first, pass-left start v bytes qs) in (
-          omega (arith, ap (λ (r : Run). r .left) ea, added-left f (length bytes) low),
+        let low : f .unread ≤ length bytes = omega (arith, ap (λ (r : Run). r .unread) passed-first, pass-left start v bytes qs) in (
+          omega (arith, ap (λ (r : Run). r .unread) ea, added-left f (length bytes) low),
           ap (λ (r : Run). r .queued .outcome .done) ea ∙ added-done f (length bytes) ∙ ap (λ (r : Run). r .queued .outcome .done) passed-first ∙ pass-adding start v bytes qs refl,
         )
 

@@ -59,7 +59,7 @@ abbrev pub Bytes : Lft → RefT (List ℕ) → Fml
 Bytes κ y = ShrSlice (named 2) κ u8 .own y (slice-vals y)
 
 abbrev Starts : Run → List ℕ → Type 0
-Starts r bs = (r .left ≤ length bs) × (r .queued .outcome .done ≡ 0)
+Starts r bs = (r .unread ≤ length bs) × (r .queued .outcome .done ≡ 0)
 
 module _ {M : Type 1} (𝓤 : URA M) (H : Heap 𝓤) (A : Atoms 𝓤) (W : Given 𝓤 H A) (mem : Memory → SProp 𝓤) (run : Routine → Fun 𝓤) (κ₁ κ₂ : Lft) (q₁ q₂ : Share) (b o : ℕ) (x : RefT (List Request)) (y : RefT (List ℕ)) (r : Run) (l : List ℕ) (ν : ℕ) (δ : GName) where
   abbrev to-pass : Core 𝓤 H A mem run .Ghost

@@ -13,7 +13,7 @@ use Rattle.answers.proofs.StageLaws.{goes-on, stops}
 use Rattle.drive.specs.declared.Drive.{Drive}
 use Rattle.changes.specs.Write.{writeDone, writeVolume, writePads}
 use Rattle.queues.specs.declared.Request.{Request}
-use Rattle.queues.specs.Queue.{lentOf, lengthsOf, noneDone, oneMore, writesFrom, beforeWrites, queueAfter}
+use Rattle.queues.specs.Queue.{measureBy, lengthsOf, noneDone, oneMore, writesFrom, beforeWrites, queueAfter}
 
 -- a write of the queue: accepted, or the one that stops it
 module _ (d : Drive) (v : List ℕ) (q : Request) (qs : List Request) (bytes : List ℕ) where
@@ -32,17 +32,17 @@ module _ (d : Drive) (v : List ℕ) (q : Request) (qs : List Request) (bytes : L
 
 -- 1, 2 and 8 before the first write, and else the writes
 module _ (d : Drive) (v : List ℕ) (qs : List Request) (bytes : List ℕ) where
-  pub before-lent : accepts (lentOf d (length v)) ≡ false → beforeWrites d v qs bytes ≡ lentOf d (length v)
+  pub before-lent : accepts (measureBy d (length v)) ≡ false → beforeWrites d v qs bytes ≡ measureBy d (length v)
   unfolding beforeWrites
-  before-lent a = stops (lentOf d (length v)) _ a
+  before-lent a = stops (measureBy d (length v)) _ a
 
-  pub before-off : accepts (lentOf d (length v)) ≡ true → (lengthsOf qs ≡ length bytes → ⊥) → beforeWrites d v qs bytes ≡ A.PastEnd
+  pub before-off : accepts (measureBy d (length v)) ≡ true → (lengthsOf qs ≡ length bytes → ⊥) → beforeWrites d v qs bytes ≡ A.PastEnd
   unfolding beforeWrites
-  before-off a h = goes-on (lentOf d (length v)) _ a ∙ no _ (ne-eqb (lengthsOf qs) (length bytes) h) refl
+  before-off a h = goes-on (measureBy d (length v)) _ a ∙ no _ (ne-eqb (lengthsOf qs) (length bytes) h) refl
 
-  pub before-on : accepts (lentOf d (length v)) ≡ true → lengthsOf qs ≡ length bytes → beforeWrites d v qs bytes ≡ A.Accepted
+  pub before-on : accepts (measureBy d (length v)) ≡ true → lengthsOf qs ≡ length bytes → beforeWrites d v qs bytes ≡ A.Accepted
   unfolding beforeWrites
-  before-on a h = goes-on (lentOf d (length v)) _ a ∙ yes _ (eq-eqb (lengthsOf qs) (length bytes) h) refl
+  before-on a h = goes-on (measureBy d (length v)) _ a ∙ yes _ (eq-eqb (lengthsOf qs) (length bytes) h) refl
 
   -- 1, 2 and 8 leave drive and volume as they came, list nothing, and none is done
   pub queue-first : (a : Answer) → beforeWrites d v qs bytes ≡ a → accepts a ≡ false → queueAfter d v qs bytes ≡ noneDone d v a

@@ -11,7 +11,7 @@ use Rattle.answers.specs.Stages.{andThen}
 use Rattle.drive.specs.declared.Drive.{Drive}
 use Rattle.queues.specs.declared.Request.{Request}
 use Rattle.queues.specs.declared.Queued.{Queued}
-use Rattle.queues.specs.Queue.{lentOf, After, noneDone, queuedBy, queueAfter}
+use Rattle.queues.specs.Queue.{measureBy, After, noneDone, queuedBy, queueAfter}
 
 -- offset, length
 abbrev pub requestRow : List Field
@@ -30,7 +30,7 @@ requestsIn image = tab (length image / 16) (λ i. requestAt image (i * 16))
 
 -- "A list length that is no multiple of 16 is answered 8 (after 1, 2) with 0 done."
 abbrev pub unevenAfter : Drive → List ℕ → After
-unevenAfter d v = noneDone d v (andThen (lentOf d (length v)) A.PastEnd)
+unevenAfter d v = noneDone d v (andThen (measureBy d (length v)) A.PastEnd)
 
 unfoldable pub imagesAfter : Drive → List ℕ → List ℕ → List ℕ → After
 imagesAfter d v image bytes = pick (eqb (length image % 16) 0) (queueAfter d v (requestsIn image) bytes) (unevenAfter d v)
@@ -42,4 +42,4 @@ abbrev pub imagesVolume : Drive → List ℕ → List ℕ → List ℕ → List 
 imagesVolume d v image bytes = imagesAfter d v image bytes .vol
 
 abbrev pub unevenQueue : Drive → ℕ → Queued
-unevenQueue d held = record { outcome = record { answer = andThen (lentOf d held) A.PastEnd; done = 0 }; drive = d }
+unevenQueue d held = record { outcome = record { answer = andThen (measureBy d held) A.PastEnd; done = 0 }; drive = d }

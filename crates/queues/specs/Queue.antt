@@ -19,8 +19,8 @@ use Rattle.queues.specs.declared.Request.{Request}
 use Rattle.queues.specs.declared.Queued.{Queued}
 
 -- tests 1 and 2, of a volume of so many bytes
-unfoldable pub lentOf : Drive → ℕ → Answer
-lentOf d held = pick (inForm d) (pick (eqb held (lengthOf (shapeOf d))) A.Accepted A.Length) A.Limits
+unfoldable pub measureBy : Drive → ℕ → Answer
+measureBy d held = pick (inForm d) (pick (eqb held (lengthOf (shapeOf d))) A.Accepted A.Length) A.Limits
 
 -- the lengths, added as plain integers
 unfoldable pub lengthsOf : List Request → ℕ
@@ -55,7 +55,7 @@ writesFrom d v (q ∷ qs) bytes =
 
 -- "8 comes after 1 and 2, before the first write, if the lengths don't add up to the buffer"
 unfoldable pub beforeWrites : Drive → List ℕ → List Request → List ℕ → Answer
-beforeWrites d v qs bytes = andThen (lentOf d (length v)) (pick (eqb (lengthsOf qs) (length bytes)) A.Accepted A.PastEnd)
+beforeWrites d v qs bytes = andThen (measureBy d (length v)) (pick (eqb (lengthsOf qs) (length bytes)) A.Accepted A.PastEnd)
 
 unfoldable pub queueAfter : Drive → List ℕ → List Request → List ℕ → After
 queueAfter d v qs bytes =

@@ -5,7 +5,7 @@ use drive::Drive;
 ghost use mathlib.Core.Path.{_≡_};
 ghost use Prim.Native.Nat.{_+_, _-_, _<_, _≤_, _^_};
 ghost use lib.ListN.{length};
-ghost use Rattle.queues.specs.Queue.{lentOf, queueDone, queueVolume};
+ghost use Rattle.queues.specs.Queue.{measureBy, queueDone, queueVolume};
 ghost use Rattle.queues.specs.Pass.{queuedAt, runAt, refusedAt, begunRun, addedRun, wroteOne, wroteVolume, requestStep, requestVolume, passOf};
 ghost use Rattle.queues.specs.Images.{requestAt, requestsIn, unevenQueue, imagesDone, imagesVolume};
 
@@ -31,7 +31,7 @@ pub struct Queued {
 // has taken yet, and whether requests are written or their lengths only added up.
 struct Run {
     queued: Queued,
-    left: u64,
+    unread: u64,
     writing: bool,
 }
 
@@ -48,13 +48,13 @@ fn queued_at(answer: Answer, done: u64, d: Drive) -> Queued
     }
 }
 
-fn run_at(answer: Answer, done: u64, d: Drive, left: u64, writing: bool) -> Run
-    ensures { λ r. ⌜ r ≡ runAt answer done d left writing ⌝ }
+fn run_at(answer: Answer, done: u64, d: Drive, unread: u64, writing: bool) -> Run
+    ensures { λ r. ⌜ r ≡ runAt answer done d unread writing ⌝ }
 {
     let queued = queued_at(answer, done, d);
     Run {
         queued: queued,
-        left: left,
+        unread: unread,
         writing: writing,
     }
 }
@@ -66,12 +66,12 @@ fn refused(r: Run, a: Answer) -> Run
     let queued = r.queued;
     let outcome = queued.outcome;
     let d = queued.drive;
-    run_at(a, outcome.done, d, r.left, r.writing)
+    run_at(a, outcome.done, d, r.unread, r.writing)
 }
 
 // Tests 1 and 2, of a volume of so many bytes.
-fn lent(d: Drive, held: usize) -> Answer
-    ensures { λ r. ⌜ r ≡ lentOf d held ⌝ }
+fn measured(d: Drive, held: usize) -> Answer
+    ensures { λ r. ⌜ r ≡ measureBy d held ⌝ }
 {
     if drive::in_form(d) {
         if held == layout::length_of(drive::shape_of(d)) {
@@ -86,7 +86,7 @@ fn lent(d: Drive, held: usize) -> Answer
 fn begun(d: Drive, held: usize, len: usize) -> Run
     ensures { λ r. ⌜ r ≡ begunRun d held len ⌝ }
 {
-    run_at(lent(d, held), 0, d, len as u64, false)
+    run_at(measured(d, held), 0, d, len as u64, false)
 }
 
 // "8 comes after 1 and 2, before the first write, if the lengths don't add up to the buffer"; else the second pass starts at its front.
@@ -97,10 +97,10 @@ fn added(r: Run, len: usize) -> Run
     let outcome = queued.outcome;
     let answer = outcome.answer;
     if answers::accepted(answer) {
-        if r.left == 0 {
+        if r.unread == 0 {
             return Run {
                 queued: queued,
-                left: len as u64,
+                unread: len as u64,
                 writing: true,
             };
         }
@@ -111,39 +111,39 @@ fn added(r: Run, len: usize) -> Run
 
 // A request as a whole write, of the next part of the buffer.
 fn write_one(r: Run, vol: &mut [u8], bytes: &[u8], q: Request) -> Run
-    requires { ⌜ (q .length ≤ r .left) × (r .left ≤ length (now bytes)) × (r .queued .outcome .done < 2 ^ 64 - 1) ⌝ }
+    requires { ⌜ (q .length ≤ r .unread) × (r .unread ≤ length (now bytes)) × (r .queued .outcome .done < 2 ^ 64 - 1) ⌝ }
     ensures { λ x. ⌜ (x ≡ wroteOne r (now (vol .entry)) (now (bytes .entry)) q) × (now (vol .exit) ≡ wroteVolume r (now (vol .entry)) (now (bytes .entry)) q) ⌝ }
 {
     let queued = r.queued;
     let outcome = queued.outcome;
     let d = queued.drive;
-    let at = bytes.len() - (r.left as usize);
+    let at = bytes.len() - (r.unread as usize);
     let end = at + (q.length as usize);
     let one = writing::write(d, vol, q.offset, &bytes[at..end]);
     let said = one.answer;
     if answers::accepted(said) {
         let next = one.drive;
-        return run_at(said, outcome.done + 1, next, r.left - q.length, true);
+        return run_at(said, outcome.done + 1, next, r.unread - q.length, true);
     }
     refused(r, said)
 }
 
 // One request of a pass. "stopping at the first refusal": then nothing more is done.
 fn step(r: Run, vol: &mut [u8], bytes: &[u8], q: Request) -> Run
-    requires { ⌜ (r .left ≤ length (now bytes)) × (r .queued .outcome .done < 2 ^ 64 - 1) ⌝ }
+    requires { ⌜ (r .unread ≤ length (now bytes)) × (r .queued .outcome .done < 2 ^ 64 - 1) ⌝ }
     ensures { λ x. ⌜ (x ≡ requestStep r (now (vol .entry)) (now (bytes .entry)) q) × (now (vol .exit) ≡ requestVolume r (now (vol .entry)) (now (bytes .entry)) q) ⌝ }
 {
     let queued = r.queued;
     let outcome = queued.outcome;
     let so_far = outcome.answer;
     if answers::accepted(so_far) {
-        if q.length <= r.left {
+        if q.length <= r.unread {
             if r.writing {
                 return write_one(r, vol, bytes, q);
             }
             return Run {
                 queued: queued,
-                left: r.left - q.length,
+                unread: r.unread - q.length,
                 writing: false,
             };
         }
@@ -154,7 +154,7 @@ fn step(r: Run, vol: &mut [u8], bytes: &[u8], q: Request) -> Run
 
 // One pass over the requests.
 fn pass<'v, 'b, 'r>(start: Run, vol: &'v mut [u8], bytes: &'b [u8], rs: &'r [Request]) -> Run
-    requires { ⌜ (start .left ≤ length (now bytes)) × (start .queued .outcome .done ≡ 0) ⌝ }
+    requires { ⌜ (start .unread ≤ length (now bytes)) × (start .queued .outcome .done ≡ 0) ⌝ }
     ensures { λ x. ⌜ (x ≡ passOf start (now (vol .entry)) (now (bytes .entry)) (now (rs .entry)) .run)
         × (now (vol .exit) ≡ passOf start (now (vol .entry)) (now (bytes .entry)) (now (rs .entry)) .vol) ⌝ }
 {
@@ -190,7 +190,7 @@ fn request_at(images: &[u8], at: usize) -> Request
 
 // One pass over requests of 16 bytes each.
 fn pass_images(start: Run, vol: &mut [u8], bytes: &[u8], images: &[u8]) -> Run
-    requires { ⌜ (start .left ≤ length (now bytes)) × (start .queued .outcome .done ≡ 0) ⌝ }
+    requires { ⌜ (start .unread ≤ length (now bytes)) × (start .queued .outcome .done ≡ 0) ⌝ }
     ensures { λ x. ⌜ (x ≡ passOf start (now (vol .entry)) (now (bytes .entry)) (requestsIn (now (images .entry))) .run)
         × (now (vol .exit) ≡ passOf start (now (vol .entry)) (now (bytes .entry)) (requestsIn (now (images .entry))) .vol) ⌝ }
 {
@@ -209,7 +209,7 @@ fn pass_images(start: Run, vol: &mut [u8], bytes: &[u8], images: &[u8]) -> Run
 fn uneven(d: Drive, held: usize) -> Queued
     ensures { λ r. ⌜ r ≡ unevenQueue d held ⌝ }
 {
-    let a = lent(d, held);
+    let a = measured(d, held);
     if answers::accepted(a) {
         return queued_at(Answer::PastEnd, 0, d);
     }

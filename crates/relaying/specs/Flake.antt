@@ -29,17 +29,17 @@ abbrev pub anew : Nugget → ℕ → ℕ → ℕ → List ℕ → List ℕ → L
 anew g f start o bytes l = overlaid start o bytes (openedFlake g f l)
 
 -- offset a lies among len bytes written from offset o on
-abbrev pub among : ℕ → ℕ → ℕ → Bool
-among o len a = both (leb o a) (ltb a (o + len))
+abbrev pub writtenAt : ℕ → ℕ → ℕ → Bool
+writtenAt o len a = both (leb o a) (ltb a (o + len))
 
 -- size bytes from offset start on meet them in n bytes, from byte `at` of the first and byte `from` of the others on
 pub record Met (start size o len at n from : ℕ) : Type 0 where
   pub room : at + n ≤ size
   pub short : from + n ≤ len
-  pub before : (i : ℕ) → i < at → among o len (start + i) ≡ false
-  pub inside : (i : ℕ) → at ≤ i → i < at + n → among o len (start + i) ≡ true
+  pub before : (i : ℕ) → i < at → writtenAt o len (start + i) ≡ false
+  pub inside : (i : ℕ) → at ≤ i → i < at + n → writtenAt o len (start + i) ≡ true
   pub byte : (i : ℕ) → at ≤ i → i < at + n → start + i - o ≡ from + (i - at)
-  pub behind : (i : ℕ) → at + n ≤ i → i < size → among o len (start + i) ≡ false
+  pub behind : (i : ℕ) → at + n ≤ i → i < size → writtenAt o len (start + i) ≡ false
 
 -- x laid over k but for the bytes from `at` to `end`
 unfoldable pub laidBeside : ℕ → ℕ → List ℕ → List ℕ → List ℕ

@@ -34,16 +34,16 @@ use Rattle.history.proofs.Steps.{sound}
 use Rattle.stores.specs.Store.{Store}
 use Rattle.stores.specs.Work.{laidStores, markStores, tendStores, workStores, headStores}
 use Rattle.stores.specs.Calls.{writeStores, beginStores, sweepStores, finishStores, storesOf}
-use Rattle.stores.specs.Once.{hits, times, StoredOnce, SweepOnce, WriteOnce}
+use Rattle.stores.specs.Once.{hits, storedTimes, StoredOnce, SweepOnce, WriteOnce}
 use Rattle.stores.proofs.OnceLaws.{hits-le, hits-join, times-append, times-one, times-none, times-to, times-marks, times-outside, times-alone}
 
 -- a list that is there only if a test holds
-times-pick : (b : Bool) (xs : List Store) (a : ℕ) → (b ≡ true → times xs a ≤ 1) → times (pick b xs []) a ≤ 1
+times-pick : (b : Bool) (xs : List Store) (a : ℕ) → (b ≡ true → storedTimes xs a ≤ 1) → storedTimes (pick b xs []) a ≤ 1
 times-pick true xs a h = h refl
 times-pick false xs a h = omega (arith, times-none a)
 
 -- the head alone
-times-head : (d : Drive) (a : ℕ) → length (d .salt) ≡ 16 → times (headStores d) a ≡ hits 0 104 a
+times-head : (d : Drive) (a : ℕ) → length (d .salt) ≡ 16 → storedTimes (headStores d) a ≡ hits 0 104 a
 unfolding headStores
 times-head d a salted = times-one 0 104 a (headOf d) (length-head d salted)
 
@@ -56,7 +56,7 @@ module _ (d e : Drive) (v : List ℕ) (way : ℕ → Way) (new : ℕ → ℕ →
   marked = markedTo s (d .epoch) way v (d .n) (laid s (d .salt) new (padsFor d v way) v)
 
   -- with no more stores in the tree than one for each byte
-  times-change : ((w : List ℕ) → times (tendStores s way (d .n) w) a ≤ hits (treeAt s) (flakesAt s) a) → times (workStores d v way new ++ headStores e) a ≤ 1
+  times-change : ((w : List ℕ) → storedTimes (tendStores s way (d .n) w) a ≤ hits (treeAt s) (flakesAt s) a) → storedTimes (workStores d v way new ++ headStores e) a ≤ 1
   unfolding workStores
   times-change tree =
       let flakes = laidStores s (d .salt) new (padsFor d v way) in
@@ -85,8 +85,8 @@ sweep-once start calls n a =
 
 -- a write of a history, by the stores that it makes in the tree
 times-write : (start : Start) (calls : List Call) (o : ℕ) (bytes : List ℕ) (a : ℕ) → let w = history start calls in let s = shapeOf (w .drive) in
-    (Shaped s (w .vol) → (u : List ℕ) → times (tendStores s (writeWay (w .drive) (w .vol) o (length bytes)) (s .n) u) a ≤ hits (treeAt s) (flakesAt s) a)
-    → times (storesOf w (write o bytes)) a ≤ 1
+    (Shaped s (w .vol) → (u : List ℕ) → storedTimes (tendStores s (writeWay (w .drive) (w .vol) o (length bytes)) (s .n) u) a ≤ hits (treeAt s) (flakesAt s) a)
+    → storedTimes (storesOf w (write o bytes)) a ≤ 1
 unfolding storesOf writeStores advanced
 times-write start calls o bytes a tree =
     let w = history start calls in

@@ -36,7 +36,7 @@ use Rattle.changes.proofs.CellLaws.{ordered}
 use Rattle.changes.proofs.LaidLaws.{Long}
 use Rattle.stores.specs.Store.{Store, store}
 use Rattle.stores.specs.Work.{flakeStores, entryStores, laidStores, recordStores, markStores, upStores, pathStores, tendStores}
-use Rattle.stores.specs.Once.{hits, times}
+use Rattle.stores.specs.Once.{hits, storedTimes}
 
 -- a place in a range, or outside it
 hits-told : (low high a : ℕ) → ((hits low high a ≡ 1) × (low ≤ a) × (a < high)) ⊎ ((hits low high a ≡ 0) × ((a < low) ⊎ (high ≤ a)))
@@ -74,34 +74,34 @@ hits-join low high from to a p q r =
     (hits-told low high a)
 
 -- lists one after the other, and a list that is there only if a test fails
-pub times-append : (xs ys : List Store) (a : ℕ) → times (xs ++ ys) a ≡ times xs a + times ys a
-unfolding times
+pub times-append : (xs ys : List Store) (a : ℕ) → storedTimes (xs ++ ys) a ≡ storedTimes xs a + storedTimes ys a
+unfolding storedTimes
 times-append [] ys a = omega arith
 times-append (x ∷ xs) ys a = rw (times-append xs ys a) (omega arith)
 
-pub times-none : (a : ℕ) → times [] a ≡ 0
-unfolding times
+pub times-none : (a : ℕ) → storedTimes [] a ≡ 0
+unfolding storedTimes
 times-none a = refl
 
-pub times-one : (at n a : ℕ) (l : List ℕ) → length l ≡ n → times (store at l ∷ []) a ≡ hits at (at + n) a
-unfolding times
+pub times-one : (at n a : ℕ) (l : List ℕ) → length l ≡ n → storedTimes (store at l ∷ []) a ≡ hits at (at + n) a
+unfolding storedTimes
 times-one at n a l e = rw e (omega arith)
 
-times-unless : (b : Bool) (xs : List Store) (a m : ℕ) → times xs a ≤ m → times (pick b [] xs) a ≤ m
+times-unless : (b : Bool) (xs : List Store) (a m : ℕ) → storedTimes xs a ≤ m → storedTimes (pick b [] xs) a ≤ m
 times-unless true xs a m h = omega (arith, times-none a)
 times-unless false xs a m h = h
 
 module _ (s : Shape) (salt : List ℕ) (new : ℕ → ℕ → List ℕ) (long : Long s new) (a : ℕ) where
   -- one flake and its tag
-  times-entry : (n k f : ℕ) (x : List ℕ) → n < s .n → f < s .p → times (entryStores s salt new (entry n k f x)) a ≡ hits (flakeAt s n f) (flakeAt s n f + s .f) a + hits (tagAt s n f) (tagAt s n f + 16) a
-  unfolding entryStores flakeStores times
+  times-entry : (n k f : ℕ) (x : List ℕ) → n < s .n → f < s .p → storedTimes (entryStores s salt new (entry n k f x)) a ≡ hits (flakeAt s n f) (flakeAt s n f + s .f) a + hits (tagAt s n f) (tagAt s n f + 16) a
+  unfolding entryStores flakeStores storedTimes
   times-entry n k f x h l =
       let lock = lockOf s salt (entry n k f x) in
       let stored = under lock f (s .f) (new n f) in
       rw (length-under lock f (s .f) (new n f), long n f h l, length-tag lock f stored) (omega arith)
 
-  times-laid : (xs ys : List Entry) → times (laidStores s salt new (xs ++ ys)) a ≡ times (laidStores s salt new xs) a + times (laidStores s salt new ys) a
-  unfolding laidStores times
+  times-laid : (xs ys : List Entry) → storedTimes (laidStores s salt new (xs ++ ys)) a ≡ storedTimes (laidStores s salt new xs) a + storedTimes (laidStores s salt new ys) a
+  unfolding laidStores storedTimes
   times-laid [] ys = omega arith
   times-laid (x ∷ xs) ys =
       times-append (entryStores s salt new x) (laidStores s salt new (xs ++ ys)) a
@@ -120,8 +120,8 @@ module _ (s : Shape) (salt : List ℕ) (new : ℕ → ℕ → List ℕ) (long : 
   flake-first n zero = omega arith
   flake-first n (suc p) = omega (arith, flake-first n p, flake-next n p)
 
-  times-pads : (n k : ℕ) (x : List ℕ) (g : ℕ → Bool) (p : ℕ) → n < s .n → p ≤ s .p → times (laidStores s salt new (padsOf n k x g p)) a ≤ Below n p
-  unfolding padsOf laidStores times
+  times-pads : (n k : ℕ) (x : List ℕ) (g : ℕ → Bool) (p : ℕ) → n < s .n → p ≤ s .p → storedTimes (laidStores s salt new (padsOf n k x g p)) a ≤ Below n p
+  unfolding padsOf laidStores storedTimes
   times-pads n k x g zero h l = omega arith
   times-pads n k x g (suc p) h l =
       let flake = hits-join (flakeAt s n 0) (flakeAt s n p) (flakeAt s n p) (flakeAt s n (suc p)) a (flake-first n p) (omega arith) (omega (arith, flake-next n p)) in
@@ -131,7 +131,7 @@ module _ (s : Shape) (salt : List ℕ) (new : ℕ → ℕ → List ℕ) (long : 
       (omega (arith, flake, tag, first, last (told (g p))))
     where
       last : (g p ≡ true) ⊎ (g p ≡ false)
-          → times (laidStores s salt new (pick (g p) (entry n k p x ∷ []) [])) a ≤ hits (flakeAt s n p) (flakeAt s n (suc p)) a + hits (tagAt s n p) (tagAt s n (suc p)) a
+          → storedTimes (laidStores s salt new (pick (g p) (entry n k p x ∷ []) [])) a ≤ hits (flakeAt s n p) (flakeAt s n (suc p)) a + hits (tagAt s n p) (tagAt s n (suc p)) a
       last (inl e) =
           let t : tagAt s n p + 16 ≡ tagAt s n (suc p) = omega arith in
           rw (e, times-append (entryStores s salt new (entry n k p x)) [] a, times-entry n k p x h l, flake-next n p, t) (omega (arith, times-none a))
@@ -150,8 +150,8 @@ module _ (s : Shape) (salt : List ℕ) (new : ℕ → ℕ → List ℕ) (long : 
   flake-low : (m : ℕ) → flakesAt s ≤ flakeAt s m 0
   flake-low m = omega arith
 
-  pub times-to : (way : ℕ → Way) (records : ℕ → Record) (x : List ℕ) (m : ℕ) → m ≤ s .n → times (laidStores s salt new (padsTo (s .p) way records x m)) a ≤ Upto m
-  unfolding padsTo padsBy laidStores times
+  pub times-to : (way : ℕ → Way) (records : ℕ → Record) (x : List ℕ) (m : ℕ) → m ≤ s .n → storedTimes (laidStores s salt new (padsTo (s .p) way records x m)) a ≤ Upto m
+  unfolding padsTo padsBy laidStores storedTimes
   times-to way records x zero h = omega arith
   times-to way records x (suc m) h =
       let k = keycountAfter (way m) (records m) in
@@ -168,14 +168,14 @@ module _ (s : Shape) (head : ℕ) (way : ℕ → Way) (v : List ℕ) (a : ℕ) w
   record-next : (n : ℕ) → recordAt s n + widthOf s ≡ recordAt s (suc n)
   record-next n = rw (suc-mul n (widthOf s)) (omega arith)
 
-  times-record : (n : ℕ) → times (recordStores s head (way n) (recordOf s v n) n) a ≤ hits (recordAt s n) (recordAt s (suc n)) a
+  times-record : (n : ℕ) → storedTimes (recordStores s head (way n) (recordOf s v n) n) a ≤ hits (recordAt s n) (recordAt s (suc n)) a
   unfolding recordStores
   times-record n =
       let bytes = recordBytes s (turned (way n) head (recordOf s v n)) in
       times-unless (idles (way n)) (store (recordAt s n) bytes ∷ []) a (hits (recordAt s n) (recordAt s (suc n)) a)
       (rw (times-one (recordAt s n) (widthOf s) a bytes (length-record s _), record-next n) (omega arith))
 
-  pub times-marks : (n : ℕ) → times (markStores s head way v n) a ≤ hits 104 (recordAt s n) a
+  pub times-marks : (n : ℕ) → storedTimes (markStores s head way v n) a ≤ hits 104 (recordAt s n) a
   unfolding markStores
   times-marks zero = omega (arith, times-none a)
   times-marks (suc n) =
@@ -184,7 +184,7 @@ module _ (s : Shape) (head : ℕ) (way : ℕ → Way) (v : List ℕ) (a : ℕ) w
 
 -- nodes
 module _ (s : Shape) (a : ℕ) where
-  pub times-up : (k i : ℕ) (w : List ℕ) → Rises k i → times (upStores s k i w) a ≤ hits (treeAt s) (nodeAt s i + 32) a
+  pub times-up : (k i : ℕ) (w : List ℕ) → Rises k i → storedTimes (upStores s k i w) a ≤ hits (treeAt s) (nodeAt s i + 32) a
   unfolding upStores
   times-up zero i w r = omega (arith, times-none a)
   times-up (suc k) i w r =
@@ -196,7 +196,7 @@ module _ (s : Shape) (a : ℕ) where
       (omega (arith, up, wide, join))
 
   module _ (v : List ℕ) (lent : Shaped s v) where
-    times-path : (way : Way) (n : ℕ) (w : List ℕ) → n < s .n → times (pathStores s way n w) a ≤ hits (treeAt s) (flakesAt s) a
+    times-path : (way : Way) (n : ℕ) (w : List ℕ) → n < s .n → storedTimes (pathStores s way n w) a ≤ hits (treeAt s) (flakesAt s) a
     unfolding pathStores
     times-path way n w h =
         let small = lent-small lent in
@@ -205,12 +205,12 @@ module _ (s : Shape) (a : ℕ) where
         times-unless (idles way) (upStores s (suc (heightOf (s .n))) (leaves (s .n) + n) w) a (hits (treeAt s) (flakesAt s) a) (omega (arith, up, wide))
 
     -- an idle nugget has no path to renew
-    times-idle : (way : Way) (n : ℕ) (w : List ℕ) → idles way ≡ true → times (pathStores s way n w) a ≡ 0
+    times-idle : (way : Way) (n : ℕ) (w : List ℕ) → idles way ≡ true → storedTimes (pathStores s way n w) a ≡ 0
     unfolding pathStores
-    times-idle way n w e = ap (λ (xs : List Store). times xs a) (yes _ e refl) ∙ times-none a
+    times-idle way n w e = ap (λ (xs : List Store). storedTimes xs a) (yes _ e refl) ∙ times-none a
 
     -- outside the tree no node is stored
-    pub times-outside : (way : ℕ → Way) (n : ℕ) (w : List ℕ) → n ≤ s .n → (a < treeAt s) ⊎ (flakesAt s ≤ a) → times (tendStores s way n w) a ≡ 0
+    pub times-outside : (way : ℕ → Way) (n : ℕ) (w : List ℕ) → n ≤ s .n → (a < treeAt s) ⊎ (flakesAt s ≤ a) → storedTimes (tendStores s way n w) a ≡ 0
     unfolding tendStores
     times-outside way zero w h out = times-none a
     times-outside way (suc n) w h out =
@@ -220,14 +220,14 @@ module _ (s : Shape) (a : ℕ) where
 
     -- one nugget alone is changed
     pub times-alone : (way : ℕ → Way) (one n : ℕ) (w : List ℕ) → n ≤ s .n → ((m : ℕ) → (m ≡ one → ⊥) → idles (way m) ≡ true)
-        → (times (tendStores s way n w) a ≤ hits (treeAt s) (flakesAt s) a) × (n ≤ one → times (tendStores s way n w) a ≡ 0)
+        → (storedTimes (tendStores s way n w) a ≤ hits (treeAt s) (flakesAt s) a) × (n ≤ one → storedTimes (tendStores s way n w) a ≡ 0)
     unfolding tendStores
     times-alone way one zero w h idle = (omega (arith, times-none a), λ l. times-none a)
     times-alone way one (suc n) w h idle =
         let before = times-alone way one n w (omega (arith, h)) idle in
         let last = pathStores s (way n) n (tendedTo s way n w) in
         let path = times-path (way n) n (tendedTo s way n w) (omega (arith, h)) in
-        let none : (n ≡ one → ⊥) → times last a ≡ 0 = λ q. times-idle (way n) n (tendedTo s way n w) (idle n q) in (
+        let none : (n ≡ one → ⊥) → storedTimes last a ≡ 0 = λ q. times-idle (way n) n (tendedTo s way n w) (idle n q) in (
           rw (times-append (tendStores s way n w) last a)
               (⊎-elim (λ past. omega (arith, before .0, none (λ q. omega (arith, q, past)))) (λ low. omega (arith, before .1 low, path)) (ordered one n)),
           λ l. times-append (tendStores s way n w) last a ∙ rw (before .1 (omega (arith, l)), none (λ q. omega (arith, q, l))) refl,

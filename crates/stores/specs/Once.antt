@@ -21,24 +21,24 @@ unfoldable pub hits : ℕ → ℕ → ℕ → ℕ
 hits low high a = pick (both (leb low a) (ltb a high)) 1 0
 
 -- how many stores of the list store byte a
-unfoldable pub times : List Store → ℕ → ℕ
-times [] a = 0
-times (x ∷ xs) a = hits (x .at) (x .at + length (x .bytes)) a + times xs a
+unfoldable pub storedTimes : List Store → ℕ → ℕ
+storedTimes [] a = 0
+storedTimes (x ∷ xs) a = hits (x .at) (x .at + length (x .bytes)) a + storedTimes xs a
 
 -- Over every history: no call stores a byte twice, but in the tree, where the paths of two nuggets meet.
 abbrev pub StoredOnce : Type 0
 StoredOnce =
     (start : Start) (calls : List Call) (c : Call) (a : ℕ)
     → let w = history start calls in
-    (a < treeAt (shapeOf (w .drive))) ⊎ (flakesAt (shapeOf (w .drive)) ≤ a) → times (storesOf w c) a ≤ 1
+    (a < treeAt (shapeOf (w .drive))) ⊎ (flakesAt (shapeOf (w .drive)) ≤ a) → storedTimes (storesOf w c) a ≤ 1
 
 -- A sweep stores no byte twice.
 abbrev pub SweepOnce : Type 0
-SweepOnce = (start : Start) (calls : List Call) (n a : ℕ) → times (storesOf (history start calls) (sweep n)) a ≤ 1
+SweepOnce = (start : Start) (calls : List Call) (n a : ℕ) → storedTimes (storesOf (history start calls) (sweep n)) a ≤ 1
 
 -- Nor does a write that changes one nugget.
 abbrev pub WriteOnce : Type 0
 WriteOnce =
     (start : Start) (calls : List Call) (o : ℕ) (bytes : List ℕ) (n a : ℕ)
     → let w = history start calls in
-    ((m : ℕ) → (m ≡ n → ⊥) → idles (writeWay (w .drive) (w .vol) o (length bytes) m) ≡ true) → times (storesOf w (write o bytes)) a ≤ 1
+    ((m : ℕ) → (m ≡ n → ⊥) → idles (writeWay (w .drive) (w .vol) o (length bytes) m) ≡ true) → storedTimes (storesOf w (write o bytes)) a ≤ 1

@@ -24,9 +24,10 @@ use Rattle.records.specs.declared.Gauge.{Gauge}
 use Rattle.nodes.specs.Nodes.{nodeIn, leafOf, innerOf, recordPart, tagsPart}
 use Rattle.nodes.specs.Alike.{Alike}
 use Rattle.tree.specs.Path.{pathOf}
+use Rattle.heaps.specs.Paths as Paths
 use Rattle.tree.specs.Good.{upward, onPath}
 use Rattle.tree.proofs.PathLaws.{path-belongs}
-use Rattle.tree.proofs.UpwardLaws.{upward-le}
+use Rattle.heaps.proofs.PathLaws.{upward-le}
 use Rattle.drive.specs.declared.Drive.{Drive}
 use Rattle.drive.specs.Drive.{shapeOf, gaugeOf}
 use Rattle.twins.specs.Collision.{messageOf, Collision}
@@ -39,7 +40,7 @@ use Rattle.twins.proofs.AnswerLaws.{judged}
 -- every node of a path that passes is the hash of its message
 path-hashes : (s : Shape) (g : Gauge) (v : List ℕ) (n i : ℕ) → Shaped s v → n < s .n → pathOf s g v n ≡ A.Accepted → onPath s n i ≡ true
     → nodeIn s v i ≡ blake2s [] (messageOf s v i)
-unfolding onPath upward leafOf innerOf
+unfolding Paths.onPath upward leafOf innerOf
 path-hashes s g v n i l h e on =
     let b = path-belongs s g v n l h e in
     go (b .leaf) (b .above i) (either-told (eqb (leaves (s .n) + n) i) (upward (heightOf (s .n)) ((leaves (s .n) + n) / 2) i) on)
@@ -60,7 +61,7 @@ module _ (s : Shape) (v w : List ℕ) (n : ℕ) (lv : Shaped s v) (lw : Shaped s
   met = paths-meet s v w n lv h top
 
   met-path : onPath s n (meeting s v w n) ≡ true
-  unfolding onPath
+  unfolding Paths.onPath
   met-path = met .on
 
   met-alike : (g g′ : Gauge) → pathOf s g v n ≡ A.Accepted → pathOf s g′ w n ≡ A.Accepted

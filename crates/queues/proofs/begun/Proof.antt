@@ -6,8 +6,8 @@ use borrow.Author.Needs.{needs}
 use Rattle.queues.proofs.begun.Statement.{statement}
 use Rattle.queues.proofs.begun.Tie as tie
 
-lent-requires : tie.Need-lent-requires
-lent-requires c κs = search needs
+measured-requires : tie.Need-measured-requires
+measured-requires c κs = search needs
 
 run-at-requires : tie.Need-run-at-requires
 run-at-requires c κs = search needs
@@ -15,7 +15,7 @@ run-at-requires c κs = search needs
 returns : tie.Need-returns
 returns c =
     let a = c .before .before .args in
-    c .run-at .ensures ∙ ap (λ (x : Answer). runAt x 0 (a .d) (a .len) false) (c .before .lent .ensures)
+    c .run-at .ensures ∙ ap (λ (x : Answer). runAt x 0 (a .d) (a .len) false) (c .before .measured .ensures)
 
 pub begun-spec : {M : Type 1} → statement M
-begun-spec = tie.close (tie.spec lent-requires run-at-requires returns)
+begun-spec = tie.close (tie.spec measured-requires run-at-requires returns)

@@ -10,7 +10,7 @@ use Rattle.queues.proofs.pass_images.Tie as tie
 
 abbrev Inv-loop : tie.InvT-loop
 Inv-loop vol₀ bytes images n r₀ i₀ vol r i =
-    (i ≤ n) × (length vol ≡ length vol₀) × (r .left ≤ length bytes) × (r .queued .outcome .done ≤ i)
+    (i ≤ n) × (length vol ≡ length vol₀) × (r .unread ≤ length bytes) × (r .queued .outcome .done ≤ i)
     × (passOf r vol bytes (drop i (requestsIn images)) ≡ passOf r₀ vol₀ bytes (requestsIn images))
 
 abbrev μ-loop : tie.MeasureT-loop

@@ -11,10 +11,10 @@ queued-at-requires : tie.Need-queued-at-requires
 queued-at-requires c κs = search needs
 
 abbrev over : ℕ → Bool → Queued → Run
-over left writing z = record { queued = z; left = left; writing = writing }
+over unread writing z = record { queued = z; unread = unread; writing = writing }
 
 returns : tie.Need-returns
-returns c = ap (over (c .before .args .left) (c .before .args .writing)) (c .queued-at .ensures)
+returns c = ap (over (c .before .args .unread) (c .before .args .writing)) (c .queued-at .ensures)
 
 pub run-at-spec : {M : Type 1} → statement M
 run-at-spec = tie.close (tie.spec queued-at-requires returns)

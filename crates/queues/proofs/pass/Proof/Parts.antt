@@ -67,4 +67,4 @@ none = record { offset = 0; length = 0 }
 
 -- what the function asks of its caller
 abbrev pub Starts : Run → List ℕ → Type 0
-Starts r bs = (r .left ≤ length bs) × (r .queued .outcome .done ≡ 0)
+Starts r bs = (r .unread ≤ length bs) × (r .queued .outcome .done ≡ 0)

@@ -117,7 +117,7 @@ module _ {M : Type 1} (𝓤 : URA M) (H : Heap 𝓤) (A : Atoms 𝓤) (W : Given
   abbrev to-core : Run → List ℕ → Request → ℕ → GName → Core 𝓤 H A mem run .Ghost
   to-core r l it ν δ = (((ν ∷ [], (κ₁, tt)), (fullShare, (q₁, tt)), tt, (r, (v δ l, (y, (it, tt)))), (machU r ∷ [], (sliceVal (b, o) (length l) ∷ [], (slice-vals y, (mach it ∷ [], tt))))), tt)
 
-  goes : (r : Run) (l : List ℕ) (it : Request) (ν : ℕ) (δ : GName) → Is U.the-row r (machU r ∷ []) → Is R.the-row it (mach it ∷ []) → (r .left ≤ length (now y)) × (r .queued .outcome .done < 2 ^ 64 - 1)
+  goes : (r : Run) (l : List ℕ) (it : Request) (ν : ℕ) (δ : GName) → Is U.the-row r (machU r ∷ []) → Is R.the-row it (mach it ∷ []) → (r .unread ≤ length (now y)) × (r .queued .outcome .done < 2 ^ 64 - 1)
       → ent 𝓤 (⋆ 𝓤 H A ((‵ (flft (ν ∷ []) fullShare) ⊛ ‵ (flft κ₁ q₁)) ∷ ‵ (Lent ν δ l) ∷ ‵ Bytes ∷ [])) (Core 𝓤 H A mem run .pre (to-core r l it ν δ))
   goes r l it ν δ g h ok =
       qed W ((‵ (flft (ν ∷ []) fullShare) ⊛ ‵ (flft κ₁ q₁)) ∷ ‵ (Lent ν δ l) ∷ ‵ Bytes ∷ []) ∵ split ! $
@@ -127,7 +127,7 @@ module _ {M : Type 1} (𝓤 : URA M) (H : Heap 𝓤) (A : Atoms 𝓤) (W : Given
 
   -- where the loop stands: the index, the run, the volume's list, what is known of them, and what is left to do
   abbrev Upto : Type 0
-  Upto = (i : ℕ) × (r : Run) × (l : List ℕ) × (i ≤ n) × Is U.the-row r (machU r ∷ []) × (length l ≡ m) × (r .left ≤ length (now y)) × (r .queued .outcome .done ≤ i) × (passOf r l (now y) (drop i ys) ≡ all)
+  Upto = (i : ℕ) × (r : Run) × (l : List ℕ) × (i ≤ n) × Is U.the-row r (machU r ∷ []) × (length l ≡ m) × (r .unread ≤ length (now y)) × (r .queued .outcome .done ≤ i) × (passOf r l (now y) (drop i ys) ≡ all)
 
   abbrev Nearer : Upto → Upto → Type 0
   Nearer j i = n - j .0 < n - i .0
@@ -214,7 +214,7 @@ module _ {M : Type 1} (𝓤 : URA M) (H : Heap 𝓤) (A : Atoms 𝓤) (W : Given
         Says : Run → List ℕ → Type 0
         Says s k = (s ≡ requestStep (t .1) l (now y) it) × (k ≡ requestVolume (t .1) l (now y) it)
 
-        bounded : (s : Run) {k : List ℕ} → Says s k → (s .left ≤ length (now y)) × (s .queued .outcome .done ≤ t .0 + 1)
+        bounded : (s : Run) {k : List ℕ} → Says s k → (s .unread ≤ length (now y)) × (s .queued .outcome .done ≤ t .0 + 1)
         bounded s f = turn-bounds (t .1) l (now y) it (length (now y)) (t .0) (f .0) (t .6) (t .7)
 
         few : t .1 .queued .outcome .done < 2 ^ 64 - 1
