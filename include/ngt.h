@@ -57,7 +57,7 @@ uint32_t ngt_export(const uint8_t drive[144], const uint8_t *vol, size_t vol_len
                     uint8_t *out, size_t out_len, uint8_t answer[16]);
 
 /* Such a buffer decrypted and written whole at offset 0: the same refusals up to 10, then as that one write. It needs 4,608 bytes of
- * stack for the sectors of one flake; in is only read. */
+ * stack for the sectors of one flake, and leaves the last ones there: a host that cares wipes its stack. in is only read. */
 uint32_t ngt_import(uint8_t drive[144], uint8_t *vol, size_t vol_len, const uint8_t data[32], const uint8_t tweak[32],
                     const uint8_t *in, size_t in_len, uint8_t answer[16]);
 
