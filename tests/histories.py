@@ -58,7 +58,7 @@ def main():
             met += counted
             for words in missed:
                 tally.same("the second program", words, False, True)
-    for name in NAMES:
+    for name in garbage.POSSIBLE:
         print(told(name, met))
     for kind in wanted():
         tally.same("how often was met", kind, met[kind] >= LEAST, True)
