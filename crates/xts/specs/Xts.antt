@@ -28,7 +28,7 @@ unfoldable pub overBlocks : (List ℕ → List ℕ) → ℕ → List ℕ → Lis
 overBlocks f zero t d = []
 overBlocks f (suc n) t d = blockBy f t (take 16 d) ++ overBlocks f n (timesAlpha t) (drop 16 d)
 
--- 5.3.1: "T = AES-enc(Key2, i)", i lowest byte first in sixteen bytes
+-- 5.3.1: the number of the sector, lowest byte first in sixteen bytes, through AES under the second key
 unfoldable pub tweakUnder : List ℕ → ℕ → List ℕ
 tweakUnder w i = cipher w (le 8 i ++ replicate 8 0)
 
