@@ -59,13 +59,13 @@ unfolding entryIn
 entry-told b c i e = ap entryFrom (row-told entryRow (entryAt i) b c e)
 
 -- each number has its 4 bytes
-abbrev pub Narrow : Counts → Type 0
-Narrow c = (c .moved < 2 ^ 32) × (c .flakes < 2 ^ 32) × (c .done < 2 ^ 32)
+abbrev pub FitsFour : Counts → Type 0
+FitsFour c = (c .moved < 2 ^ 32) × (c .flakes < 2 ^ 32) × (c .done < 2 ^ 32)
 
-fit : (c : Counts) → Narrow c → AllFit entryRow (entryValues c)
+fit : (c : Counts) → FitsFour c → AllFit entryRow (entryValues c)
 fit c q = q .0 & q .1 & q .2 & tt
 
-pub entry-read : (b : List ℕ) (i : ℕ) (c : Counts) → Narrow c → entryPart b i ≡ entryBytes c → entryIn b i ≡ c
+pub entry-read : (b : List ℕ) (i : ℕ) (c : Counts) → FitsFour c → entryPart b i ≡ entryBytes c → entryIn b i ≡ c
 unfolding entryIn entryBytes
 entry-read b i c q e =
     ap entryFrom
@@ -80,7 +80,7 @@ count-few epoch r = go (eqb (r .epoch) epoch) (flakeCount 64 (r .held)) (present
     go true k h = (omega arith, h, h)
     go false k h = (omega arith, h, omega arith)
 
-rolled-narrow : (a b : Counts) → Narrow (rolled a b)
+rolled-narrow : (a b : Counts) → FitsFour (rolled a b)
 unfolding rolled
 rolled-narrow a b = (omega arith, omega arith, omega arith)
 
@@ -109,10 +109,10 @@ leaf-few s epoch v i = go (told (ltb i (leaves (s .n) + s .n)))
     go (inl e) = rw (leaf-nugget s epoch v i (ltb-true _ _ e)) (count-few epoch (recordOf s v (i - leaves (s .n))))
     go (inr e) = rw (leaf-past s epoch v i (ltb-false _ _ e)) (omega arith, omega arith, omega arith)
 
-pub beneath-narrow : (s : Shape) (epoch : ℕ) (v b : List ℕ) (i : ℕ) → Narrow (beneath s epoch v b i)
+pub beneath-narrow : (s : Shape) (epoch : ℕ) (v b : List ℕ) (i : ℕ) → FitsFour (beneath s epoch v b i)
 beneath-narrow s epoch v b i = go (told (ltb i (leaves (s .n))))
   where
-    go : (ltb i (leaves (s .n)) ≡ true) ⊎ (ltb i (leaves (s .n)) ≡ false) → Narrow (beneath s epoch v b i)
+    go : (ltb i (leaves (s .n)) ≡ true) ⊎ (ltb i (leaves (s .n)) ≡ false) → FitsFour (beneath s epoch v b i)
     go (inl e) = rw (beneath-two s epoch v b i (ltb-true _ _ e)) (rolled-narrow (entryIn b (2 * i)) (entryIn b (2 * i + 1)))
     go (inr e) =
         let few = leaf-few s epoch v i in

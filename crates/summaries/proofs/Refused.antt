@@ -26,7 +26,7 @@ module _ (d : Drive) (v b : List ℕ) where
   renew-refused n h = sym (renew-leaves d v b n refl h)
 
   pub top-refused : accepts (topAnswer d v (length b)) ≡ false → topReport d v b ≡ refused (topAnswer d v (length b))
-  top-refused h = sym (Top.top-refused d v b refl h)
+  top-refused h = sym (Top.refused-top d v b refl h)
 
 -- "2 if the buffer isn't 12 × (2L - 1) bytes, after the volume's own 2", before any test of the head
 pub other-length : (d : Drive) (v : List ℕ) (len n : ℕ) → accepts (measureOf d v) ≡ true → (len ≡ summaryLength (d .n) → ⊥)

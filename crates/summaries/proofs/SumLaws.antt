@@ -27,12 +27,12 @@ counts-are m f d = λ i. record { moved = m i; flakes = f i; done = d i }
 
 module _ (s : Shape) (epoch : ℕ) (v : List ℕ) where
   -- the first k leaves
-  unfoldable pub upTo : ℕ → Counts
-  upTo zero = none
-  upTo (suc k) = plus (upTo k) (atLeaf s epoch v (leaves (s .n) + k))
+  unfoldable pub leavesTo : ℕ → Counts
+  leavesTo zero = none
+  leavesTo (suc k) = plus (leavesTo k) (atLeaf s epoch v (leaves (s .n) + k))
 
-  up-few : (k : ℕ) → (upTo k .moved ≤ k) × (upTo k .flakes ≤ 64 * k) × (upTo k .done ≤ 64 * k)
-  unfolding upTo
+  up-few : (k : ℕ) → (leavesTo k .moved ≤ k) × (leavesTo k .flakes ≤ 64 * k) × (leavesTo k .done ≤ 64 * k)
+  unfolding leavesTo
   up-few zero = (omega arith, omega arith, omega arith)
   up-few (suc k) =
       let few = leaf-few s epoch v (leaves (s .n) + k) in
@@ -40,24 +40,24 @@ module _ (s : Shape) (epoch : ℕ) (v : List ℕ) where
       (omega (arith, few .0, h .0), omega (arith, few .1, h .1), omega (arith, few .2, h .2))
 
   -- those of the nuggets count for the records, those behind them for nothing
-  up-records : (k : ℕ) → k ≤ s .n → upTo k ≡ countsIn s 64 epoch v k
-  unfolding upTo countsIn
+  up-records : (k : ℕ) → k ≤ s .n → leavesTo k ≡ countsIn s 64 epoch v k
+  unfolding leavesTo countsIn
   up-records zero h = refl
   up-records (suc k) h =
       let e : leaves (s .n) + k - leaves (s .n) ≡ k = omega arith in
       ap₂ plus (up-records k (omega arith)) (leaf-nugget s epoch v (leaves (s .n) + k) (omega arith) ∙ ap (λ (m : ℕ). countOf 64 epoch (recordOf s v m)) e)
 
-  up-next : (k : ℕ) → s .n ≤ k → upTo (suc k) ≡ upTo k
-  unfolding upTo
+  up-next : (k : ℕ) → s .n ≤ k → leavesTo (suc k) ≡ leavesTo k
+  unfolding leavesTo
   up-next k h = rw (leaf-past s epoch v (leaves (s .n) + k) (omega arith)) (counts-are (omega arith) (omega arith) (omega arith))
 
-  up-past : (j : ℕ) → upTo (s .n + j) ≡ upTo (s .n)
+  up-past : (j : ℕ) → leavesTo (s .n + j) ≡ leavesTo (s .n)
   up-past zero = let e : s .n + zero ≡ s .n = omega arith in rw e
   up-past (suc j) =
       let e : s .n + suc j ≡ suc (s .n + j) = omega arith in
       rw e (up-next (s .n + j) (omega arith)) ∙ up-past j
 
-  up-all : Small s → upTo (leaves (s .n)) ≡ countsIn s 64 epoch v (s .n)
+  up-all : Small s → leavesTo (leaves (s .n)) ≡ countsIn s 64 epoch v (s .n)
   up-all few =
       let e : s .n + (leaves (s .n) - s .n) ≡ leaves (s .n) = omega (arith, few .enough-leaves) in
       rw e at (up-past (leaves (s .n) - s .n)) ∙ up-records (s .n) (omega arith)
@@ -81,23 +81,23 @@ module _ (s : Shape) (epoch : ℕ) (v : List ℕ) where
         go l m h y z low a c = omega arith
 
     -- the entry of node i is what lies between the first leaf below it and the one behind the last
-    pub between : (h i lo hi : ℕ) → HasHeight s h i → lo + leaves (s .n) ≡ i * 2 ^ h → hi + leaves (s .n) ≡ (i + 1) * 2 ^ h → plus (upTo lo) (entryIn b i) ≡ upTo hi
-    unfolding upTo
+    pub between : (h i lo hi : ℕ) → HasHeight s h i → lo + leaves (s .n) ≡ i * 2 ^ h → hi + leaves (s .n) ≡ (i + 1) * 2 ^ h → plus (leavesTo lo) (entryIn b i) ≡ leavesTo hi
+    unfolding leavesTo
     between zero i lo hi t p q =
         let e : hi ≡ suc lo = omega arith in
         let at : i ≡ leaves (s .n) + lo = omega arith in
-        rw e (ap (λ (c : Counts). plus (upTo lo) c) (own i (stands-some s 0 i t) (stands-last s 0 i t) ∙ beneath-leaf s epoch v b i (stands-bottom s i t) ∙ ap (atLeaf s epoch v) at))
+        rw e (ap (λ (c : Counts). plus (leavesTo lo) c) (own i (stands-some s 0 i t) (stands-last s 0 i t) ∙ beneath-leaf s epoch v b i (stands-bottom s i t) ∙ ap (atLeaf s epoch v) at))
     between (suc h) i lo hi t p q =
         let mid = lo + 2 ^ h in
         let e = pow-suc 2 h in
         let left = between h (2 * i) lo mid (stands-left s h i t) (omega (arith, rw e at p)) (omega (arith, rw e at p)) in
         let right = between h (2 * i + 1) mid hi (stands-right s h i t) (omega (arith, rw e at p)) (omega (arith, rw e at q)) in
         rw (own i (stands-some s (suc h) i t) (stands-last s (suc h) i t), beneath-two s epoch v b i (stands-inner s h i t))
-        (joins (upTo lo) (upTo mid) (upTo hi) (entryIn b (2 * i)) (entryIn b (2 * i + 1)) hi (omega (arith, rw e at q, t .last, rw e at (t .last), few .few-leaves)) (up-few hi) left right)
+        (joins (leavesTo lo) (leavesTo mid) (leavesTo hi) (entryIn b (2 * i)) (entryIn b (2 * i + 1)) hi (omega (arith, rw e at q, t .last, rw e at (t .last), few .few-leaves)) (up-few hi) left right)
 
     -- "A report from the top entry"
     pub top-counts : entryIn b 1 ≡ countsIn s 64 epoch v (s .n)
-    unfolding upTo
+    unfolding leavesTo
     top-counts = zero-plus (entryIn b 1) ∙ between (heightOf (s .n)) 1 0 (leaves (s .n)) (stands-top s) (omega arith) (omega arith) ∙ up-all few
       where
         zero-plus : (c : Counts) → c ≡ plus none c

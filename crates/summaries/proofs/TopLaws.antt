@@ -40,9 +40,9 @@ module _ (d : Drive) (v b : List ℕ) where
   unfolding topReport
   top-accepted ea q ec el eh = rw (el, eh, ec, ea) (sym (yes _ (rw ea at q) refl))
 
-  pub top-refused : {a : Answer} → a ≡ topAnswer d v (length b) → accepts a ≡ false → refused a ≡ topReport d v b
+  pub refused-top : {a : Answer} → a ≡ topAnswer d v (length b) → accepts a ≡ false → refused a ≡ topReport d v b
   unfolding topReport
-  top-refused ea q = rw ea (sym (no _ (rw ea at q) refl))
+  refused-top ea q = rw ea (sym (no _ (rw ea at q) refl))
 
   -- with a buffer as long as it has to be the top report ends with the head
   pub top-opening : length b ≡ summaryLength (d .n) → topAnswer d v (length b) ≡ openingOf d v

@@ -4,7 +4,7 @@ use lib.ListN.{length}
 use Rattle.answers.specs.Numbers.{accepts}
 use Rattle.layout.proofs.Limits.{lent-small}
 use Rattle.summaries.proofs.AnswerLaws.{top-told}
-use Rattle.summaries.proofs.TopLaws.{top-accepted, top-refused}
+use Rattle.summaries.proofs.TopLaws.{top-accepted, refused-top}
 use borrow.Author.Needs.{needs}
 use Rattle.summaries.proofs.top.Statement.{statement}
 use Rattle.summaries.proofs.top.Tie as tie
@@ -36,7 +36,7 @@ returns c =
 returns-2 : tie.Need-returns-2
 returns-2 c =
     let a = c .before .before .before .before .before .args in
-    top-refused (a .d) (a .vol .now) (a .sum .now) (c .before .before .top-answer .ensures) (sym (c .before .accepted .ensures) ∙ c .if1 .left)
+    refused-top (a .d) (a .vol .now) (a .sum .now) (c .before .before .top-answer .ensures) (sym (c .before .accepted .ensures) ∙ c .if1 .left)
 
 pub top-spec : {M : Type 1} → statement M
 top-spec =
