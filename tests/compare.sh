@@ -4,10 +4,7 @@
 set -euo pipefail
 cd "$(dirname "$0")/.."
 object=${2:-target/staticlib/libngt.a}
-if [ ! -e "$object" ] || [ -n "$(find crates crates.txt -newer "$object" -print -quit)" ]; then
-    mkdir -p target/compare
-    rt staticlib ngt >target/compare/library.log 2>&1 || { tail -n 20 target/compare/library.log; exit 1; }
-fi
+[ $# -gt 1 ] || tests/archive.sh ngt
 compiler=(gcc)
 [ "$(uname -m)" = x86_64 ] || compiler=(x86_64-linux-gnu-gcc -static)
 mkdir -p "$(dirname "$1")"

@@ -1,13 +1,13 @@
 """docs/HANDBOOK.md does as written: each row's lines give its number, made of the second program and of the proved library
 beside it; its program in C prints 15; its classes are those of the lines; what the row of 14 cites is proved.
 """
-import platform
 import re
 import subprocess
 import sys
 
 from beside import Beside
 from proved import ROOT, Tally, library
+import shipped
 
 import run as runner
 from sheet import class_of
@@ -33,13 +33,7 @@ def program(tally):
     """The page's program in C, against the archive as it is shipped."""
     MADE.mkdir(parents=True, exist_ok=True)
     (MADE / "epoch.c").write_text(re.search(r"^```c\n(.*?)^```$", PAGE, re.M | re.S).group(1))
-    subprocess.run(["rt", "staticlib", "ngt"], cwd=ROOT, check=True, capture_output=True)
-    native = platform.machine() == "x86_64"
-    compiler = ["gcc"] if native else ["x86_64-linux-gnu-gcc", "-static"]
-    words = ["-O2", "-Wall", "-Wextra", "-Werror", "-std=c11", "-I", str(ROOT / "include"), "-o", str(MADE / "epoch")]
-    subprocess.run([*compiler, *words, str(MADE / "epoch.c"), str(ROOT / "target/staticlib/libngt.a")], check=True)
-    run = [] if native else ["qemu-x86_64"]
-    said = subprocess.run([*run, str(MADE / "epoch")], capture_output=True, text=True)
+    said = subprocess.run(shipped.program(MADE / "epoch.c", MADE / "epoch"), capture_output=True, text=True)
     tally.same("the program in C", "15", (said.returncode, said.stdout), (0, "15\n"))
 
 

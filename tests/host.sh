@@ -4,7 +4,7 @@ set -euo pipefail
 cd "$(dirname "$0")/.."
 made=target/host
 mkdir -p "$made"
-rt staticlib ngt >"$made/library.log" 2>&1 || { tail -n 20 "$made/library.log"; exit 1; }
+tests/archive.sh ngt
 compiler=(gcc) run=()
 if [ "$(uname -m)" != x86_64 ]; then
     compiler=(x86_64-linux-gnu-gcc -static) run=(qemu-x86_64)

@@ -4,14 +4,15 @@
 # that the toolchain compiles is compiled once more, by the same compiler at the same level, for the processor at hand.
 # With a third word that module is kept there.
 set -euo pipefail
+cd "$(dirname "$0")/.."
 crate=$1 out=$2 module=${3:-}
 machine=$(uname -m)
 if [ "$machine" = x86_64 ]; then
-    if [ -n "$module" ]; then bash "$(dirname "$0")/module.sh" "$crate" "$module"; else rt staticlib "$crate"; fi
+    if [ -n "$module" ]; then bash tests/module.sh "$crate" "$module"; else tests/archive.sh "$crate"; fi
     cp "target/staticlib/lib$crate.a" "$out"
     exit 0
 fi
-[ -n "$module" ] || { module=$(mktemp) && trap 'rm -f "$module"' EXIT; }
-bash "$(dirname "$0")/module.sh" "$crate" "$module"
+tests/archive.sh "$crate"
+[ -z "$module" ] || cp "target/staticlib/$crate.bc" "$module"
 compiler=$(dirname "$(dirname "$(rt doc)")")/on/$machine/toolchain/bin/clang
-"$compiler" --target="$machine-unknown-linux-gnu" -O3 -fPIC -Wno-override-module -c -x ir "$module" -o "$out" 2>/dev/null
+"$compiler" --target="$machine-unknown-linux-gnu" -O3 -fPIC -Wno-override-module -c -x ir "target/staticlib/$crate.bc" -o "$out" 2>/dev/null

@@ -1,5 +1,6 @@
 """The proved functions of an exporting crate, for the processor at hand, called by ctypes."""
 import ctypes
+import fcntl
 import os
 import pathlib
 import subprocess
@@ -8,6 +9,7 @@ import time
 
 ROOT = pathlib.Path(__file__).resolve().parent.parent
 SEED = int(os.environ.get("NGT_SEED", "1"))
+MAKERS = ROOT / "tests/native.sh", ROOT / "tests/archive.sh"
 
 
 def is_stale(shared):
@@ -15,7 +17,7 @@ def is_stale(shared):
     if not shared.exists():
         return True
     made = shared.stat().st_mtime
-    return any(path.stat().st_mtime >= made for path in (*(ROOT / "crates").rglob("*"), ROOT / "crates.txt", ROOT / "tests/native.sh"))
+    return any(path.stat().st_mtime >= made for path in (*(ROOT / "crates").rglob("*"), ROOT / "crates.txt", *MAKERS))
 
 
 def build(crate, shared):
@@ -28,12 +30,14 @@ def build(crate, shared):
 
 
 def library(crate):
-    """Built once: two programs of one run share it."""
+    """Built once: the programs of one run share it, and wait for each other."""
     made = ROOT / "target" / "shared"
     made.mkdir(parents=True, exist_ok=True)
     shared = made / f"{crate}.so"
-    if is_stale(shared):
-        build(crate, shared)
+    with open(made / f"{crate}.lock", "w") as lock:
+        fcntl.flock(lock, fcntl.LOCK_EX)
+        if is_stale(shared):
+            build(crate, shared)
     return ctypes.CDLL(str(shared))
 
 

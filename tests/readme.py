@@ -3,13 +3,12 @@ Its program in Rattle is that of crate `recorder`, and what it prints is that cr
 
 The picture of the crates is the one that crates.txt draws, and every crate has its row.
 """
-import pathlib
-import platform
 import re
 import subprocess
 import sys
 
-ROOT = pathlib.Path(__file__).resolve().parent.parent
+from shipped import ROOT, program
+
 MADE = ROOT / "target" / "readme"
 
 
@@ -21,13 +20,12 @@ def block(page, mark):
 def built(source):
     MADE.mkdir(parents=True, exist_ok=True)
     (MADE / "example.c").write_text(source)
-    subprocess.run(["rt", "staticlib", "ngt"], cwd=ROOT, check=True, capture_output=True)
-    native = platform.machine() == "x86_64"
-    compiler = ["gcc"] if native else ["x86_64-linux-gnu-gcc", "-static"]
-    words = ["-O2", "-Wall", "-Wextra", "-Werror", "-std=c11", "-I", str(ROOT / "include"), "-o", str(MADE / "example")]
-    archive = ROOT / "target" / "staticlib" / "libngt.a"
-    subprocess.run([*compiler, *words, str(MADE / "example.c"), str(archive)], check=True)
-    return ([] if native else ["qemu-x86_64"]) + [str(MADE / "example")]
+    return program(MADE / "example.c", MADE / "example")
+
+
+def is_the_command(page):
+    """The page's command is the one that makes the archive where there is none."""
+    return "`rt staticlib ngt` makes `target/staticlib/libngt.a`" in page and 'how=(rt staticlib "$crate")' in (ROOT / "tests" / "archive.sh").read_text()
 
 
 def is_the_recorder(page):
@@ -44,6 +42,7 @@ def main():
     checks = {
         "the program in C ends well": said.returncode == 0,
         "it prints what the page says": said.stdout == block(page, "text"),
+        "the archive is made by the page's command": is_the_command(page),
         "the program in Rattle and what it prints are those of crate recorder": is_the_recorder(page),
         "the picture is that of crates.txt": drawn.returncode == 0,
         "every crate has its row, and no other": named == rows,

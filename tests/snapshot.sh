@@ -4,9 +4,7 @@ set -euo pipefail
 cd "$(dirname "$0")/.."
 made=target/snapshot archive=${1:-target/staticlib/libngt.a}
 mkdir -p "$made"
-if [ $# -eq 0 ]; then
-    rt staticlib ngt >"$made/library.log" 2>&1 || { tail -n 20 "$made/library.log"; exit 1; }
-fi
+[ $# -gt 0 ] || tests/archive.sh ngt
 compiler=(gcc) run=()
 if [ "$(uname -m)" != x86_64 ]; then
     compiler=(x86_64-linux-gnu-gcc -static) run=(qemu-x86_64)
