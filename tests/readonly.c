@@ -1,6 +1,7 @@
 /* Calls that may store nothing, made where nothing can be stored: drive, volume and what a call reads lie on pages that can't
  * be written, right before a page that can't be touched. Only what is always stored (the answer, a report, a span, the drive
- * of a format or mount) and the buffer of an accepted read can be written.
+ * of a format or mount) can be written, and the buffer of an accepted call that fills it. The two messages of ngt_twins never
+ * can: no call here finds any.
  *
  * Calls that are given no bytes of something (an empty buffer, an empty volume) are made once more with a null pointer for it:
  * "A pointer whose length is 0 may be null."
@@ -17,11 +18,15 @@
 #include <unistd.h>
 
 /* how many refusals */
-enum { WANTED = 100000, ROOM = 256, SHOWN = 10, KINDS = 10 };
-enum kind { FORMAT, MOUNT, READ, WRITE, QUEUE, BEGIN, SWEEP, FINISH, REPORT, STORED };
-static const char *const names[KINDS] = {"format", "mount", "read", "write", "queue", "begin", "sweep", "finish", "report", "stored_flake"};
-/* The answers that each call can give, with 0 where it may be accepted and change nothing. */
-static const char *const reached[KINDS] = {"1 2 13", "1 2 3 4 5 6 7", "0 1 2 7 8", "0 1 2 7 8 13", "0 1 2 7 8 13", "1 2 7 9 10 13 15", "1 2 7 8 9 12 13", "1 2 7 9 11 13", "0 1 2 7", "0 1 2 8"};
+enum { WANTED = 100000, ROOM = 1024, FOUND = 1055, SHOWN = 10 };
+enum kind { FORMAT, MOUNT, READ, WRITE, QUEUE, BEGIN, SWEEP, FINISH, REPORT, STORED, EXPORT, IMPORT, TWINS, TALLY, BUILD, RENEW, TOP, KINDS };
+/* The answers that each call can give, with 0 where it may be accepted and change neither drive nor volume. */
+static const struct {
+    const char *name, *reached;
+} told[KINDS] = {{"format", "1 2 13"}, {"mount", "1 2 3 4 5 6 7"}, {"read", "0 1 2 7 8"}, {"write", "0 1 2 7 8 13"}, {"queue", "0 1 2 7 8 13"},
+                 {"begin", "1 2 7 9 10 13 15"}, {"sweep", "1 2 7 8 9 12 13"}, {"finish", "1 2 7 9 11 13"}, {"report", "0 1 2 7"},
+                 {"stored_flake", "0 1 2 8"}, {"export", "0 1 2 7 10"}, {"import", "1 2 7 10 13"}, {"twins", "0 1 2 7 8"}, {"tally", "0 1 2 7"},
+                 {"summary_build", "0 1 2 7"}, {"summary_renew", "0 1 2 7 8"}, {"summary_report", "0 1 2 7"}};
 
 /* What a call is given, beside drive and volume. */
 struct given {
@@ -34,7 +39,7 @@ struct given {
 
 /* Where a call finds its bytes. */
 struct place {
-    uint8_t *image, *vol, *buf, *one, *two, *made, *answer, *report, *span;
+    uint8_t *image, *vol, *buf, *one, *two, *found[2], *made, *answer, *report, *span;
     size_t length;
     int null; /* a buffer of no bytes is a null pointer */
 };
@@ -82,8 +87,19 @@ static void guard(struct pages p, int how) {
         exit(2);
 }
 
+/* Whether a call is given a buffer of any length; of no bytes none of them changes anything. */
+static int buffered(enum kind kind) {
+    return kind == READ || kind == WRITE || kind == QUEUE || kind == EXPORT || kind == IMPORT || kind >= BUILD;
+}
+
+/* Whether an accepted call fills its buffer. */
+static int fills(enum kind kind) {
+    return kind == READ || kind == EXPORT || kind == BUILD || kind == RENEW;
+}
+
 static uint32_t make(const struct given *g, const struct place *at) {
     uint8_t *end = at->null && g->length == 0 ? NULL : at->buf + ROOM - g->length;
+    size_t other = at->length - (g->f % 2 && at->length);
     switch (g->kind) {
     case FORMAT: return ngt_format(at->vol, at->length, g->n, g->p, g->f, at->one + 16, at->two, g->number, at->made, at->answer);
     case MOUNT: return ngt_mount(at->vol, at->length, at->one, at->two, g->number, at->made, at->answer);
@@ -93,7 +109,14 @@ static uint32_t make(const struct given *g, const struct place *at) {
     case BEGIN: return ngt_begin(at->image, at->vol, at->length, at->one, at->answer);
     case SWEEP: return ngt_sweep(at->image, at->vol, at->length, g->n, at->answer);
     case FINISH: return ngt_finish(at->image, at->vol, at->length, at->answer);
-    case REPORT: return ngt_report(at->image, at->vol, at->length, at->report, at->answer);
+    case REPORT: return ngt_report(at->image, at->vol, at->length, at->report + 4, at->answer);
+    case EXPORT: return ngt_export(at->image, at->vol, at->length, at->one, at->two, end, g->length, at->answer);
+    case IMPORT: return ngt_import(at->image, at->vol, at->length, at->one, at->two, end, g->length, at->answer);
+    case TWINS: return ngt_twins(at->image, at->vol, at->length, at->vol, other, g->n, at->found[0], at->found[1], at->span + 12, at->answer);
+    case TALLY: return ngt_tally(at->image, at->vol, at->length, at->report, at->answer);
+    case BUILD: return ngt_summary_build(at->image, at->vol, at->length, end, g->length, at->answer);
+    case RENEW: return ngt_summary_renew(at->image, at->vol, at->length, end, g->length, g->n, at->answer);
+    case TOP: return ngt_summary_report(at->image, at->vol, at->length, end, g->length, at->report, at->answer);
     default: return ngt_stored_flake(at->image, at->vol, at->length, g->n, g->p, at->span, at->answer);
     }
 }
@@ -120,6 +143,18 @@ static void secret(uint8_t *to, const uint8_t *image) {
     }
 }
 
+/* Mostly as many bytes as the call asks for, if there is room for them. */
+static size_t sized(uint64_t wanted, size_t other) {
+    return wanted <= ROOM && any() % 4 ? wanted : other;
+}
+
+static uint64_t summary_length(uint32_t n) {
+    uint64_t leaves = 1;
+    while (leaves < n)
+        leaves *= 2;
+    return 12 * (2 * leaves - 1);
+}
+
 static struct given some(const uint8_t *image) {
     struct given g = {.kind = (enum kind)(any() % KINDS), .n = word(image), .p = word(image + 4), .f = word(image + 8)};
     uint64_t counter, all = (uint64_t)g.n * g.p * g.f;
@@ -140,7 +175,11 @@ static struct given some(const uint8_t *image) {
         if (g.kind == QUEUE) /* one request, in the last 16 bytes; at times its length is off */
             store(g.two + 16, g.number), store(g.two + 24, g.length + (any() % 8 == 0));
     } else {
-        g.n = near(g.n), g.p = near(g.p);
+        if (g.kind == EXPORT || g.kind == IMPORT)
+            g.length = sized(all, g.length);
+        else if (g.kind >= BUILD)
+            g.length = sized(summary_length(g.n), g.length);
+        g.n = near(g.n), g.p = near(g.p), g.f = near(g.f);
     }
     return g;
 }
@@ -156,20 +195,21 @@ static uint8_t *read_all(const char *name, size_t *size) {
     return data;
 }
 
-/* Whether the call leaves drive, volume and buffer of the copy as they came. */
-static int unchanged(const struct place *copy, const uint8_t *image, const uint8_t *vol, const uint8_t *buf) {
-    return memcmp(copy->image, image, 144) == 0 && memcmp(copy->vol, vol, copy->length) == 0 && memcmp(copy->buf, buf, ROOM) == 0;
+/* Whether the call leaves what it may not store in as it came, on the copy. */
+static int unchanged(const struct place *copy, const struct place *at) {
+    return memcmp(copy->image, at->image, 144) == 0 && memcmp(copy->vol, at->vol, copy->length) == 0 && memcmp(copy->buf, at->buf, ROOM) == 0
+           && memcmp(copy->found[0], at->found[0], FOUND) == 0 && memcmp(copy->found[1], at->found[1], FOUND) == 0;
 }
 
-static void one_call(const struct given *g, const struct place *copy, const struct place *at, const uint8_t *image, const uint8_t *vol, struct pages one, struct pages two, size_t specimen) {
+static void one_call(const struct given *g, const struct place *copy, const struct place *at, struct pages one, struct pages two, size_t specimen) {
     memcpy(copy->one, g->one, 32), memcpy(copy->two, g->two, 32);
     uint32_t number = make(g, copy);
-    int same = unchanged(copy, image, vol, at->buf);
-    if (!same) {
-        memcpy(copy->image, image, 144), memcpy(copy->vol, vol, copy->length), memcpy(copy->buf, at->buf, ROOM);
+    if (!unchanged(copy, at)) {
+        memcpy(copy->image, at->image, 144), memcpy(copy->vol, at->vol, copy->length), memcpy(copy->buf, at->buf, ROOM);
+        memcpy(copy->found[0], at->found[0], FOUND), memcpy(copy->found[1], at->found[1], FOUND);
         if (number)
-            fails("a refusal stored", names[g->kind], specimen, number);
-        if (number || g->kind != READ)
+            fails("a refusal stored", told[g->kind].name, specimen, number);
+        if (number || !fills(g->kind))
             return;
     }
     if (number == 0 && g->kind == FORMAT)
@@ -179,17 +219,17 @@ static void one_call(const struct given *g, const struct place *copy, const stru
     guard(one, PROT_READ), guard(two, PROT_READ);
     seen[g->kind][number] = 1;
     struct place here = *at;
-    if (number == 0 && g->kind == READ)
+    if (number == 0 && fills(g->kind))
         here.buf = copy->buf;
     if (sigsetjmp(back, 1)) {
-        fails("a fault", names[g->kind], specimen, number);
+        fails("a fault", told[g->kind].name, specimen, number);
         return;
     }
     if (make(g, &here) != number || memcmp(at->answer, copy->answer, 16))
-        fails("another answer", names[g->kind], specimen, number);
+        fails("another answer", told[g->kind].name, specimen, number);
     else
         passed++, refused += number != 0;
-    if (number == 0 && g->kind == READ)
+    if (number == 0 && fills(g->kind))
         memcpy(copy->buf, at->buf, ROOM);
 }
 
@@ -200,24 +240,24 @@ static void null_call(const struct given *g, const struct place *at, int volume,
         given.vol = at->vol + at->length, given.length = bare.length = 0, bare.vol = NULL;
     bare.null = 1;
     if (sigsetjmp(back, 1)) {
-        fails("a fault at a null pointer", names[g->kind], specimen, 0);
+        fails("a fault at a null pointer", told[g->kind].name, specimen, 0);
         return;
     }
     uint32_t number = make(g, &given);
     if (make(g, &bare) != number || (volume && number != 1 && number != 2))
-        fails("another answer to a null pointer", names[g->kind], specimen, number);
+        fails("another answer to a null pointer", told[g->kind].name, specimen, number);
     else
         passed++, nulls++;
 }
 
 static void all_reached(void) {
     for (int kind = 0; kind < KINDS; kind++) {
-        const char *at = reached[kind];
+        const char *at = told[kind].reached;
         for (char *end; *at; at = end) {
             long number = strtol(at, &end, 10);
             if (!seen[kind][number]) {
                 failed++;
-                printf("readonly: %s: no case is answered %ld\n", names[kind], number);
+                printf("readonly: %s: no case is answered %ld\n", told[kind].name, number);
             }
         }
     }
@@ -235,14 +275,14 @@ int main(int count, char **words) {
         most = word(data + i) > most ? word(data + i) : most;
 
     struct pages image = mapped(144), vol = mapped(most + 1), buf = mapped(ROOM), one = mapped(32), two = mapped(32), free_buf = mapped(ROOM);
-    struct pages outs[] = {mapped(144), mapped(16), mapped(20), mapped(16)};
+    struct pages found[] = {mapped(FOUND), mapped(FOUND)}, outs[] = {mapped(144), mapped(16), mapped(24), mapped(16)};
     struct place at = {.buf = last(buf, ROOM), .one = last(one, 32), .two = last(two, 32), .image = last(image, 144),
-                       .made = last(outs[0], 144), .answer = last(outs[1], 16), .report = last(outs[2], 20), .span = last(outs[3], 16)};
+                       .found = {last(found[0], FOUND), last(found[1], FOUND)}, .made = last(outs[0], 144), .answer = last(outs[1], 16), .report = last(outs[2], 24), .span = last(outs[3], 16)};
     struct place copy = {.image = malloc(144), .vol = malloc(most + 1), .buf = last(free_buf, ROOM), .one = malloc(32), .two = malloc(32),
-                         .made = malloc(144), .answer = malloc(16), .report = malloc(20), .span = malloc(16)};
+                         .found = {calloc(1, FOUND), calloc(1, FOUND)}, .made = malloc(144), .answer = malloc(16), .report = malloc(24), .span = malloc(16)};
     for (size_t i = 0; i < ROOM; i++)
         at.buf[i] = copy.buf[i] = (uint8_t)any();
-    guard(buf, PROT_READ);
+    guard(buf, PROT_READ), guard(found[0], PROT_READ), guard(found[1], PROT_READ);
 
     for (size_t i = 0, k = 0; i < size; i += 148 + word(data + i), k++) {
         at.length = copy.length = word(data + i);
@@ -253,8 +293,8 @@ int main(int count, char **words) {
         memcpy(copy.image, at.image, 144), memcpy(copy.vol, at.vol, at.length);
         for (size_t made = 0; made < 8 * WANTED / specimens && refused + failed < (k + 1) * WANTED / specimens; made++) {
             struct given g = some(at.image);
-            one_call(&g, &copy, &at, at.image, at.vol, one, two, k);
-            if (g.length == 0 && (g.kind == READ || g.kind == WRITE))
+            one_call(&g, &copy, &at, one, two, k);
+            if (g.length == 0 && buffered(g.kind))
                 null_call(&g, &at, 0, k);
             if (made % 16 == 0)
                 null_call(&g, &at, 1, k);

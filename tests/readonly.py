@@ -5,13 +5,12 @@ damaged and too short. `readonly.c` makes the calls, against the archive as it i
 something also with a null pointer for it. NGT_SEED sets the seed.
 """
 import os
-import pathlib
-import platform
 import random
 import subprocess
 import sys
 
-ROOT = pathlib.Path(__file__).resolve().parent.parent
+from shipped import ROOT, program
+
 sys.path.insert(0, str(ROOT / "second"))
 import calls  # noqa: E402
 from checks import garbage  # noqa: E402
@@ -20,7 +19,8 @@ from layout import layout  # noqa: E402
 
 MADE = ROOT / "target" / "readonly"
 SEED = int(os.environ.get("NGT_SEED", "1"))
-SHAPES = ((1, 1, 64), (3, 2, 64), (2, 3, 128), (4, 64, 64), (5, 1, 256))
+# Two of them have contents of one and two sectors.
+SHAPES = ((1, 1, 64), (3, 2, 64), (2, 3, 128), (4, 64, 64), (5, 1, 256), (4, 2, 64), (1, 4, 256))
 EACH = 150
 
 
@@ -55,14 +55,9 @@ def specimens():
 def main():
     MADE.mkdir(parents=True, exist_ok=True)
     (MADE / "specimens").write_bytes(b"".join(specimens()))
-    subprocess.run(["rt", "staticlib", "ngt"], cwd=ROOT, check=True, capture_output=True)
-    native = platform.machine() == "x86_64"
-    compiler = ["gcc"] if native else ["x86_64-linux-gnu-gcc", "-static"]
-    words = ["-O2", "-Wall", "-Wextra", "-Werror", "-D_DEFAULT_SOURCE", "-std=c11", "-o", str(MADE / "readonly")]
-    subprocess.run([*compiler, *words, str(ROOT / "tests/readonly.c"), str(ROOT / "target/staticlib/libngt.a")], check=True)
+    run = program(ROOT / "tests/readonly.c", MADE / "readonly", "-D_DEFAULT_SOURCE")
     sys.stdout.flush()
-    run = [] if native else ["qemu-x86_64"]
-    sys.exit(subprocess.run([*run, str(MADE / "readonly"), str(MADE / "specimens")]).returncode)
+    sys.exit(subprocess.run([*run, str(MADE / "specimens")]).returncode)
 
 
 main()
