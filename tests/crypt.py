@@ -18,6 +18,8 @@ from cryptography.hazmat.primitives.ciphers import Cipher, algorithms, modes
 
 from proved import SEED, Tally, left, library, room
 
+# mke2fs, debugfs and cryptsetup stand where a plain user's PATH doesn't look.
+os.environ["PATH"] += ":/usr/sbin:/sbin"
 SECTOR = 512
 SIZE, U32, U64 = ctypes.c_size_t, ctypes.c_uint32, ctypes.c_uint64
 # 1 MiB each: flakes of several sectors, of one, within one, and over several that begin within one.
