@@ -2,11 +2,7 @@
 use Prim.Native.Nat.{ℕ, _/_}
 use mathlib.Core.List.{List}
 use lib.ListN.{length}
-use Rattle.xts.specs.Xts.{overBlocks, tweakUnder, xtsEncrypted, xtsDecrypted, overSectors}
-
--- a sector through f, under the words of the key for tweaks
-unfoldable pub underWords : (List ℕ → List ℕ) → List ℕ → ℕ → List ℕ → List ℕ
-underWords f v i d = overBlocks f 32 (tweakUnder v i) d
+use Rattle.xts.specs.Xts.{xtsEncrypted, xtsDecrypted, overSectors}
 
 -- the sectors of a buffer, the first of them of number i
 unfoldable pub encryptedFrom : List ℕ → List ℕ → ℕ → List ℕ → List ℕ

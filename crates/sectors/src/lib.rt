@@ -8,14 +8,14 @@ ghost use Rattle.aes.specs.Aes.{cipher};
 ghost use Rattle.aes.specs.Tables.{roundTable};
 ghost use Rattle.aes_back.specs.InvAes.{eqInvCipher};
 ghost use Rattle.aes_back.specs.Tables.{invRoundTable};
-ghost use Rattle.xts.specs.Xts.{overSectors};
-ghost use Rattle.sectors.specs.Sectors.{underWords, encryptedFrom, decryptedFrom};
+ghost use Rattle.xts.specs.Xts.{sectorBy, overSectors};
+ghost use Rattle.sectors.specs.Sectors.{encryptedFrom, decryptedFrom};
 
 // The sectors from number `first` on encrypted under the words of both keys.
 fn encrypt_under(d: &mut [u8], r: &[u32; 256], w: &[u32; 60], v: &[u32; 60], first: u64)
     requires { ⌜ (now r ≡ roundTable) × (length (now d) % 512 ≡ 0) × (first + length (now d) / 512 < 2 ^ 64) ⌝ }
     ensures { λ _. ⌜ now (d .exit)
-        ≡ overSectors (underWords (cipher (now (w .entry))) (now (v .entry))) (length (now (d .entry)) / 512) first (now (d .entry)) ⌝ }
+        ≡ overSectors (sectorBy (cipher (now (w .entry))) (now (v .entry))) (length (now (d .entry)) / 512) first (now (d .entry)) ⌝ }
 {
     let mut i = first;
     let mut at = 0;
@@ -41,7 +41,7 @@ fn decrypt_under(
     requires { ⌜ (now f ≡ roundTable) × (now r ≡ invRoundTable) × (now s ≡ invSboxTable) × (length (now d) % 512 ≡ 0)
         × (first + length (now d) / 512 < 2 ^ 64) ⌝ }
     ensures { λ _. ⌜ now (d .exit)
-        ≡ overSectors (underWords (eqInvCipher (now (dw .entry))) (now (v .entry))) (length (now (d .entry)) / 512) first (now (d .entry)) ⌝ }
+        ≡ overSectors (sectorBy (eqInvCipher (now (dw .entry))) (now (v .entry))) (length (now (d .entry)) / 512) first (now (d .entry)) ⌝ }
 {
     let mut i = first;
     let mut at = 0;

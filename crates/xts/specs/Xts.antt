@@ -32,16 +32,16 @@ overBlocks f (suc n) t d = blockBy f t (take 16 d) ++ overBlocks f n (timesAlpha
 unfoldable pub tweakUnder : List ℕ → ℕ → List ℕ
 tweakUnder w i = cipher w (le 8 i ++ replicate 8 0)
 
--- sector i of 32 blocks through f
+-- sector i of 32 blocks through f, under the words of the key for tweaks
 unfoldable pub sectorBy : (List ℕ → List ℕ) → List ℕ → ℕ → List ℕ → List ℕ
-sectorBy f two i d = overBlocks f 32 (tweakUnder (keyExpansion two) i) d
+sectorBy f w i d = overBlocks f 32 (tweakUnder w i) d
 
 -- 5.3: a sector encrypted under the two keys, and decrypted
 unfoldable pub xtsEncrypted : List ℕ → List ℕ → ℕ → List ℕ → List ℕ
-xtsEncrypted one two i d = sectorBy (aes256 one) two i d
+xtsEncrypted one two i d = sectorBy (aes256 one) (keyExpansion two) i d
 
 unfoldable pub xtsDecrypted : List ℕ → List ℕ → ℕ → List ℕ → List ℕ
-xtsDecrypted one two i d = sectorBy (invAes256 one) two i d
+xtsDecrypted one two i d = sectorBy (invAes256 one) (keyExpansion two) i d
 
 -- n sectors from number i on
 unfoldable pub overSectors : (ℕ → List ℕ → List ℕ) → ℕ → ℕ → List ℕ → List ℕ
