@@ -60,6 +60,7 @@ counts "two volumes compared agree with the second program through the C interfa
 counts "a filesystem goes through import, export and a reader of its own" python3 tests/crypt.py
 counts "histories of calls agree with the second program to the byte" python3 tests/histories.py
 counts "summaries agree with the second program to the byte" python3 tests/summaries.py
+counts "lengths and lines agree with the second program through the C interface" python3 tests/lines.py
 counts "a host in C links the archive and runs" bash tests/host.sh
 counts "memory holds contents in the caller's buffer alone, and no byte of the volume is stored twice" bash tests/snapshot.sh target/staticlib/libngt.a
 counts "calls that may store nothing run where nothing can be stored" python3 tests/readonly.py
@@ -69,5 +70,6 @@ counts "the sheet agrees with the second program" python3 tests/sheet.py
 counts "the auditor's page agrees with the second program" python3 tests/audit.py
 counts "the fleet's sheet agrees with the second program" python3 tests/fleet.py
 counts "two copies of a drive are compared as the second program does" python3 tests/compare.py
+counts "library, tool and block device serve clients that nobody here wrote" bash tests/hosts.sh
 echo "gate: $((SECONDS - started)) s in all"
 echo "$passed passed, 0 failed"
