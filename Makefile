@@ -1,7 +1,6 @@
 # `make test` is the whole gate. `make bench` measures; it is no part of the gate. `make sheet`, `make audit` and `make fleet` prove
-# and build the sheet, the auditor's page and the fleet's sheet, and run each on its sample. `make compare` builds the host that compares
-# two copies of a drive.
-.PHONY: test bench sheet audit fleet compare
+# and build the sheet, the auditor's page and the fleet's sheet, and run each on its sample. What is installed is in host/host.mk.
+.PHONY: test bench sheet audit fleet
 
 test:
 	@bash tests/gate.sh
@@ -24,7 +23,4 @@ fleet:
 	@rt check fleet
 	@tests/run_built.sh fleet < crates/fleet/stdin
 
-compare:
-	@tests/needs.sh
-	@tests/compare.sh target/compare/compare
-	@echo "target/compare/compare FIRST SECOND < KEYS"
+include host/host.mk

@@ -2,8 +2,8 @@
  *
  * No function has a precondition but that each pointer is to as many bytes as its type or its length says, and that no two
  * of them overlap (first and second of ngt_twins may be one or overlap: both are only read); a pointer whose length is 0 may be
- * null. Each but ngt_fleet returns the answer's number, 0 if the call is accepted, and always stores the answer's image. The
- * numbers are 1 to 13 and 15; 14 is given to no answer. docs/HANDBOOK.md explains each.
+ * null. Each call returns the answer's number, 0 if it is accepted, and always stores the answer's image; ngt_fleet and what
+ * stands behind it return a length. The numbers are 1 to 13 and 15; 14 is given to no answer. docs/HANDBOOK.md explains each.
  *
  * The drive's image, 144 bytes: 0-3 N; 4-7 P; 8-11 F; 12 state (0 steady, 1 changing); 13 zero; 14-15 epoch; 16-17 the epoch
  * being left; 18-23 zero; 24-39 salt; 40-47 counter; 48-79 node 1; 80-111 present secret; 112-143 old secret. Bytes 13 and
@@ -107,6 +107,25 @@ uint32_t ngt_summary_report(const uint8_t drive[144], const uint8_t *vol, size_t
  * are. There is no answer: the first line that isn't taken gives `open=` and its number, no line at all `open=0`. A share of
  * 100.00 says that nothing is left on any drive; it is not leave to destroy an old secret. */
 uint32_t ngt_fleet(const uint8_t *lines, size_t lines_len, uint8_t line[192]);
+
+/* What a host needs beside the calls. The functions that make a line store it, with its newline, in the first bytes of line and
+ * return how many they are; the bytes behind them stay as they are.
+ *
+ * Length of a volume of this shape and version, and its capacity N P F; 0 if out of limits. The one version is 1. */
+uint64_t ngt_length(uint32_t n, uint32_t p, uint32_t f, uint16_t version);
+uint64_t ngt_capacity(uint32_t n, uint32_t p, uint32_t f);
+
+/* The sheet's line for an open drive of any size, at most 106 bytes; answered as ngt_report is. And the auditor's line of one nugget,
+ * at most 300: 1, 2, 7 head, 8, 7 path, then the line. Refused, both are the refusal's line; the answer's number is in the
+ * answer's image alone. */
+uint32_t ngt_sheet_line(const uint8_t drive[144], const uint8_t *vol, size_t vol_len, uint8_t line[192], uint8_t answer[16]);
+uint32_t ngt_nugget_line(const uint8_t drive[144], const uint8_t *vol, size_t vol_len, uint32_t nugget, uint8_t line[320],
+                         uint8_t answer[16]);
+
+/* The refusal's line of an answer's image, `refused=7 class=altered place=flake 2 1`, at most 106 bytes. Kind and values are looked at for
+ * number 7 alone. Of an image whose number is 0 or no refusal's, or of 7 with a kind that isn't 1 to 4, nothing is stored and 0
+ * is returned. */
+uint32_t ngt_refusal_line(const uint8_t answer[16], uint8_t line[128]);
 
 #ifdef __cplusplus
 }

@@ -1,67 +1,79 @@
-"""The host that compares two copies of a drive, built from host/compare.c, against the second program.
+"""`ngt compare`, which holds two copies of a drive against each other, against the second program.
 
-No two volumes make it say `collision`, since that would break BLAKE2s; it says so over two functions that only pretend:
+No two volumes make it say `collision`, since that would break BLAKE2s; it says so in a tool built over a function that only pretends:
 nugget 1 collides, and nugget 2 is refused behind it unless the second volume is empty.
 """
 import pathlib
-import platform
 import random
 import subprocess
 import sys
+import tempfile
 
 import inputs
 import calls
-import sheet
+import lines
 from checks.make import flipped
-from primitives import le
+from rig import BUSY, MADE, ROOT, SYSTEM, TOOL, USAGE, Checks
 from twins import twins
 
-ROOT = pathlib.Path(__file__).resolve().parent.parent
-MADE = ROOT / "target" / "compare"
-RUN = [] if platform.machine() == "x86_64" else ["qemu-x86_64"]
-SAME, COLLISION, REFUSED, UNREADABLE = range(4)
-PRETENDS = """#include "../../include/ngt.h"
-uint32_t ngt_mount(const uint8_t *vol, size_t vol_len, const uint8_t present[32], const uint8_t old[32], uint64_t outside, uint8_t drive[144],
-                   uint8_t answer[16]) {
-    (void)vol, (void)vol_len, (void)present, (void)old, (void)outside;
-    drive[0] = 3, drive[1] = drive[2] = drive[3] = 0;
-    return answer[0] = 0;
-}
-uint32_t ngt_twins(const uint8_t drive[144], const uint8_t *first, size_t first_len, const uint8_t *second, size_t second_len, uint32_t nugget,
-                   uint8_t one[1055], uint8_t two[1055], uint8_t length[4], uint8_t answer[16]) {
+SAME, COLLISION = 0, 65
+PRETENDS = """#include "ngt.h"
+uint32_t __wrap_ngt_twins(const uint8_t drive[144], const uint8_t *first, size_t first_len, const uint8_t *second, size_t second_len, uint32_t nugget,
+                          uint8_t one[1055], uint8_t two[1055], uint8_t length[4], uint8_t answer[16]) {
     (void)drive, (void)first, (void)first_len, (void)second, (void)one, (void)two;
     length[0] = nugget == 1 ? 65 : 0, length[1] = length[2] = length[3] = 0;
+    answer[4] = 1;
     return answer[0] = nugget == 2 && second_len ? 7 : 0;
 }
 """
 
 
-def build(name, *words):
-    subprocess.run(["bash", "tests/compare.sh", str(MADE / name), *words], cwd=ROOT, check=True)
+def pretending(folder):
+    """The tool with `ngt_twins` put aside."""
+    source, tool = folder / "pretends.c", folder / "pretends"
+    source.write_text(PRETENDS)
+    parts = [*(ROOT / "host/ngt").glob("*.c"), *(ROOT / "host/common").glob("*.c"), source, MADE / "libngt.a"]
+    subprocess.run(["gcc", "-std=c11", "-D_GNU_SOURCE", "-Wall", "-Wextra", "-Werror", "-Iinclude", "-Wl,--wrap=ngt_twins", "-o", tool, *parts], cwd=ROOT, check=True)
+    return tool
 
 
-def said(name, keys, first, second):
-    (MADE / "first").write_bytes(first)
-    (MADE / "second").write_bytes(second)
-    got = subprocess.run([*RUN, str(MADE / name), str(MADE / "first"), str(MADE / "second")], input=keys, capture_output=True, text=False)
-    return got.stdout.decode(), got.returncode
+class Copies:
+    """Two copies, secrets and counter as files."""
+
+    def __init__(self, folder):
+        self.folder = folder
+        self.files = {name: folder / name for name in ("first", "second", "present", "old", "counter")}
+
+    def put(self, keys, first, second):
+        for name, data in (("first", first), ("second", second), ("present", keys[:32]), ("old", keys[32:64]), ("counter", f"{counter(keys)}\n".encode())):
+            self.files[name].touch(0o600)
+            self.files[name].write_bytes(data)
+
+    def said(self, tool, first="first", second="second", *more):
+        words = [self.folder / first, self.folder / second, "--secret", self.files["present"], "--old-secret", self.files["old"], "--counter", self.files["counter"]]
+        return subprocess.run([tool, "compare", *words, *more], capture_output=True)
+
+
+def counter(keys):
+    return int.from_bytes(keys[64:72], "little")
 
 
 def wanted(keys, first, second):
-    got = calls.mount(first, keys[:32], keys[32:64], int.from_bytes(keys[64:72], "little"))
-    answers = [got.answer] + [twins(got.drive, first, second, n).answer for n in range(got.drive.n)]
-    bad = next((answer for answer in answers if answer.number), None)
-    return (sheet.refusal_line(bad) + "\n", REFUSED) if bad else ("same\n", SAME)
+    """The first refusal and whose it is; None if there is none."""
+    got = calls.mount(first, keys[:32], keys[32:64], counter(keys))
+    if got.answer.number:
+        return got.answer, "first"
+    answers = (twins(got.drive, first, second, n).answer for n in range(got.drive.n))
+    return next(((answer, "second") for answer in answers if answer.number), None)
 
 
 def cases(source):
     data = (ROOT / "crates" / "sheet" / "stdin").read_bytes()
     keys, volume = data[:72], data[72:]
-    drive = calls.mount(volume, keys[:32], keys[32:64], int.from_bytes(keys[64:72], "little")).drive
+    drive = calls.mount(volume, keys[:32], keys[32:64], counter(keys)).drive
     after = calls.write(drive, volume, 0, b"later")
-    later = keys[:64] + le(after.drive.counter, 8)
+    later = keys[:64] + after.drive.counter.to_bytes(8, "little")
     yield keys, volume, volume
-    yield keys + b"!", volume, volume
     yield later, after.volume, after.volume
     yield later, after.volume, volume
     for wrong in (keys[32:64] + keys[:32] + keys[64:], keys[:32] * 2 + keys[64:], keys[:64] + bytes(8), later):
@@ -74,24 +86,50 @@ def cases(source):
         yield keys, flipped(volume, source.randrange(len(volume)), source.randrange(8)), volume
 
 
+def compared(checks, copies, case, met):
+    copies.put(*case)
+    ran, bad = copies.said(TOOL), wanted(*case)
+    if bad:
+        answer, whose = bad
+        checks.same((ran.returncode, ran.stdout), (answer.number, b""), f"refused: {ran.stderr}")
+        checks.that(ran.stderr.startswith(lines.refusal_line(answer.image())), f"the refusal's line: {ran.stderr}")
+        checks.that(ran.stderr.endswith(f"that is of {copies.files[whose]}\n".encode()), f"whose it is: {ran.stderr}")
+        met.add(answer.number)
+    else:
+        checks.same((ran.returncode, ran.stdout, ran.stderr), (SAME, b"same\n", b""), "same")
+        met.add(SAME)
+
+
+def by_itself(checks, copies, good):
+    """What the second program doesn't have: a collision, one file twice, files that can't be used."""
+    tool = pretending(copies.folder)
+    copies.put(*good)
+    ran = copies.said(tool)
+    checks.same((ran.returncode, ran.stdout), (7, b""), "a refusal behind a collision")
+    copies.put(good[0], good[1], b"")
+    ran = copies.said(tool)
+    checks.same((ran.returncode, ran.stdout), (COLLISION, b"collision\n"), "a collision")
+    checks.same(copies.said(TOOL, "first", "first").stdout, b"same\n", "a volume and itself")
+    checks.same(copies.said(TOOL, "first", "none").returncode, SYSTEM, "a second that isn't there")
+    checks.same(copies.said(TOOL, "none", "first").returncode, SYSTEM, "a first that isn't there")
+    checks.same(copies.said(TOOL, "first", "second", "third").returncode, USAGE, "three volumes")
+    checks.same(subprocess.run([TOOL, "compare", copies.files["first"]], capture_output=True).returncode, USAGE, "one volume")
+    with subprocess.Popen(["flock", copies.files["second"], "cat"], stdin=subprocess.PIPE, stdout=subprocess.PIPE) as other:
+        other.stdin.write(b"!"), other.stdin.flush(), other.stdout.read(1)
+        checks.same(copies.said(TOOL).returncode, BUSY, "a copy in use")
+        other.stdin.close()
+
+
 def main():
-    MADE.mkdir(parents=True, exist_ok=True)
-    build("compare")
-    (MADE / "pretends.c").write_text(PRETENDS)
-    build("pretends", str(MADE / "pretends.c"))
-    given = list(cases(random.Random(f"{inputs.SEED} compare")))
-    checks = [(said("compare", *case), wanted(*case)) for case in given]
-    checks.append((said("pretends", bytes(72), b"", b""), ("collision\n", COLLISION)))
-    checks.append((said("pretends", bytes(72), b"", b"!"), ("refused=7 class=altered\n", REFUSED)))
-    checks.append((said("compare", bytes(71), b"", b""), ("", UNREADABLE)))
-    for names in (["none", "first"], ["first"], ["first", "second", "first"]):
-        got = subprocess.run([*RUN, str(MADE / "compare"), *(str(MADE / name) for name in names)], input=bytes(72), capture_output=True)
-        checks.append(((got.stdout, got.returncode), (b"", UNREADABLE)))
-    met = {line.split()[0] for (line, _), _ in checks if line}
-    checks.append((met, {"same", "collision", *(f"refused={number}" for number in range(1, 8))}))
-    bad = [f"got {got}, wanted {want}" for got, want in checks if got != want]
-    print("\n".join(bad[:10]) + ("\n" if bad else "") + f"{len(checks) - len(bad)} passed, {len(bad)} failed")
-    return 1 if bad else 0
+    subprocess.run(["make", "-s", "hosts"], cwd=ROOT, check=True, stdout=subprocess.DEVNULL)
+    checks, met = Checks(), set()
+    with tempfile.TemporaryDirectory() as name:
+        copies, given = Copies(pathlib.Path(name)), list(cases(random.Random(f"{inputs.SEED} compare")))
+        for case in given:
+            compared(checks, copies, case, met)
+        by_itself(checks, copies, given[0])
+    checks.same(met, {SAME, *range(1, 8)}, "every answer comes up")
+    checks.close()
 
 
 if __name__ == "__main__":

@@ -109,17 +109,19 @@ beside "AES-256 agrees with Debian's library" python3 tests/aes.py
 beside "keys, pads, tags, leaves, nodes, path and whole agree with the second program" python3 tests/parts.py
 beside "the sheet agrees with the second program" python3 tests/sheet.py
 beside "the auditor's page agrees with the second program" python3 tests/audit.py
+beside "two copies of a drive are compared as the second program does" python3 tests/compare.py
 beside "the calls agree with the second program through the C interface" python3 tests/calls.py
 beside "histories of calls agree with the second program to the byte" python3 tests/histories.py
 beside "two volumes compared agree with the second program through the C interface" python3 tests/twins.py
 beside "a filesystem goes through import, export and a reader of its own" python3 tests/crypt.py
 beside "summaries agree with the second program to the byte" python3 tests/summaries.py
+beside "lengths and lines agree with the second program through the C interface" python3 tests/lines.py
 beside "memory holds contents in the caller's buffer alone, and no byte of the volume is stored twice" bash tests/snapshot.sh
 beside "calls that may store nothing run where nothing can be stored" python3 tests/readonly.py
 beside "README.md does as written" python3 tests/readme.py
 beside "docs/HANDBOOK.md does as written" python3 tests/handbook.py
 beside "the fleet's sheet agrees with the second program" python3 tests/fleet.py
-beside "two copies of a drive are compared as the second program does" python3 tests/compare.py
+beside "library, tool and block device serve clients that nobody here wrote" bash tests/hosts.sh
 while [ ${#doing[@]} -gt 0 ]; do ended; done
 echo "gate: $((SECONDS - started)) s in all"
 echo "$passed passed, 0 failed"

@@ -1,5 +1,6 @@
 """docs/HANDBOOK.md does as written: each row's lines give its number, made of the second program and of the proved library
-beside it; its program in C prints 15; its classes are those of the lines; what the row of 14 cites is proved.
+beside it; its program in C prints 15; its classes are those of the lines; what the row of 14 cites is proved; what the hosts say
+beside a refusal's line is said in that number's row.
 """
 import re
 import subprocess
@@ -44,6 +45,29 @@ def cited(tally, page):
         tally.same("a theorem of that name", (crate, name), len(stated), 1)
 
 
+def told_by_hosts():
+    """Each number's sentences in host/common/handbook.c."""
+    source = (ROOT / "host" / "common" / "handbook.c").read_text()
+    for number, strings in re.findall(r'^    \[(\d+)\] = ((?:"[^"\n]*"\s*)+),$', source, re.M):
+        yield int(number), "".join(re.findall(r'"([^"\n]*)"', strings)).removesuffix(".").split(". ")
+
+
+def said_here(sentence, cell):
+    """A sentence of the hosts begins with a capital; in the row it may stand behind other words."""
+    plain = cell.replace("`", "")
+    return sentence in plain or sentence[0].lower() + sentence[1:] in plain
+
+
+def hosts_say(tally):
+    cells = {int(number): (given, does) for number, given, does in re.findall(r"^\| (\d+) \| [a-z-]+ \| (.*?) \| (.*?) \| ", PAGE, re.M)}
+    told = dict(told_by_hosts())
+    tally.same("a sentence a refusal", "numbers", list(told), [number for number in cells if number != 14])
+    for number, (first, *rest) in told.items():
+        tally.same("what it means is in the row", (number, first), said_here(first, cells[number][0]), True)
+        for sentence in rest:
+            tally.same("what to do is in the row", (number, sentence), any(said_here(sentence, cell) for cell in cells[number]), True)
+
+
 def main():
     tally = Tally()
     Beside(library("ngt"), tally)
@@ -58,6 +82,7 @@ def main():
     tally.same("rows with lines", "numbers", shown, list(range(1, 14)))
     program(tally)
     cited(tally, PAGE)
+    hosts_say(tally)
     return tally.close()
 
 

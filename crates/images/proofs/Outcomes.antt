@@ -9,3 +9,6 @@ six κs a x y u v p q = (agree p q, refl)
 
 pub answer-image : OneOutcome fn.answer_image.ended fn.answer_image.Reads.Post
 answer-image κs a x y u v p q = (agree p q, refl)
+
+pub answer-in : OneOutcome fn.answer_in.ended fn.answer_in.Reads.Post
+answer-in κs a x y u v p q = (agree p q, refl)

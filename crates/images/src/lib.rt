@@ -6,7 +6,10 @@ use answers::Place;
 ghost use mathlib.Core.Path.{_≡_};
 ghost use mathlib.Core.List.{_++_};
 ghost use Rattle.words.specs.Le.{le};
+ghost use Prim.Native.Nat.{_≤_};
+ghost use lib.ListN.{length};
 ghost use Rattle.images.specs.Answers.{kindOf, firstOf, secondOf, answerImage};
+ghost use Rattle.images.specs.Back.{alteredIn, refusalIn, answerIn};
 
 // 4-7: the kind of place.
 fn kind(c: Carried) -> u32
@@ -87,4 +90,58 @@ pub fn answer_image(a: Answer) -> [u8; 16]
 {
     let c = answers::carried_by(a);
     four(answers::number(a), kind(c), first(c), second(c))
+}
+
+// Answer 7 by its kind of place; acceptance for a kind that is none.
+fn altered_in(kind: u32, a: u32, b: u32) -> Answer
+    ensures { λ r. ⌜ r ≡ alteredIn kind a b ⌝ }
+{
+    match kind {
+        1 => Answer::Altered(Place::Head),
+        2 => Answer::Altered(Place::Record(a)),
+        3 => Answer::Altered(Place::Node(a)),
+        4 => Answer::Altered(Place::Flake(a, b)),
+        _ => Answer::Accepted,
+    }
+}
+
+fn refusal_in(n: u32, kind: u32, a: u32, b: u32) -> Answer
+    ensures { λ r. ⌜ r ≡ refusalIn n kind a b ⌝ }
+{
+    match n {
+        1 => Answer::Limits,
+        2 => Answer::Length,
+        3 => Answer::Mark,
+        4 => Answer::Seal,
+        5 => Answer::OldSecret,
+        6 => Answer::Counter,
+        7 => altered_in(kind, a, b),
+        8 => Answer::PastEnd,
+        9 => Answer::State,
+        10 => Answer::SameSecret,
+        11 => Answer::Left(a),
+        12 => Answer::Moved,
+        13 => Answer::CounterTop,
+        15 => Answer::EpochTop,
+        _ => Answer::Accepted,
+    }
+}
+
+fn read_back(image: &[u8]) -> Answer
+    requires { ⌜ 16 ≤ length (now image) ⌝ }
+    ensures { λ r. ⌜ r ≡ answerIn (now (image .entry)) ⌝ }
+{
+    refusal_in(
+        words::load32(image, 0),
+        words::load32(image, 4),
+        words::load32(image, 8),
+        words::load32(image, 12),
+    )
+}
+
+// The refusal that an answer's image tells; acceptance if it tells none.
+pub fn answer_in(image: &[u8; 16]) -> Answer
+    ensures { λ r. ⌜ r ≡ answerIn (now (image .entry)) ⌝ }
+{
+    read_back(image)
 }

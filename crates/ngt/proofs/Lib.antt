@@ -1,3 +1,4 @@
 pub mod CallLaws
 pub mod TwinsLaws
+pub mod LineLaws
 pub mod Outcomes

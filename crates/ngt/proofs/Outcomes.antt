@@ -57,3 +57,18 @@ summary-ngt-summary-renew κs a x y u v p q = (agree (p .tells .told) (q .tells 
 
 pub summary-ngt-summary-report : OneOutcome fn.summary.ngt_summary_report.ended fn.summary.ngt_summary_report.Reads.Post
 summary-ngt-summary-report κs a x y u v p q = (agree (p .tells .told) (q .tells .told), refl ∥ refl ∥ refl ∥ agree (p .numbers) (q .numbers) ∥ agree (p .tells .shown) (q .tells .shown) ∥ refl)
+
+pub lines-ngt-length : OneOutcome fn.lines.ngt_length.ended fn.lines.ngt_length.Reads.Post
+lines-ngt-length κs a x y u v p q = (agree p q, refl)
+
+pub lines-ngt-capacity : OneOutcome fn.lines.ngt_capacity.ended fn.lines.ngt_capacity.Reads.Post
+lines-ngt-capacity κs a x y u v p q = (agree p q, refl)
+
+pub lines-ngt-refusal-line : OneOutcome fn.lines.ngt_refusal_line.ended fn.lines.ngt_refusal_line.Reads.Post
+lines-ngt-refusal-line κs a x y u v p q = (agree (p .behind) (q .behind), refl ∥ agree (p .stored) (q .stored) ∥ refl)
+
+pub lines-ngt-sheet-line : OneOutcome fn.lines.ngt_sheet_line.ended fn.lines.ngt_sheet_line.Reads.Post
+lines-ngt-sheet-line κs a x y u v p q = (agree (p .put .behind) (q .put .behind), refl ∥ refl ∥ agree (p .put .stored) (q .put .stored) ∥ agree (p .shown) (q .shown) ∥ refl)
+
+pub lines-ngt-nugget-line : OneOutcome fn.lines.ngt_nugget_line.ended fn.lines.ngt_nugget_line.Reads.Post
+lines-ngt-nugget-line κs a x y u v p q = (agree (p .put .behind) (q .put .behind), refl ∥ refl ∥ refl ∥ agree (p .put .stored) (q .put .stored) ∥ agree (p .shown) (q .shown) ∥ refl)

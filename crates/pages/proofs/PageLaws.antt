@@ -144,7 +144,7 @@ unfolding nuggetText
 nugget-text d r n =
     eleven t-nugget (decimal n) t-key-is (keyText d (r .epoch)) t-epoch (decimal (r .epoch)) t-keycount (longDecimal (r .keycount)) t-flakes (flakesText (presentFlakes (d .p) (r .held))) newline
 
-line-le : (d : Drive) (r : Record) (n : ℕ) → d .p ≤ 64 → length (nuggetLine d r n) ≤ 300
+pub line-le : (d : Drive) (r : Record) (n : ℕ) → d .p ≤ 64 → length (nuggetLine d r n) ≤ 300
 line-le d r n h =
     rw (← nugget-text d r n) (simp length-append (omega (
       arith,

@@ -71,7 +71,8 @@ fn put_flakes(out: &mut [u8], at: usize, journal: u64, p: u32) -> usize
     b
 }
 
-fn put_nugget(out: &mut [u8], at: usize, d: Drive, r: Record, n: u32) -> usize
+// The line of a nugget, at most 300 bytes.
+pub fn put_nugget(out: &mut [u8], at: usize, d: Drive, r: Record, n: u32) -> usize
     requires { ⌜ (d .p ≤ 64) × (at + 300 ≤ length (now out)) ⌝ }
     ensures { λ k. ⌜ Put (now (out .entry)) at (nuggetLine d r n) k (now (out .exit)) ⌝ }
 {
@@ -84,7 +85,6 @@ fn put_nugget(out: &mut [u8], at: usize, d: Drive, r: Record, n: u32) -> usize
     line::put(&mut *out, g, b"\n")
 }
 
-// No line is longer than 300 bytes.
 fn put_nuggets(out: &mut [u8], at: usize, d: Drive, vol: &[u8]) -> usize
     requires { ⌜ Shaped (shapeOf d) (now vol) × (at + 300 * d .n ≤ length (now out)) ⌝ }
     ensures { λ k. ⌜ Put (now (out .entry)) at (nuggetLines d (now (vol .entry)) (d .n)) k (now (out .exit)) ⌝ }

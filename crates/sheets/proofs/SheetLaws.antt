@@ -53,7 +53,7 @@ pick-short : (b : Bool) (x y : List ℕ) (m : ℕ) → length x ≤ m → length
 pick-short true x y m p q = p
 pick-short false x y m p q = q
 
-told-short : (r : Report) → length (reportedLine r) ≤ 106
+pub told-short : (r : Report) → length (reportedLine r) ≤ 106
 unfolding reportedLine
 told-short r =
     pick-short (accepts (r .answer)) (reportLine (r .n) (r .moved) (r .left) (r .flakes) (r .share) (r .done)) (refusalLine (r .answer)) 106 (report-short (r .n) (r .moved) (r .left) (r .flakes) (r .share) (r .done)) (refusal-short (r .answer))

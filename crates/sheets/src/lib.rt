@@ -10,7 +10,7 @@ ghost use Rattle.line.specs.Lines.{Put};
 ghost use Rattle.sheets.specs.Sheet.{reportedLine, mountedText, mountedBy, sheetLine};
 
 // The report's line, or its refusal's.
-fn put_report(out: &mut [u8], r: Report) -> usize
+pub fn put_report(out: &mut [u8], r: Report) -> usize
     requires { ⌜ 128 ≤ length (now out) ⌝ }
     ensures { λ k. ⌜ Put (now (out .entry)) 0 (reportedLine r) k (now (out .exit)) ⌝ }
 {

@@ -1,0 +1,18 @@
+-- What the functions beside the calls leave: lengths of a shape, and lines with an answer beside them.
+use Prim.Native.Nat.{ℕ}
+use mathlib.Core.Path.{_≡_}
+use mathlib.Core.List.{List}
+use Rattle.answers.specs.declared.Answer.{Answer}
+use Rattle.layout.specs.declared.Shape.{Shape}
+use Rattle.images.specs.Answers.{answerImage}
+use Rattle.line.specs.Lines.{Put}
+
+-- N, P and F under a version, and ChaCha20
+abbrev pub shapeAs : ℕ → ℕ → ℕ → ℕ → Shape
+shapeAs n p f version = record { n = n; p = p; f = f; version = version; cipher = 0 }
+
+-- the line in the first bytes, "the answer's number is then in the answer's image alone", and "the bytes of `line` after the
+-- line are left as given"
+pub record Lined (a : Answer) (text s : List ℕ) (count : ℕ) (last answer : List ℕ) : Type 0 where
+  pub put : Put s 0 text count last
+  pub shown : answer ≡ answerImage a

@@ -1,0 +1,163 @@
+"""The tool against the second program: random sequences of subcommands, every exit status, refusal's line, image byte and counter."""
+from rig import Checks, Rig
+import audit
+import calls
+import lines
+from layout import TOP
+
+SEQUENCES, STEPS = 14, 30
+SHAPES = ((1, 1, 64), (3, 2, 64), (5, 3, 128), (9, 2, 256), (2, 4, 64), (2, 2, 128), (3, 3, 512), (2, 64, 64))
+
+
+def expected(rig, call, *words):
+    """The second program's mount with what the rig brings, then its call: number, result."""
+    old = rig.old.read_bytes() if rig.old else bytes(32)
+    mounted = calls.mount(rig.volume, rig.present.read_bytes(), old, rig.outside)
+    if mounted.answer.number:
+        return mounted.answer, None
+    got = call(mounted.drive, rig.volume, *words)
+    return (got.answer, got) if hasattr(got, "answer") else (got[0], got)
+
+
+def compared(checks, rig, ran, answer, got, what):
+    """Exit status, the refusal's line, the image and the counter afterwards."""
+    checks.same(ran.returncode, answer.number, f"{what}: exit status, {ran.stderr!r}")
+    if answer.number:
+        checks.that(ran.stderr.startswith(lines.refusal_line(answer.image()) + b"ngt: "), f"{what}: refusal's line, {ran.stderr!r}")
+    elif hasattr(got, "volume"):
+        rig.volume, rig.outside = got.volume, got.drive.counter
+    checks.that(rig.image.read_bytes() == rig.volume, f"{what}: the image")
+    checks.same(rig.counter.read_text(), f"{rig.outside}\n", f"{what}: the counter")
+
+
+def bytes_step(checks, rig, way):
+    drive, source = rig.drive, rig.source
+    capacity = drive.n * drive.p * drive.f
+    length = source.choice((0, 1, 10, 64, 65, 300))
+    offset = source.choice((0, 1, 63, 64, source.randrange(capacity), capacity - length, capacity, TOP)) % 2**64
+    if way == "read":
+        ran = rig.tool("read", rig.image, *rig.keys(), "--offset", offset, "--length", length)
+        answer, got = expected(rig, calls.read, offset, bytes(length))
+        compared(checks, rig, ran, answer, got, f"read {offset} {length}")
+        checks.same(ran.stdout, got.buffer if got and not answer.number else b"", "what is read")
+    else:
+        data = source.randbytes(length)
+        ran = rig.tool("write", rig.image, *rig.keys(), "--offset", offset, data=data)
+        compared(checks, rig, ran, *expected(rig, calls.write, offset, data), f"write {offset} {length}")
+
+
+def begin_step(checks, rig):
+    fresh = rig.source.choice((rig.secret(), rig.secret(), rig.present))
+    ran = rig.tool("begin", rig.image, *rig.keys(), "--new-secret", fresh)
+    answer, got = expected(rig, calls.begin, fresh.read_bytes())
+    compared(checks, rig, ran, answer, got, "begin")
+    if not answer.number:
+        rig.present, rig.old = fresh, rig.present
+
+
+def sweep_step(checks, rig, whole):
+    if not whole:
+        n = rig.source.choice((0, 1, rig.drive.n - 1, rig.drive.n, 2**32 - 1, 2**40))
+        ran = rig.tool("sweep", rig.image, str(n), *rig.keys(**{"old-secret": rig.old or rig.present}))
+        return compared(checks, rig, ran, *expected(rig, calls.sweep, min(n, 2**32 - 1)), f"sweep {n}")
+    ran = rig.tool("sweep", rig.image, *rig.keys(**{"old-secret": rig.old or rig.present}))
+    answer, got = expected(rig, calls.report)
+    if not answer.number and rig.volume[5] == 0:
+        answer, got = expected(rig, calls.sweep, 0)
+    for n in range(rig.drive.n):
+        if not answer.number and rig.volume[5]:
+            one, moved = expected(rig, calls.sweep, n)
+            if one.number not in (0, 12):
+                answer, got = one, moved
+            elif one.number == 0:
+                rig.volume, rig.outside = moved.volume, moved.drive.counter
+    compared(checks, rig, ran, answer, None, "sweep of all")
+    checks.that(b"destroyed" not in ran.stdout + ran.stderr, "a sweep says nothing of destroying")
+
+
+def finish_step(checks, rig):
+    ran = rig.tool("finish", rig.image, *rig.keys(**{"old-secret": rig.old or rig.present}))
+    answer, got = expected(rig, calls.finish)
+    compared(checks, rig, ran, answer, got, "finish")
+    checks.same(b"may now be destroyed" in ran.stdout, not answer.number, "leave to destroy the old secret")
+    if not answer.number:
+        rig.old = None
+
+
+def tell_step(checks, rig, way):
+    ran = rig.tool(way, rig.image, *rig.keys())
+    answer, got = expected(rig, lines.sheet_line)
+    compared(checks, rig, ran, answer, got, way)
+    if answer.number:
+        return
+    page = audit.page(rig.present.read_bytes() + (rig.old.read_bytes() if rig.old else bytes(32)) + rig.outside.to_bytes(8, "little") + rig.volume)
+    checks.same(ran.stdout, got[1] if way == "report" else page, f"what {way} prints")
+    checks.that(b"destroyed" not in ran.stdout + ran.stderr, "no leave to destroy")
+    if way == "report":
+        checks.same(b"still needed" in ran.stderr, rig.volume[5] == 1, "the old secret is still needed")
+
+
+def hand_step(checks, rig, way):
+    """To dm-crypt and back, at times with one key twice or a buffer of another length."""
+    key, beside = rig.secret("--xts"), rig.folder / "beside"
+    data, tweak = key.read_bytes()[:32], key.read_bytes()[32:]
+    if rig.source.randrange(5) == 0:
+        tweak = data
+        key.write_bytes(data + tweak)
+    capacity = rig.drive.n * rig.drive.p * rig.drive.f
+    if way == "export":
+        ran = rig.tool("export", rig.image, *rig.keys(), "--xts-key", key, "--to", beside)
+        answer, got = expected(rig, calls.export, data, tweak, bytes(capacity))
+        compared(checks, rig, ran, answer, got, "export")
+        checks.same(beside.read_bytes() if beside.exists() else None, None if answer.number else got.buffer, "what is exported")
+        checks.that(answer.number or beside.stat().st_mode & 0o777 == 0o600, "an export is its owner's alone")
+    else:
+        beside.write_bytes(rig.source.randbytes(rig.source.choice((capacity, capacity, capacity, capacity - 1, capacity + 1, 0))))
+        ran = rig.tool("import", rig.image, *rig.keys(), "--xts-key", key, "--from", beside)
+        compared(checks, rig, ran, *expected(rig, calls.take_in, data, tweak, beside.read_bytes()), "import")
+    beside.unlink(missing_ok=True)
+
+
+def spoil_step(checks, rig):
+    """Something isn't what it has to be; one call shows it; then all is as before."""
+    way, volume, outside, present, old = rig.source.randrange(6), rig.volume, rig.outside, rig.present, rig.old
+    if way == 0:
+        at = rig.source.randrange(len(volume))
+        rig.volume = volume[:at] + bytes([volume[at] ^ 1 << rig.source.randrange(8)]) + volume[at + 1:]
+    elif way == 1:
+        rig.volume = rig.source.choice((volume[:-1], volume + b"\0", b"", volume[:104], bytes(len(volume))))
+    elif way == 2:
+        rig.outside = rig.source.choice((outside + 1, outside - 1, 0, TOP))
+        rig.counter.write_text(f"{rig.outside}\n")
+    elif way == 3:
+        rig.present = rig.secret()
+    elif way == 4:
+        rig.old = rig.secret()
+    rig.put_back(rig.volume)
+    rig.source.choice((lambda: bytes_step(checks, rig, "read"), lambda: tell_step(checks, rig, "report"), lambda: tell_step(checks, rig, "audit"),
+                       lambda: hand_step(checks, rig, "export")))()
+    rig.volume, rig.outside, rig.present, rig.old = volume, outside, present, old
+    rig.put_back(volume)
+    rig.counter.write_text(f"{outside}\n")
+
+
+def sequences(checks):
+    for number in range(SEQUENCES):
+        with Rig(f"tool {number}") as rig:
+            rig.format(*SHAPES[number % len(SHAPES)])
+            checks.that(rig.image.read_bytes() == rig.volume, "a fresh volume")
+            for _ in range(STEPS):
+                way = rig.source.choice("read write write write begin sweep sweep all finish report audit export import spoil spoil".split())
+                {"read": lambda: bytes_step(checks, rig, "read"), "write": lambda: bytes_step(checks, rig, "write"), "begin": lambda: begin_step(checks, rig),
+                 "sweep": lambda: sweep_step(checks, rig, False), "all": lambda: sweep_step(checks, rig, True), "finish": lambda: finish_step(checks, rig),
+                 "report": lambda: tell_step(checks, rig, "report"), "audit": lambda: tell_step(checks, rig, "audit"), "spoil": lambda: spoil_step(checks, rig),
+                 "export": lambda: hand_step(checks, rig, "export"), "import": lambda: hand_step(checks, rig, "import")}[way]()
+
+
+def main():
+    checks = Checks()
+    sequences(checks)
+    checks.close()
+
+
+main()
