@@ -11,8 +11,8 @@ import sys
 PAGES = ("README.md", "docs/PROMISES.md", "docs/ARCHITECTURE.md", "docs/DESIGNS.md", "docs/HANDBOOK.md")
 CRATES = {path.name: path for path in pathlib.Path("crates").iterdir()}
 # What isn't ours: the language, the toolchain and other programs.
-OTHERS = {"rt", "ensures", "requires", "match", "cryptography"}
-COMMANDS = ("cc ", "gcc ", "cryptsetup ")
+OTHERS = {"rt", "python3", "ensures", "requires", "match", "cryptography"}
+COMMANDS = ("cc ", "gcc ", "cryptsetup ", "nbd-client ")
 STATED = re.compile(r"^ *(?:pub |abbrev |unfoldable )*(?:([^\s:(){}]+) :(?= |$)|(?:record|data|mod|module) ([^\s:(){}]+))", re.M)
 WRITTEN = re.compile(r"\b(?:fn|struct|enum|const|mod) (\w+)|^    (?:pub )?([A-Za-z]\w*)(?:\(.*\)|: .*| \{.*)?,$", re.M)
 
@@ -32,7 +32,7 @@ def declared():
 def sources():
     """All that is said outside of the pages, as one text."""
     paths = [pathlib.Path("Makefile"), *(path for top in ("crates", "include", "host", "second", "tests", "bench") for path in pathlib.Path(top).rglob("*"))]
-    return "\n".join(path.read_text() for path in paths if path.suffix in (".antt", ".rt", ".c", ".h", ".py", ".sh", "") and path.is_file()
+    return "\n".join(path.read_text() for path in paths if path.suffix in (".antt", ".rt", ".c", ".h", ".py", ".sh", ".mk", "") and path.is_file()
                      and path.name not in ("stdin", "names.py"))
 
 
@@ -63,7 +63,8 @@ class Names:
         if "/" in word or word.endswith((".antt", ".rt", ".c", ".h", ".py", ".sh", ".md", ".txt")):
             return is_there(word)
         if "=" in word:
-            return word[:word.index("=") + 1] in self.words
+            name = word[:word.index("=")]
+            return name + "=" in self.words or name.isupper() and name in self.words
         if re.fullmatch(r"[a-z0-9]+|ngt_\w+", word):
             return word in self.words
         return not re.fullmatch(r"[A-Za-z][\w-]*", word)
@@ -71,7 +72,7 @@ class Names:
     def is_known(self, span):
         """Whether all of a span is."""
         if span.startswith("make "):
-            return f"\n{span[5:]}:" in self.text
+            return f"\n{span.split()[1]}:" in self.text
         return span.startswith(COMMANDS) or ";" in span or all(word.isupper() or self.is_one(word.strip("(),'")) for word in span.split())
 
     def wrong(self, page):
