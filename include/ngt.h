@@ -6,8 +6,9 @@
  * numbers are 1 to 13 and 15; 14 is given to no answer. docs/HANDBOOK.md explains each.
  *
  * The drive's image, 144 bytes: 0-3 N; 4-7 P; 8-11 F; 12 state (0 steady, 1 changing); 13 zero; 14-15 epoch; 16-17 the epoch
- * being left; 18-23 zero; 24-39 salt; 40-47 counter; 48-79 node 1; 80-111 present secret; 112-143 old secret. Bytes 13 and
- * 18-23 aren't looked at, nor are 16-17 and the old secret of a steady one. Another state than 0 or 1 is answered 1.
+ * being left; 18-19 version; 20-23 zero; 24-39 salt; 40-47 counter; 48-79 node 1; 80-111 present secret; 112-143 old secret. Bytes 13 and
+ * 20-23 aren't looked at, nor are 16-17 and the old secret of a steady one. Another state than 0 or 1 is answered 1, and so is
+ * another version than 1 or 2.
  * The answer's image, 16 bytes: 0-3 number; 4-7 kind of place (0 none, 1 head, 2 record, 3 node, 4 flake); 8-11 first value
  * (record, node, nugget of a flake; for answer 11 how many are left); 12-15 second value (the flake). What isn't carried is
  * zero. After each accepted change the outside counter to keep is bytes 40-47 of the drive's image.
@@ -20,10 +21,14 @@
 extern "C" {
 #endif
 
-/* When steady a mount doesn't look at old. A refused format stores no byte of the volume. Both store the whole image of the
+/* When steady a mount doesn't look at old. A refused format stores no byte of the volume. All three store the whole image of the
  * drive, refused or not: a refusal's is all zeros, and every call on it is answered 1. */
 uint32_t ngt_format(uint8_t *vol, size_t vol_len, uint32_t n, uint32_t p, uint32_t f, const uint8_t salt[16],
                     const uint8_t secret[32], uint64_t outside, uint8_t drive[144], uint8_t answer[16]);
+/* The same under a version, 1 or 2, and a cipher, 0; any other is answered 1. ngt_format is version 1 under cipher 0. A record
+ * has 18 bytes in version 1 and 26 in version 2, so a volume of version 2 is 8 bytes longer for each nugget. */
+uint32_t ngt_format_as(uint8_t *vol, size_t vol_len, uint32_t n, uint32_t p, uint32_t f, uint16_t version, uint8_t cipher,
+                       const uint8_t salt[16], const uint8_t secret[32], uint64_t outside, uint8_t drive[144], uint8_t answer[16]);
 uint32_t ngt_mount(const uint8_t *vol, size_t vol_len, const uint8_t present[32], const uint8_t old[32],
                    uint64_t outside, uint8_t drive[144], uint8_t answer[16]);
 
@@ -31,13 +36,19 @@ uint32_t ngt_mount(const uint8_t *vol, size_t vol_len, const uint8_t present[32]
 uint32_t ngt_read(const uint8_t drive[144], const uint8_t *vol, size_t vol_len, uint64_t offset,
                   uint8_t *buf, size_t buf_len, uint8_t answer[16]);
 
-/* Write, begin, sweep and finish change volume and drive where they stand, if the call is accepted. A refusal stores no byte of
- * either, and neither does an accepted write of no bytes: both may then lie on pages that can't be written. A change stores the
+/* Write, begin, sweep, finish and discard change volume and drive where they stand, if the call is accepted. A refusal stores no byte of
+ * either, and neither does an accepted write of no bytes or a discard that clears nothing: both may then lie on pages that can't be written. A change stores the
  * whole image anew, so bytes of it that mean nothing are zeros then. */
 uint32_t ngt_write(uint8_t drive[144], uint8_t *vol, size_t vol_len, uint64_t offset, const uint8_t *bytes, size_t bytes_len,
                    uint8_t answer[16]);
 uint32_t ngt_begin(uint8_t drive[144], uint8_t *vol, size_t vol_len, const uint8_t secret[32], uint8_t answer[16]);
 uint32_t ngt_sweep(uint8_t drive[144], uint8_t *vol, size_t vol_len, uint32_t nugget, uint8_t answer[16]);
+/* Frees count flakes of a nugget from the first on, in version 2 alone: they read as zero, and count as never written. Their stored
+ * bytes stay where they are, and so do those of their tags; the next write there rekeys the nugget. 9 on version 1; 8 if the
+ * nugget or the range lies past the end (first + count is compared whole, and first P with count 0 is allowed); 7 path; 13
+ * unless nothing is cleared. */
+uint32_t ngt_discard(uint8_t drive[144], uint8_t *vol, size_t vol_len, uint32_t nugget, uint32_t first, uint32_t count,
+                     uint8_t answer[16]);
 
 /* A queue of writes: requests of 16 bytes each, offset and length, with their bytes joined in one buffer. It does as the writes one
  * after another, each of the next part of bytes, up to the first refusal, which is the answer. done: how many were done, 8

@@ -30,22 +30,27 @@ def some_journal(source, p):
     return source.choice((0, (1 << p) - 1, 1 << source.randrange(p), source.getrandbits(p)))
 
 
-def some_record(source, p, state, epoch, counter):
+def some_record(source, p, state, epoch, counter, version):
+    """In version 2 some spent flakes aren't held."""
     keycount = min(source.choice((0, source.randrange(12), 10 ** source.randrange(20), counter)), counter)
-    return [keycount, some_journal(source, p), epoch - state * source.randrange(2)]
+    spent = some_journal(source, p)
+    held = spent if version == 1 else spent & some_journal(source, p)
+    masks = [spent] if version == 1 else [spent, held]
+    return [keycount, *masks, epoch - state * source.randrange(2)]
 
 
-def some_spec(source, n, p, f=64):
+def some_spec(source, n, p, f=64, version=1):
     state = source.randrange(2)
     epoch = source.choice((1 + state, 9 + state, source.randint(1 + state, EPOCH_TOP), EPOCH_TOP))
     counter = source.choice((0, source.getrandbits(64), 10 ** source.randrange(20), TOP))
-    return Spec(n, p, f, state, epoch, counter, [some_record(source, p, state, epoch, counter) for _ in range(n)])
+    return Spec(n, p, f, state, epoch, counter, [some_record(source, p, state, epoch, counter, version) for _ in range(n)],
+                version=version)
 
 
 def drives(source):
     for case in range(DRIVES):
         shape = source.randint(1, 12), source.choice((1, 2, 3, 10, 11, 63, 64))
-        yield f"drive {case} of shape {shape}", given(some_spec(source, *shape))
+        yield f"drive {case} of shape {shape}", given(some_spec(source, *shape, version=source.choice((1, 2))))
     for n, p, f in ((291, 1, 64), (256, 1, 64), (11, 64, 64), (1, 14, 4096), (100, 5, 64)):
         assert layout(n, p, f).length <= sheet.MOST - 72
         yield f"the fullest of {n} nuggets", given(some_spec(source, n, p, f))

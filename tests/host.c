@@ -200,6 +200,28 @@ static void hands(void) {
     holds("and so is what is handed out", ngt_export(image, volume, SIZE, secret, other, sector, SECTOR, answer) == 0 && memcmp(was, sector, SECTOR) == 0);
 }
 
+static void discards(void) {
+    static uint8_t wide[LENGTH + 8 * N];
+    uint8_t text[F], byte = 9;
+    holds("another version is refused by 1", ngt_format_as(wide, sizeof wide, N, P, F, 3, 0, salt, secret, 5, drive, answer) == 1);
+    holds("another cipher is refused by 1", ngt_format_as(wide, sizeof wide, N, P, F, 2, 1, salt, secret, 5, drive, answer) == 1);
+    holds("a volume of version 1 has another length", ngt_format_as(vol, LENGTH, N, P, F, 2, 0, salt, secret, 5, drive, answer) == 2);
+    holds("version 2 is formatted", ngt_format_as(wide, sizeof wide, N, P, F, 2, 0, salt, secret, 5, drive, answer) == 0);
+    holds("drive and head say so", number(drive + 18, 2) == 2 && number(wide + 3, 2) == 2);
+    holds("a write marks both masks", ngt_write(drive, wide, sizeof wide, 0, &byte, 1, answer) == 0 && number(wide + RECORDS + 8, 8) == 1 && number(wide + RECORDS + 16, 8) == 1);
+    holds("a discard clears held bits only", ngt_discard(drive, wide, sizeof wide, 0, 0, P, answer) == 0 && number(wide + RECORDS + 8, 8) == 1 && number(wide + RECORDS + 16, 8) == 0);
+    holds("it raises the counter", number(drive + 40, 8) == 8);
+    holds("the place reads as zero", ngt_read(drive, wide, sizeof wide, 0, text, F, answer) == 0 && text[0] == 0);
+    memcpy(again, drive, 144);
+    holds("one that clears nothing changes nothing", ngt_discard(drive, wide, sizeof wide, 0, 0, P, answer) == 0 && memcmp(again, drive, 144) == 0);
+    holds("a range past the end is refused by 8", ngt_discard(drive, wide, sizeof wide, 0, P, 1, answer) == 8);
+    holds("a sum past 2^32 is refused by 8", ngt_discard(drive, wide, sizeof wide, 0, UINT32_MAX, 2, answer) == 8);
+    holds("the next write there rekeys", ngt_write(drive, wide, sizeof wide, 0, &byte, 1, answer) == 0 && number(wide + RECORDS, 8) == 1);
+    holds("version 1 is formatted", ngt_format(vol, LENGTH, N, P, F, salt, secret, 5, drive, answer) == 0 && number(drive + 18, 2) == 1);
+    keep();
+    holds("version 1 has no discard: 9", ngt_discard(drive, vol, LENGTH, 0, 0, 1, answer) == 9 && as_kept());
+}
+
 static void fleet(void) {
     static const char lines[] = "nuggets=3 moved=1 left=2 flakes=2 share=50.00 done=1\nnuggets=1 moved=1 left=0 flakes=0 share=100.00 done=0\n";
     static const char both[] = "drives=2 nuggets=4 moved=2 left=2 flakes=2 share=50.00 done=1 last=1\n";
@@ -223,6 +245,7 @@ int main(void) {
     summaries();
     spent();
     hands();
+    discards();
     fleet();
     printf("%d passed, %d failed\n", passed, failed);
     return failed ? 1 : 0;

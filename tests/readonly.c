@@ -17,11 +17,11 @@
 #include <unistd.h>
 
 /* how many refusals */
-enum { WANTED = 100000, ROOM = 256, SHOWN = 10, KINDS = 10 };
-enum kind { FORMAT, MOUNT, READ, WRITE, QUEUE, BEGIN, SWEEP, FINISH, REPORT, STORED };
-static const char *const names[KINDS] = {"format", "mount", "read", "write", "queue", "begin", "sweep", "finish", "report", "stored_flake"};
+enum { WANTED = 100000, ROOM = 256, SHOWN = 10, KINDS = 11 };
+enum kind { FORMAT, MOUNT, READ, WRITE, QUEUE, BEGIN, SWEEP, FINISH, DISCARD, REPORT, STORED };
+static const char *const names[KINDS] = {"format", "mount", "read", "write", "queue", "begin", "sweep", "finish", "discard", "report", "stored_flake"};
 /* The answers that each call can give, with 0 where it may be accepted and change nothing. */
-static const char *const reached[KINDS] = {"1 2 13", "1 2 3 4 5 6 7", "0 1 2 7 8", "0 1 2 7 8 13", "0 1 2 7 8 13", "1 2 7 9 10 13 15", "1 2 7 8 9 12 13", "1 2 7 9 11 13", "0 1 2 7", "0 1 2 8"};
+static const char *const reached[KINDS] = {"1 2 13", "1 2 3 4 5 6 7", "0 1 2 7 8", "0 1 2 7 8 13", "0 1 2 7 8 13", "1 2 7 9 10 13 15", "1 2 7 8 9 12 13", "1 2 7 9 11 13", "0 1 2 7 8 9 13", "0 1 2 7", "0 1 2 8"};
 
 /* What a call is given, beside drive and volume. */
 struct given {
@@ -93,6 +93,7 @@ static uint32_t make(const struct given *g, const struct place *at) {
     case BEGIN: return ngt_begin(at->image, at->vol, at->length, at->one, at->answer);
     case SWEEP: return ngt_sweep(at->image, at->vol, at->length, g->n, at->answer);
     case FINISH: return ngt_finish(at->image, at->vol, at->length, at->answer);
+    case DISCARD: return ngt_discard(at->image, at->vol, at->length, g->n, g->p, (uint32_t)g->length % 3, at->answer);
     case REPORT: return ngt_report(at->image, at->vol, at->length, at->report, at->answer);
     default: return ngt_stored_flake(at->image, at->vol, at->length, g->n, g->p, at->span, at->answer);
     }
@@ -140,7 +141,7 @@ static struct given some(const uint8_t *image) {
         if (g.kind == QUEUE) /* one request, in the last 16 bytes; at times its length is off */
             store(g.two + 16, g.number), store(g.two + 24, g.length + (any() % 8 == 0));
     } else {
-        g.n = near(g.n), g.p = near(g.p);
+        g.n = near(g.n), g.p = g.kind == DISCARD && any() % 2 ? 0 : near(g.p);
     }
     return g;
 }

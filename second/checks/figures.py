@@ -69,13 +69,13 @@ def writes(tally):
         pads += now.pads
         present_before += (after.keycount - before.keycount) * len(before.present())
     record = read_record(now.volume, layout(1, 2, 64), 0)
-    tally.same("figure 10", (record.keycount, record.journal), (1, 3))
+    tally.same("figure 10", (record.keycount, record.held), (1, 3))
     tally.same("figure 10 pads", [pad[:3] for pad in pads],
                [(0, 0, 0), (0, 0, 1), (0, 1, 0), (0, 1, 1)])
     tally.same("figure 10 present and retired", (len(record.present()), present_before), (2, 2))
     once = calls.write(fresh.drive, fresh.volume, 60, b"ten bytes.")
     record = read_record(once.volume, layout(1, 2, 64), 0)
-    tally.same("figure 11", (record.keycount, record.journal), (0, 3))
+    tally.same("figure 11", (record.keycount, record.held), (0, 3))
     tally.same("figure 11 pads", [pad[:3] for pad in once.pads], [(0, 0, 0), (0, 0, 1)])
     whole = calls.read(once.drive, once.volume, 0, b"?" * 128)
     tally.same("figure 11 bytes", whole.buffer, bytes(60) + b"ten bytes." + bytes(58))
@@ -135,7 +135,7 @@ def edges(tally):
         for wrong in (length - 1, length + 1, 0):
             got = calls.format(bytes(wrong), n, p, f, SALT, PRESENT, 0)
             tally.same(f"edge {n} {p} {f} length", got.answer.number, 2)
-    largest = Drive(16384, 64, 4096, epoch=1)
+    largest = Drive(16384, 64, 4096, epoch=1, version=1)
     tally.same("largest shape, no volume", [got.answer.number for got in drive_calls(largest, b"")],
                [2] * 8)
 

@@ -49,8 +49,8 @@ def lines(tally):
 def images(tally):
     """The C interface's images of drives and answers."""
     secrets = PRESENT, OLD
-    drive = Drive(3, 2, 64, SALT, 1, 6, 7, 2**64 - 2, b"n" * 32, *secrets)
-    image = struct.pack("<IIIBxHH6x16sQ32s32s32s", 3, 2, 64, 1, 7, 6, SALT, 2**64 - 2, b"n" * 32,
+    drive = Drive(3, 2, 64, SALT, 1, 6, 7, 2**64 - 2, b"n" * 32, *secrets, 2)
+    image = struct.pack("<IIIBxHHH4x16sQ32s32s32s", 3, 2, 64, 1, 7, 6, 2, SALT, 2**64 - 2, b"n" * 32,
                         *secrets)
     tally.same("drive's image", drive.image(), image)
     tally.same("drive of an image", drive_of_image(image), drive)
