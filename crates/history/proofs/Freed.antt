@@ -134,12 +134,17 @@ module _ (w : World) (x : Sound w) (n first count : ℕ) where
         (discard-pads (w .drive) (w .vol) n first count (told-so .inside))
         (worked-keeps w x (discardWays n first count) (contentsOf (w .drive) (w .vol)) after ready)
 
+    pub cleared-turns : (m : ℕ) → m < w .drive .n
+        → recordOf (shapeOf (w .drive)) (settled (discardedDrive (w .drive) (w .vol) n first count) (discardWork (w .drive) (w .vol) n first count)) m
+        ≡ turned (discardWays n first count m) (w .drive .epoch) (recordOf (shapeOf (w .drive)) (w .vol) m)
+    cleared-turns m h = worked-turns w x (discardWays n first count) (contentsOf (w .drive) (w .vol)) after ready m h
+
     -- each nugget keeps all but held bits
     pub cleared-kept : (m : ℕ) → m < w .drive .n
         → KeptButHeld (shapeOf (w .drive)) (w .vol) (settled (discardedDrive (w .drive) (w .vol) n first count) (discardWork (w .drive) (w .vol) n first count)) m
     cleared-kept m h =
         let r = recordOf (shapeOf (w .drive)) (w .vol) m in
-        let turns = worked-turns w x (discardWays n first count) (contentsOf (w .drive) (w .vol)) after ready m h in
+        let turns = cleared-turns m h in
         let (keycount, spent, epoch) = kept-by (eqb m n) r in
         record {
           keycount = ap (λ (q : Record). q .keycount) turns ∙ keycount;
