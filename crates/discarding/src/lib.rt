@@ -81,7 +81,12 @@ fn clear(d: Drive, vol: &mut [u8], freed: Freed)
 {
     let range = records::range_of(freed.first, freed.count);
     laying::mark(d, &mut *vol, freed.nugget, Way::Clear(range));
-    laying::tend(&mut *vol, drive::shape_of(d), freed.nugget, Way::Clear(range));
+    laying::tend(
+        &mut *vol,
+        drive::shape_of(d),
+        freed.nugget,
+        Way::Clear(range),
+    );
 }
 
 // "Discard takes a flake range of one nugget and clears held bits only"
