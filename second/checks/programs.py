@@ -119,7 +119,8 @@ old=needed
                + b",".join(b"%d" % f for f in range(64)) + b"\ncounter=18446744073709551615\nold=free\n")
     for data in (b"", good[:71], good[:-1], flipped(good, 0), flipped(good, 32), flipped(good, 64), flipped(good, 72 + 104)):
         tally.same("page of a refusal", audit.page(data), sheet.line(data))
-    tally.same("page of the sample", audit.page(sample.sample()), SAMPLE_PAGE)
+    for version in (1, 2):
+        tally.same("page of the sample", audit.page(sample.sample(version)), SAMPLE_PAGE)
 
 
 def fleets(tally):
