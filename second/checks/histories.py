@@ -14,6 +14,7 @@ from checks.choose import TOP, a_range, secret, shape
 from checks.history import History
 from checks.hostile import Hostile
 from checks.make import Spec, made, some_text
+from checks.model import FREEING
 
 COUNT, STEPS = 400, 40
 
@@ -112,7 +113,7 @@ def step(chance, history):
 
 
 def clean(tally, chance, words, begins):
-    """The numbers that its calls were answered."""
+    """The numbers that its calls were answered, and what its discards met."""
     history = begins(tally, chance, words)
     history.mount()
     for _ in range(STEPS):
@@ -120,7 +121,7 @@ def clean(tally, chance, words, begins):
     history.read(0, history.model.size())
     history.report()
     history.stale_all()
-    return history.met
+    return history.met | history.model.freeing
 
 
 def hostile(tally, chance, words):
@@ -142,4 +143,4 @@ def run(tally):
     met = set()
     for i in range(COUNT):
         met |= one(tally, i)
-    tally.same("every answer of an undamaged history was met", met, {0, *range(8, 14), 15})
+    tally.same("every answer of an undamaged history was met, and every kind of discard", met, {0, *range(8, 14), 15} | FREEING)
