@@ -59,7 +59,11 @@ pub fn known_version(version: u16) -> bool
 fn are_known(s: Shape) -> bool
     ensures { λ r. ⌜ r ≡ known s ⌝ }
 {
-    if known_version(s.version) { s.cipher == 0 } else { false }
+    if known_version(s.version) {
+        s.cipher == 0
+    } else {
+        false
+    }
 }
 
 // Whether the shape is one that a volume may have.

@@ -20,15 +20,7 @@ fn epoch_left(state: State) -> u16
 }
 
 // Bytes 0 to 23.
-fn numbers_image(
-    n: u32,
-    p: u32,
-    f: u32,
-    state: u8,
-    epoch: u16,
-    left: u16,
-    version: u16,
-) -> [u8; 24]
+fn numbers_image(n: u32, p: u32, f: u32, state: u8, epoch: u16, left: u16, version: u16) -> [u8; 24]
     ensures { λ r. ⌜ r ≡ numbersImage n p f state epoch left version ⌝ }
 {
     let mut out = [0u8; 24];
