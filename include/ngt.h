@@ -86,12 +86,13 @@ uint32_t ngt_report(const uint8_t drive[144], const uint8_t *vol, size_t vol_len
 uint32_t ngt_stored_flake(const uint8_t drive[144], const uint8_t *vol, size_t vol_len, uint32_t nugget, uint32_t flake,
                           uint8_t span[16], uint8_t answer[16]);
 
-/* Two volumes against one drive. Accepted where both pass the path of this nugget, judged by the drive, up to the drive's node 1.
- * Refused, in this order: 1; 2 for the first, then the second; 8; 7 path of the first, which ends with node 1 against the
- * drive's (place node 1), then of the second. No head is tested. length: 4 bytes, always stored: 0 if the call is refused or the
- * nugget's record bytes and tags agree in both volumes. Else the two messages of the lowest node of the path that both volumes
- * have alike, different and with the same BLAKE2s value, stand in the first length bytes of one and two; every other byte of
- * these stays as it is. The drive's version is both volumes': one of the other has another length. first and second may be one or overlap: both are only read. */
+/* Two volumes against one drive. Accepted where both pass the path of this nugget, judged by the drive, up to the drive's node
+ * 1. Refused, in this order: 1; 2 for the first, then the second; 8; 7 path of the first, which ends with node 1 against the
+ * drive's (place node 1), then of the second. No head is tested. length: 4 bytes, always stored: 0 if the call is refused or
+ * the nugget's record bytes and tags agree in both volumes. Else the two messages of the lowest node of the path that both
+ * volumes have alike, different and with the same BLAKE2s value, stand in the first length bytes of one and two; every other
+ * byte of these stays as it is. The drive's version is both volumes': one of the other has another length. first and second may
+ * be one or overlap: both are only read. */
 uint32_t ngt_twins(const uint8_t drive[144], const uint8_t *first, size_t first_len, const uint8_t *second, size_t second_len,
                    uint32_t nugget, uint8_t one[1055], uint8_t two[1055], uint8_t length[4], uint8_t answer[16]);
 
