@@ -71,13 +71,16 @@ def a_change(chance, history):
 
 
 def a_discard(chance, model):
-    """0 to P flakes of a nugget, at times again those just freed, at times past the end."""
-    n = chance.choice((chance.randrange(model.n), chance.randrange(model.n), model.n, 2**32 - 1))
+    """0 to P flakes of a nugget, mostly of one that holds some, often of one that is left; at times again those just freed, at times
+    past the end."""
     if model.ghosts and chance.random() < 0.2:
         n, first = chance.choice(sorted(model.ghosts))
         return n, first, 1
-    first = chance.choice((0, chance.randint(0, model.p), 2**32 - 1 if chance.random() < 0.1 else 0))
-    return n, first, chance.choice((0, 1, model.p - first, model.p, 2**32 - 1)) % 2**32
+    holding = [n for n in range(model.n) if model.flakes(n)] or [0]
+    left = [n for n in holding if model.records[n][3] != model.epoch] or holding
+    n = chance.choice((chance.choice(holding), chance.choice(left), chance.choice(left), chance.randrange(model.n), model.n, 2**32 - 1))
+    first = chance.choice((0, 0, chance.randint(0, model.p), 2**32 - 1 if chance.random() < 0.1 else 0))
+    return n, first, chance.choice((0, 1, 1, model.p - first, model.p - first, model.p, 2**32 - 1)) % 2**32
 
 
 def damage(chance, history):
