@@ -26,7 +26,7 @@ def old_word(drive):
 
 def flakes_words(record, flakes):
     """The present flakes, ascending; a dash if there is none."""
-    return ",".join(str(f) for f in range(flakes) if record.journal >> f & 1) or "-"
+    return ",".join(str(f) for f in range(flakes) if record.held >> f & 1) or "-"
 
 
 def nugget_line(drive, volume, n):

@@ -1,4 +1,5 @@
-"""The nine calls, and document 02's queue of writes, export and import. Each takes a volume as bytes, changes nothing in place and gives a Result.
+"""The nine calls, and document 02's queue of writes, discard, export and import. Each takes a volume as bytes, changes nothing in
+place and gives a Result.
 
 A refused call gives everything back as it came; a refused format or mount, the blank drive; a
 queue what the writes before the refused one left.
@@ -12,8 +13,9 @@ import xts
 from answers import ACCEPTED, Answer, altered
 from drive import (BLANK, CHANGING, MARK, NO_SECRET, STEADY, Drive, counter_test, first_tests,
                    seal_change, shape_and_length_test, state_in_limits)
-from layout import EPOCH_TOP, HEAD, Record, layout, read_record, shape_in_limits
-from nuggets import change, contents, path_answer, read_tests, rekey_tests, touched, write_tests
+from layout import EPOCH_TOP, HEAD, RECORD, Record, layout, read_record, shape_in_limits
+from nuggets import (change, contents, path_answer, read_tests, rekey_tests, store_record, touched,
+                     write_tests)
 from primitives import le, number
 
 
@@ -46,30 +48,36 @@ def share_of(nuggets, moved, flakes, done):
     return min(share, 9999) if moved < nuggets else share
 
 
-def format(volume, n, p, f, salt, secret, outside):
-    if not shape_in_limits(n, p, f):
+def format(volume, n, p, f, salt, secret, outside, version=1, cipher=0):
+    """The one cipher is ChaCha20, 0."""
+    if not shape_in_limits(n, p, f, version) or cipher:
         return Result(Answer(1), BLANK, volume)
-    lay = layout(n, p, f)
+    lay = layout(n, p, f, version)
     bad = Answer(2) if len(volume) != lay.length else counter_test(outside)
     if bad:
         return Result(bad, BLANK, volume)
     work = bytearray(lay.length)
-    work[lay.records:lay.tags] = Record(0, 0, 1).stored() * n
+    work[lay.records:lay.tags] = Record(0, 0, 0, 1).stored(version) * n
     work[lay.tree:lay.flakes] = tree.build(work, lay)
-    drive = seal_change(Drive(n, p, f, salt, epoch=1, counter=outside, present=secret), work)
+    drive = seal_change(Drive(n, p, f, salt, epoch=1, counter=outside, present=secret,
+                              version=version), work)
     return Result(ACCEPTED, drive, bytes(work))
+
+
+def head_version(volume):
+    return number(volume[3:5])
 
 
 def head_shape_test(volume):
     """Mount's 2 under 104 bytes, 3, 1, 2. Only then may the shape be relied on."""
     if len(volume) < HEAD:
         return Answer(2)
-    if volume[:5] != MARK:
+    if volume[:3] != MARK or head_version(volume) not in RECORD:
         return Answer(3)
     n, p, f = number(volume[8:12]), number(volume[12:14]), number(volume[14:16])
     if not (shape_in_limits(n, p, f) and state_in_limits(volume[5], number(volume[6:8]))):
         return Answer(1)
-    return Answer(2) if len(volume) != layout(n, p, f).length else None
+    return Answer(2) if len(volume) != layout(n, p, f, head_version(volume)).length else None
 
 
 def head_drive(volume, present, old):
@@ -78,9 +86,10 @@ def head_drive(volume, present, old):
     state, epoch = volume[5], number(volume[6:8])
     leaving = epoch - 1 if state == CHANGING else 0
     kept = old if state == CHANGING else NO_SECRET
-    node1 = tree.node(volume, layout(n, p, f), 1)
+    version = head_version(volume)
+    node1 = tree.node(volume, layout(n, p, f, version), 1)
     return Drive(n, p, f, volume[16:32], state, leaving, epoch, number(volume[32:40]),
-                 node1, present, kept)
+                 node1, present, kept, version)
 
 
 def mount_tests(drive, volume, outside):
@@ -248,6 +257,33 @@ def sweep(drive, volume, nugget):
     pads = change(work, drive, nugget, [], b"")
     after = seal_change(drive, work)
     return Result(ACCEPTED, after, bytes(work), pads=tuple(pads))
+
+
+def discard_tests(drive, volume, nugget, first, count):
+    """9 on version 1, 8, 7 path."""
+    if drive.version == 1:
+        return Answer(9)
+    if nugget >= drive.n or first + count > drive.p:
+        return Answer(8)
+    return path_answer(volume, drive, nugget)
+
+
+def discard(drive, volume, nugget, first, count):
+    """Clears held bits. Where nothing is cleared all stays as it is; else 13."""
+    bad = first_tests(drive, volume) or discard_tests(drive, volume, nugget, first, count)
+    if bad:
+        return Result(bad, drive, volume)
+    record = read_record(volume, drive.layout, nugget)
+    freed = (1 << count) - 1 << first
+    if not record.held & freed:
+        return Result(ACCEPTED, drive, volume)
+    bad = counter_test(drive.counter)
+    if bad:
+        return Result(bad, drive, volume)
+    work = bytearray(volume)
+    store_record(work, drive.layout, nugget, record._replace(held=record.held & ~freed))
+    after = seal_change(drive, work)
+    return Result(ACCEPTED, after, bytes(work))
 
 
 def count(drive, volume):

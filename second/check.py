@@ -11,8 +11,8 @@ import traceback
 
 from checks.tally import Tally
 
-GROUPS = ("vectors", "figures", "refusals", "edges", "queues", "twins", "summaries", "handing", "flips",
-          "places", "garbage", "histories", "programs")
+GROUPS = ("vectors", "figures", "refusals", "edges", "discards", "queues", "twins", "summaries", "handing",
+          "flips", "places", "garbage", "histories", "programs")
 SHOWN = 20
 
 

@@ -5,14 +5,16 @@ from typing import NamedTuple
 
 from primitives import le, number
 
-HEAD, RECORD, TAG, NODE = 104, 18, 16, 32
+HEAD, TAG, NODE = 104, 16, 32
+# The bytes of a record, by version.
+RECORD = {1: 18, 2: 26}
 MOST_NUGGETS, MOST_FLAKES, MOST_SIZE = 16384, 64, 4096
 TOP = 2**64 - 1
 EPOCH_TOP = 65535
 
 
-def shape_in_limits(n, p, f):
-    return (1 <= n <= MOST_NUGGETS and 1 <= p <= MOST_FLAKES
+def shape_in_limits(n, p, f, version=1):
+    return (version in RECORD and 1 <= n <= MOST_NUGGETS and 1 <= p <= MOST_FLAKES
             and 64 <= f <= MOST_SIZE and f % 64 == 0)
 
 
@@ -24,19 +26,20 @@ def leaves(n):
 class Layout:
     """The parts of a volume of one shape. It is numbers only and allocates nothing."""
 
-    def __init__(self, n, p, f):
-        self.n, self.p, self.f = n, p, f
+    def __init__(self, n, p, f, version):
+        self.n, self.p, self.f, self.version = n, p, f, version
+        self.record = RECORD[version]
         self.leaves = leaves(n)
         self.nodes = 2 * self.leaves - 1
         self.records = HEAD
-        self.tags = self.records + RECORD * n
+        self.tags = self.records + self.record * n
         self.tree = self.tags + TAG * n * p
         self.flakes = self.tree + NODE * self.nodes
         self.contents = n * p * f
         self.length = self.flakes + self.contents
 
     def record_at(self, n):
-        return self.records + RECORD * n
+        return self.records + self.record * n
 
     def tag_at(self, n, f):
         return self.tags + TAG * (n * self.p + f)
@@ -54,29 +57,38 @@ class Layout:
 
 
 @lru_cache(maxsize=256)
-def layout(n, p, f):
-    return Layout(n, p, f)
+def layout(n, p, f, version=1):
+    return Layout(n, p, f, version)
+
+
+def flakes_in(mask):
+    """The flakes of a mask, ascending."""
+    return [f for f in range(64) if mask >> f & 1]
 
 
 class Record(NamedTuple):
+    """`spent` are the flakes whose pad was used under this keycount, `held` those that hold contents.
+    Version 1 has one mask, the journal, for both."""
     keycount: int
-    journal: int
+    spent: int
+    held: int
     epoch: int
 
-    def stored(self):
-        return le(self.keycount, 8) + le(self.journal, 8) + le(self.epoch, 2)
+    def stored(self, version):
+        masks = le(self.held, 8) if version == 1 else le(self.spent, 8) + le(self.held, 8)
+        return le(self.keycount, 8) + masks + le(self.epoch, 2)
 
     def present(self):
-        """The flakes present, ascending."""
-        return [f for f in range(64) if self.journal >> f & 1]
+        """The flakes held, ascending."""
+        return flakes_in(self.held)
 
     def well_formed(self, p, epoch, changing, counter):
-        if self.journal >> p or self.keycount > counter:
+        if self.spent >> p or self.held & ~self.spent or self.keycount > counter:
             return False
         return self.epoch == epoch or (changing and self.epoch == epoch - 1)
 
 
 def read_record(volume, lay, n):
     at = lay.record_at(n)
-    return Record(number(volume[at:at + 8]), number(volume[at + 8:at + 16]),
-                  number(volume[at + 16:at + 18]))
+    words = [number(volume[i:i + 8]) for i in range(at, at + lay.record - 2, 8)]
+    return Record(words[0], words[1], words[-1], number(volume[at + lay.record - 2:at + lay.record]))

@@ -5,7 +5,7 @@ from typing import NamedTuple
 import keys
 import tree
 from answers import FLAKE, Place, altered
-from layout import RECORD, TAG, Record, read_record
+from layout import TAG, Record, read_record
 from primitives import xor
 
 
@@ -38,7 +38,8 @@ def touched(lay, offset, length):
 
 
 def needs_rekey(record, epoch, flakes):
-    return record.epoch != epoch or any(record.journal >> f & 1 for f in flakes)
+    """T is held against the spent flakes: a pad that was used isn't used again."""
+    return record.epoch != epoch or any(record.spent >> f & 1 for f in flakes)
 
 
 def secret_of(drive, record):
@@ -59,7 +60,7 @@ def contents(volume, drive, n, f):
     """The contents of a flake; an absent one reads as zero."""
     lay = drive.layout
     record = read_record(volume, lay, n)
-    if not record.journal >> f & 1:
+    if not record.held >> f & 1:
         return bytes(lay.f)
     pad = keys.pad(key_of(drive, record, n), record.keycount, f, lay.f)
     return xor(stored_bytes(volume, lay, n, f), pad)
@@ -91,7 +92,7 @@ def read_tests(volume, drive, n, flakes):
 
 
 def rekey_tests(volume, drive, n):
-    """All of the journal. The path passed and 13 wasn't due, so the keycount isn't at its top."""
+    """All flakes held. The path passed and 13 wasn't due, so the keycount isn't at its top."""
     return altered(flakes_test(volume, drive, n, read_record(volume, drive.layout, n).present()))
 
 
@@ -132,10 +133,13 @@ def change(work, drive, n, pieces, data):
         texts[piece.flake][piece.start:piece.start + piece.length] = part
     keycount = record.keycount + 1 if rekey else record.keycount
     listed = encipher(work, drive, n, keycount, texts)
-    journal = record.journal
-    for f in fresh:
-        journal |= 1 << f
-    at = lay.record_at(n)
-    work[at:at + RECORD] = Record(keycount, journal, drive.epoch).stored()
-    tree.renew(work, lay, n)
+    mask = sum(1 << f for f in fresh)
+    masks = (mask, mask) if rekey else (record.spent | mask, record.held | mask)
+    store_record(work, lay, n, Record(keycount, *masks, drive.epoch))
     return listed
+
+
+def store_record(work, lay, n, record):
+    """Record n of a bytearray, with its leaf and path."""
+    work[lay.record_at(n):lay.record_at(n + 1)] = record.stored(lay.version)
+    tree.renew(work, lay, n)

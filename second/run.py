@@ -12,7 +12,7 @@ import calls
 from drive import BLANK
 
 MOST_BYTES = 64 << 20
-WIDTHS = {"u32": 2**32, "u64": 2**64, "size": MOST_BYTES + 1, "bit": 8}
+WIDTHS = {"u8": 2**8, "u16": 2**16, "u32": 2**32, "u64": 2**64, "size": MOST_BYTES + 1, "bit": 8}
 
 
 class Misread(Exception):
@@ -70,8 +70,8 @@ class Machine:
 
     def call(self, name, values):
         """Makes a call and takes over what it leaves."""
-        if name in ("format", "mount"):
-            result = getattr(calls, name)(self.volume, *values)
+        if name in ("format", "format_as", "mount"):
+            result = getattr(calls, name[:6])(self.volume, *values)
         else:
             if name in ("read", "export"):
                 values = [*values[:-1], bytes(values[-1])]
@@ -82,6 +82,7 @@ class Machine:
 
 CALLS = {
     "format": ("u32", "u32", "u32", 16, 32, "u64"),
+    "format_as": ("u32", "u32", "u32", 16, 32, "u64", "u16", "u8"),
     "mount": (32, 32, "u64"),
     "read": ("u64", "size"),
     "write": ("u64", "bytes"),
@@ -91,6 +92,7 @@ CALLS = {
     "begin": (32,),
     "sweep": ("u32",),
     "finish": (),
+    "discard": ("u32", "u32", "u32"),
     "report": (),
     "stored_flake": ("u32", "u32"),
 }

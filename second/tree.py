@@ -3,7 +3,7 @@
 from answers import NODE as NODE_PLACE
 from answers import RECORD as RECORD_PLACE
 from answers import Place
-from layout import NODE, RECORD, TAG, read_record
+from layout import NODE, TAG, read_record
 from primitives import blake2s, le
 
 ZEROS = bytes(NODE)
@@ -25,7 +25,7 @@ def node(volume, lay, i):
 def leaf_of(volume, lay, n):
     """The leaf that nugget n's record and tags make."""
     at, tags = lay.record_at(n), lay.tag_at(n, 0)
-    return leaf(n, bytes(volume[at:at + RECORD]), bytes(volume[tags:tags + TAG * lay.p]))
+    return leaf(n, bytes(volume[at:at + lay.record]), bytes(volume[tags:tags + TAG * lay.p]))
 
 
 def inner_of(volume, lay, i):

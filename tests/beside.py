@@ -15,16 +15,16 @@ sys.path.insert(0, str(ROOT / "second"))
 import calls  # noqa: E402
 from drive import STEADY  # noqa: E402
 
-U32, U64, SIZE = ctypes.c_uint32, ctypes.c_uint64, ctypes.c_size_t
-NAMES = ("format", "mount", "read", "write", "queue", "export", "take_in", "begin", "sweep", "finish", "report", "stored_flake")
+U8, U16, U32, U64, SIZE = ctypes.c_uint8, ctypes.c_uint16, ctypes.c_uint32, ctypes.c_uint64, ctypes.c_size_t
+NAMES = ("format", "mount", "read", "write", "queue", "export", "take_in", "begin", "sweep", "finish", "discard", "report", "stored_flake")
 
 
 def given_image(drive):
-    """The drive's image, in every other case with junk in the seven bytes that mean nothing."""
+    """The drive's image, in every other case with junk in the five bytes that mean nothing."""
     image = bytearray(drive.image())
     mixed = zlib.crc32(image)
     if mixed & 1:
-        image[13], image[18:24] = mixed >> 8 & 255, struct.pack("<IH", mixed, mixed >> 16)
+        image[13], image[20:24] = mixed >> 8 & 255, struct.pack("<I", mixed)
     return bytes(image)
 
 
@@ -54,9 +54,16 @@ class Beside:
             return want
         return call
 
-    def format(self, want, volume, n, p, f, salt, secret, outside):
+    def format(self, want, volume, n, p, f, salt, secret, outside, *under):
+        """With no version named it is `ngt_format`."""
         vol, image, answer = room(volume), room(size=144), room(size=16)
-        said = self.proved.ngt_format(vol, SIZE(len(volume)), U32(n), U32(p), U32(f), salt, secret, U64(outside), image, answer)
+        numbers = vol, SIZE(len(volume)), U32(n), U32(p), U32(f)
+        rest = salt, secret, U64(outside), image, answer
+        if under:
+            version, cipher = (*under, 0)[:2]
+            said = self.proved.ngt_format_as(*numbers, U16(version), U8(cipher), *rest)
+        else:
+            said = self.proved.ngt_format(*numbers, *rest)
         return (said, left(answer), left(image), left(vol)), (want.drive.image(), want.volume)
 
     def mount(self, want, volume, present, old, outside):
@@ -115,3 +122,6 @@ class Beside:
 
     def finish(self, want, drive, volume):
         return self.changes(self.proved.ngt_finish, want, drive, volume)
+
+    def discard(self, want, drive, volume, nugget, first, count):
+        return self.changes(self.proved.ngt_discard, want, drive, volume, U32(nugget), U32(first), U32(count))

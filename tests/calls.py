@@ -2,7 +2,8 @@
 
 Each call that is made of the second program here is made of the proved library too: random volumes with a history, garbage,
 and all that the second program's own checks make (each refusal alone and in pairs, one flipped bit in every byte, the tree's
-places, queues beside their writes, exports and imports). NGT_SEED sets the seed; a failure prints it with the smallest case. `histories.py` has the histories.
+places, queues beside their writes, discards, exports and imports), in both versions. NGT_SEED sets the seed; a failure prints it
+with the smallest case. `histories.py` has the histories.
 """
 import random
 import sys
@@ -12,7 +13,7 @@ from proved import SEED, Tally, library
 
 import calls
 import checks.tally
-from checks import edges, figures, flips, garbage, handing, places, queues, refusals
+from checks import discards, edges, figures, flips, garbage, handing, places, queues, refusals
 from checks.make import SALT, flipped
 from layout import layout
 
@@ -26,6 +27,8 @@ def every(source, drive, volume):
     counter = source.choice((drive.counter, drive.counter, 0, TOP))
     shape = source.choice(((drive.n, drive.p, drive.f), (number, other, 64), (number, 2, other)))
     calls.format(volume, *shape, source.randbytes(16), source.randbytes(32), source.choice((counter, source.getrandbits(64))))
+    version, cipher = source.choice((1, 2, 2, 0, 3, 65535)), source.choice((0, 0, 0, 1, 16))
+    calls.format(volume, *shape, source.randbytes(16), source.randbytes(32), counter, version, cipher)
     calls.mount(volume, drive.present, drive.old, counter)
     calls.mount(volume, *source.choice(((drive.old, drive.present), (drive.present, drive.present))), counter)
     calls.report(drive, volume)
@@ -40,27 +43,34 @@ def every(source, drive, volume):
     calls.queue(drive, volume, image, source.choice((data, data, data, data + b"!", data[1:])))
     calls.queue(drive, volume, image + source.randbytes(source.randrange(1, 16)), data)
     whole = min(capacity, 1024)
-    key, other = source.randbytes(32), source.randbytes(32)
+    data, tweak = source.randbytes(32), source.randbytes(32)
     for call in (calls.export, calls.take_in):
-        call(drive, volume, key, source.choice((other, other, other, key)), source.randbytes(source.choice((whole, whole, whole, 0, 512))))
+        call(drive, volume, data, source.choice((tweak, tweak, tweak, data)), source.randbytes(source.choice((whole, whole, whole, 0, 512))))
     calls.begin(drive, volume, source.choice((drive.present, drive.old, source.randbytes(32))))
     calls.sweep(drive, volume, source.choice((0, drive.n - 1, drive.n, number)) % 2**32)
     calls.finish(drive, volume)
+    for count in (0, 1, drive.p, source.choice(garbage.WORDS)):
+        first = source.choice((0, 0, drive.p - 1, drive.p, other)) % 2**32
+        calls.discard(drive, volume, source.choice((0, drive.n - 1, drive.n, number)) % 2**32, first, count % 2**32)
 
 
 def lived(source, shape):
     """A volume with a history: writes, a change of the secret, sweeps; then perhaps a flipped bit or a stale drive."""
     n, p, f = shape
-    result = calls.format(bytes(layout(n, p, f).length), n, p, f, SALT, source.randbytes(32), source.randrange(1000))
+    version = source.choice((1, 2))
+    result = calls.format(bytes(layout(n, p, f, version).length), n, p, f, SALT, source.randbytes(32), source.randrange(1000), version)
     drive, volume, before = result.drive, result.volume, result.drive
     for _ in range(source.randrange(1, 12)):
-        way, o = source.randrange(6), source.randrange(n * p * f)
+        way, o = source.randrange(8), source.randrange(n * p * f)
         if way < 3:
             result = calls.write(drive, volume, o, source.randbytes(min(n * p * f - o, source.choice((1, 64, 130, 300)))))
         elif way == 3:
             result = calls.begin(drive, volume, source.randbytes(32))
         elif way == 4:
             result = calls.sweep(drive, volume, source.randrange(n))
+        elif way > 5:
+            first = source.randrange(p)
+            result = calls.discard(drive, volume, source.randrange(n), first, source.randint(0, p - first))
         else:
             result = calls.finish(drive, volume)
         before, drive, volume = drive, result.drive, result.volume
@@ -79,7 +89,7 @@ def main():
         for i in range(20):
             source = random.Random(f"{SEED} {shape} {i}")
             every(source, *lived(source, shape))
-    for group in (figures, refusals, edges, queues, handing, flips, places):
+    for group in (figures, refusals, edges, discards, queues, handing, flips, places):
         group.run(checks.tally.Tally(str(SEED)))
     return tally.close()
 

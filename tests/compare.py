@@ -12,6 +12,7 @@ import tempfile
 import inputs
 import calls
 import lines
+import sample
 from checks.make import flipped
 from rig import BUSY, MADE, ROOT, SYSTEM, TOOL, USAGE, Checks
 from twins import twins
@@ -67,18 +68,21 @@ def wanted(keys, first, second):
     return next(((answer, "second") for answer in answers if answer.number), None)
 
 
-def cases(source):
-    data = (ROOT / "crates" / "sheet" / "stdin").read_bytes()
+def cases(source, data, other):
+    """The sheet's input of one version, with copies of its volume; and a volume of the other version."""
     keys, volume = data[:72], data[72:]
     drive = calls.mount(volume, keys[:32], keys[32:64], counter(keys)).drive
-    after = calls.write(drive, volume, 0, b"later")
+    wrote = calls.write(drive, volume, 0, b"later")
+    after = calls.discard(wrote.drive, wrote.volume, 0, 0, 1) if drive.version == 2 else wrote
     later = keys[:64] + after.drive.counter.to_bytes(8, "little")
     yield keys, volume, volume
     yield later, after.volume, after.volume
     yield later, after.volume, volume
+    yield later, after.volume, wrote.volume
     for wrong in (keys[32:64] + keys[:32] + keys[64:], keys[:32] * 2 + keys[64:], keys[:64] + bytes(8), later):
         yield wrong, volume, volume
-    for bad in (b"", volume[:-1], volume + b"!", b"?" + volume[1:], volume[:8] + bytes(4) + volume[12:]):
+    for bad in (b"", volume[:-1], volume + b"!", b"?" + volume[1:], volume[:8] + bytes(4) + volume[12:], volume[:3] + b"\3" + volume[4:],
+                other[72:]):
         yield keys, volume, bad
         yield keys, bad, volume
     for _ in range(60):
@@ -123,8 +127,9 @@ def by_itself(checks, copies, good):
 def main():
     subprocess.run(["make", "-s", "hosts"], cwd=ROOT, check=True, stdout=subprocess.DEVNULL)
     checks, met = Checks(), set()
+    source, data, other = random.Random(f"{inputs.SEED} compare"), (ROOT / "crates" / "sheet" / "stdin").read_bytes(), sample.sample(2)
     with tempfile.TemporaryDirectory() as name:
-        copies, given = Copies(pathlib.Path(name)), list(cases(random.Random(f"{inputs.SEED} compare")))
+        copies, given = Copies(pathlib.Path(name)), [*cases(source, data, other), *cases(source, other, data)]
         for case in given:
             compared(checks, copies, case, met)
         by_itself(checks, copies, given[0])

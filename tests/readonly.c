@@ -19,19 +19,20 @@
 
 /* how many refusals */
 enum { WANTED = 100000, ROOM = 1024, FOUND = 1055, SHOWN = 10 };
-enum kind { FORMAT, MOUNT, READ, WRITE, QUEUE, BEGIN, SWEEP, FINISH, REPORT, STORED, EXPORT, IMPORT, TWINS, TALLY, BUILD, RENEW, TOP, KINDS };
+enum kind { FORMAT, MOUNT, READ, WRITE, QUEUE, BEGIN, SWEEP, FINISH, DISCARD, REPORT, STORED, EXPORT, IMPORT, TWINS, TALLY, BUILD, RENEW, TOP, KINDS };
 /* The answers that each call can give, with 0 where it may be accepted and change neither drive nor volume. */
 static const struct {
     const char *name, *reached;
 } told[KINDS] = {{"format", "1 2 13"}, {"mount", "1 2 3 4 5 6 7"}, {"read", "0 1 2 7 8"}, {"write", "0 1 2 7 8 13"}, {"queue", "0 1 2 7 8 13"},
-                 {"begin", "1 2 7 9 10 13 15"}, {"sweep", "1 2 7 8 9 12 13"}, {"finish", "1 2 7 9 11 13"}, {"report", "0 1 2 7"},
-                 {"stored_flake", "0 1 2 8"}, {"export", "0 1 2 7 10"}, {"import", "1 2 7 10 13"}, {"twins", "0 1 2 7 8"}, {"tally", "0 1 2 7"},
+                 {"begin", "1 2 7 9 10 13 15"}, {"sweep", "1 2 7 8 9 12 13"}, {"finish", "1 2 7 9 11 13"}, {"discard", "0 1 2 7 8 9 13"},
+                 {"report", "0 1 2 7"}, {"stored_flake", "0 1 2 8"}, {"export", "0 1 2 7 10"}, {"import", "1 2 7 10 13"}, {"twins", "0 1 2 7 8"}, {"tally", "0 1 2 7"},
                  {"summary_build", "0 1 2 7"}, {"summary_renew", "0 1 2 7 8"}, {"summary_report", "0 1 2 7"}};
 
 /* What a call is given, beside drive and volume. */
 struct given {
     enum kind kind;
     uint32_t n, p, f;
+    uint16_t version;
     uint64_t number;
     size_t length;
     uint8_t one[32], two[32];
@@ -101,7 +102,10 @@ static uint32_t make(const struct given *g, const struct place *at) {
     uint8_t *end = at->null && g->length == 0 ? NULL : at->buf + ROOM - g->length;
     size_t other = at->length - (g->f % 2 && at->length);
     switch (g->kind) {
-    case FORMAT: return ngt_format(at->vol, at->length, g->n, g->p, g->f, at->one + 16, at->two, g->number, at->made, at->answer);
+    case FORMAT:
+        if (g->version == 1 && g->length % 2)
+            return ngt_format(at->vol, at->length, g->n, g->p, g->f, at->one + 16, at->two, g->number, at->made, at->answer);
+        return ngt_format_as(at->vol, at->length, g->n, g->p, g->f, g->version, g->length % 7 == 6, at->one + 16, at->two, g->number, at->made, at->answer);
     case MOUNT: return ngt_mount(at->vol, at->length, at->one, at->two, g->number, at->made, at->answer);
     case READ: return ngt_read(at->image, at->vol, at->length, g->number, end, g->length, at->answer);
     case WRITE: return ngt_write(at->image, at->vol, at->length, g->number, end, g->length, at->answer);
@@ -109,6 +113,7 @@ static uint32_t make(const struct given *g, const struct place *at) {
     case BEGIN: return ngt_begin(at->image, at->vol, at->length, at->one, at->answer);
     case SWEEP: return ngt_sweep(at->image, at->vol, at->length, g->n, at->answer);
     case FINISH: return ngt_finish(at->image, at->vol, at->length, at->answer);
+    case DISCARD: return ngt_discard(at->image, at->vol, at->length, g->n, g->p, (uint32_t)g->length % 3, at->answer);
     case REPORT: return ngt_report(at->image, at->vol, at->length, at->report + 4, at->answer);
     case EXPORT: return ngt_export(at->image, at->vol, at->length, at->one, at->two, end, g->length, at->answer);
     case IMPORT: return ngt_import(at->image, at->vol, at->length, at->one, at->two, end, g->length, at->answer);
@@ -158,6 +163,7 @@ static uint64_t summary_length(uint32_t n) {
 static struct given some(const uint8_t *image) {
     struct given g = {.kind = (enum kind)(any() % KINDS), .n = word(image), .p = word(image + 4), .f = word(image + 8)};
     uint64_t counter, all = (uint64_t)g.n * g.p * g.f;
+    g.version = any() % 4 ? (uint16_t)(image[18] | image[19] << 8) : (uint16_t)(any() % 4);
     memcpy(&counter, image + 40, 8);
     g.length = any() % 3 ? any() % 200 : 0;
     secret(g.one, image), memcpy(g.two, image + 112, 32);
@@ -179,7 +185,7 @@ static struct given some(const uint8_t *image) {
             g.length = sized(all, g.length);
         else if (g.kind >= BUILD)
             g.length = sized(summary_length(g.n), g.length);
-        g.n = near(g.n), g.p = near(g.p), g.f = near(g.f);
+        g.n = near(g.n), g.p = g.kind == DISCARD && any() % 2 ? 0 : near(g.p), g.f = near(g.f);
     }
     return g;
 }

@@ -27,14 +27,16 @@ EACH = 150
 def lived(source):
     """A volume with a history, near the counter's top in every other case; the drive may be an earlier one."""
     n, p, f = source.choice(SHAPES)
+    version = source.choice((1, 2))
     outside = source.choice((source.randrange(1000), garbage.TOP - source.randint(1, 4)))
-    result = calls.format(bytes(layout(n, p, f).length), n, p, f, SALT, source.randbytes(32), outside)
+    result = calls.format(bytes(layout(n, p, f, version).length), n, p, f, SALT, source.randbytes(32), outside, version)
     drive, volume, before = result.drive, result.volume, result.drive
     for _ in range(source.randrange(8)):
         o = source.randrange(n * p * f)
         call = source.choice((lambda: calls.write(drive, volume, o, source.randbytes(min(n * p * f - o, 100))),
                               lambda: calls.begin(drive, volume, source.randbytes(32)),
-                              lambda: calls.sweep(drive, volume, source.randrange(n)), lambda: calls.finish(drive, volume)))
+                              lambda: calls.sweep(drive, volume, source.randrange(n)), lambda: calls.finish(drive, volume),
+                              lambda: calls.discard(drive, volume, source.randrange(n), 0, source.randint(0, p))))
         result = call()
         before, drive, volume = drive, result.drive, result.volume
     if source.randrange(4) == 0:

@@ -6,19 +6,22 @@ import calls
 from answers import FLAKE, HEAD, NODE, RECORD, Answer, Place
 from drive import BLANK
 
-from checks.make import OLD, PRESENT, Spec, flipped, made, power
+from checks.make import OLD, PRESENT, Spec, flipped, full, made, power, width
 
-VOLUMES = [
+BOTH = [
     Spec(3, 2, 64, 0, 3, 9, [[4, 3, 3], [7, 2, 3], [0, 0, 3]]),
     Spec(3, 2, 64, 1, 3, 9, [[4, 3, 2], [7, 1, 3], [0, 2, 2]]),
     Spec(1, 1, 64, 0, 1, 2**63, [[1, 1, 1]]),
     Spec(5, 3, 128, 1, 2, 2**63, [[0, 5, 1], [1, 7, 2], [0, 0, 1], [2**63, 4, 2], [3, 1, 1]]),
 ]
+# And one where some spent flakes aren't held.
+VOLUMES = BOTH + [spec._replace(version=2) for spec in BOTH]
+VOLUMES.append(Spec(3, 2, 64, 1, 3, 9, [[4, 3, 1, 2], [7, 1, 1, 3], [0, 3, 0, 2]], version=2))
 
 
 def head_answer(volume, at):
     """What mount must say to a flipped bit at a byte of the head."""
-    if at < 5:
+    if at < 5 and volume[3:5] not in (b"\1\0", b"\2\0") or at < 3:
         return Answer(3)
     if at >= 16:
         return Answer(4)
@@ -43,13 +46,14 @@ def tree_answer(spec, node):
 
 def mount_answer(spec, volume, at):
     """What mount must say, and the flake whose read must be refused, by the byte's part."""
-    tags = 104 + 18 * spec.n
+    wide = width(spec.version)
+    tags = 104 + wide * spec.n
     tree = tags + 16 * spec.n * spec.p
     flakes = tree + 32 * (2 * power(spec.n) - 1)
     if at < 104:
         return head_answer(volume, at), None
     if at < tags:
-        return Answer(7, Place(RECORD, (at - 104) // 18)), None
+        return Answer(7, Place(RECORD, (at - 104) // wide)), None
     if at < tree:
         return Answer(7, Place(RECORD, (at - tags) // (16 * spec.p))), None
     if at < flakes:
@@ -65,7 +69,7 @@ def drive_answer(answer, at):
 def flake_read(tally, words, spec, drive, volume, nugget, flake):
     offset = (nugget * spec.p + flake) * spec.f
     got = calls.read(drive, volume, offset + 5, b"?" * 3)
-    if spec.records[nugget][1] >> flake & 1:
+    if full(spec.records[nugget])[2] >> flake & 1:
         want = Answer(7, Place(FLAKE, nugget, flake)), b"???"
     else:
         want = Answer(0), bytes(3)

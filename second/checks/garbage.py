@@ -17,27 +17,30 @@ TOP = 2**64 - 1
 WORDS = (0, 1, 2, 3, 5, 63, 64, 65, 96, 128, 4096, 4160, 16384, 16385, 2**16, 2**31, 2**32 - 1)
 LINE = re.compile(rb"(nuggets=\d+ moved=\d+ left=\d+ flakes=\d+ share=\d+\.\d\d done=\d+|refused=[1-6] class="
                   rb"(form|key)|refused=7 class=altered place=(record|node) \d+)\n")
+# Shapes and versions by their volumes' lengths.
+SMALL = {layout(*shape, version).length: (*shape, version) for shape in ((1, 1, 64), (1, 2, 64), (3, 2, 64)) for version in (1, 2)}
 # Which numbers each call may give at all.
 POSSIBLE = {
     "format": {0, 1, 2, 13}, "mount": {0, 1, 2, 3, 4, 5, 6, 7}, "read": {0, 1, 2, 7, 8},
     "write": {0, 1, 2, 7, 8, 13}, "queue": {0, 1, 2, 7, 8, 13}, "begin": {0, 1, 2, 7, 9, 10, 13, 15},
-    "sweep": {0, 1, 2, 7, 8, 9, 12, 13}, "finish": {0, 1, 2, 7, 9, 11, 13},
+    "sweep": {0, 1, 2, 7, 8, 9, 12, 13}, "discard": {0, 1, 2, 7, 8, 9, 13}, "finish": {0, 1, 2, 7, 9, 11, 13},
     "report": {0, 1, 2, 7}, "stored_flake": {0, 1, 2, 8},
 }
 # Which places each call's 7 may carry. Mount tests the head by its seal.
 PLACES = {
     "mount": {RECORD, NODE}, "read": {HEAD, RECORD, NODE, FLAKE},
     "write": {HEAD, RECORD, NODE, FLAKE}, "queue": {HEAD, RECORD, NODE, FLAKE}, "begin": {HEAD}, "sweep": {HEAD, RECORD, NODE, FLAKE},
-    "finish": {HEAD, RECORD, NODE}, "report": {HEAD, RECORD, NODE},
+    "discard": {HEAD, RECORD, NODE}, "finish": {HEAD, RECORD, NODE}, "report": {HEAD, RECORD, NODE},
 }
 
 
-def wild_record(chance, p, epoch, counter):
+def wild_record(chance, p, epoch, counter, version):
     """Well formed or not, as it comes."""
     journal = chance.choice((0, 1, 2**p - 1, 2**p % 2**64, chance.getrandbits(64)))
     epochs = (epoch, epoch, epoch - 1, epoch - 1, epoch - 2, epoch + 1, 65535)
     keycounts = (0, 0, counter, counter, max(counter - 1, 0), min(counter + 1, TOP), TOP)
-    return [chance.choice(keycounts), journal, chance.choice(epochs) % 65536]
+    held = chance.choice((journal, journal, journal & chance.getrandbits(64), chance.getrandbits(64)))
+    return [chance.choice(keycounts), journal, held if version == 2 else journal, chance.choice(epochs) % 65536]
 
 
 def sealed(chance):
@@ -46,29 +49,32 @@ def sealed(chance):
     state = chance.randrange(2)
     epoch = chance.choice((1 + state, 3, 65534, 65535))
     counter = chance.choice((0, 5, TOP))
-    records = [wild_record(chance, p, epoch, counter) for _ in range(n)]
-    drive, volume = made(Spec(n, p, 64, state, epoch, counter, records))
+    version = chance.choice((1, 2))
+    records = [wild_record(chance, p, epoch, counter, version) for _ in range(n)]
+    drive, volume = made(Spec(n, p, 64, state, epoch, counter, records, version=version))
     if chance.random() < 0.3:
         volume = flipped(volume, chance.randrange(len(volume)), chance.randrange(8))
     if chance.random() < 0.1:
-        drive = drive._replace(**{chance.choice(("n", "p", "f")): chance.choice(WORDS)})
+        field, word = chance.choice(("n", "p", "f", "version")), chance.choice(WORDS)
+        drive = drive._replace(**{field: word % 2**16 if field == "version" else word})
     return drive, volume
 
 
 def wild(chance):
     """Drive and volume of any bytes at all; at times with a head's mark and a small shape."""
-    volume = bytearray(chance.randbytes(chance.choice((0, 1, 71, 103, 104, 105, 234, 314, 862))))
+    volume = bytearray(chance.randbytes(chance.choice((0, 1, 71, 103, 104, 105, *SMALL))))
     if chance.random() < 0.7 and len(volume) >= 104:
         shape = (chance.choice(WORDS), chance.choice(WORDS) % 65536, chance.choice(WORDS) % 65536)
+        version = chance.choice((1, 1, 2, 2, 0, 3))
         if chance.random() < 0.5:
-            shape = {234: (1, 1, 64), 314: (1, 2, 64), 862: (3, 2, 64)}.get(len(volume), shape)
-        volume[:8] = b"NGT\x01\x00" + bytes((chance.randrange(3), chance.randrange(3), 0))
+            *shape, version = SMALL.get(len(volume), (*shape, version))
+        volume[:8] = b"NGT" + bytes((version, 0, chance.randrange(3), chance.randrange(3), 0))
         volume[8:16] = b"".join(value.to_bytes(width, "little")
                                 for value, width in zip(shape, (4, 2, 2)))
     drive = drive_of_image(chance.randbytes(144))
     if chance.random() < 0.7:
         drive = drive._replace(n=chance.choice(WORDS), p=chance.choice(WORDS),
-                               f=chance.choice(WORDS), state=chance.randrange(3),
+                               f=chance.choice(WORDS), version=chance.randrange(4), state=chance.randrange(3),
                                epoch=chance.randrange(4), leaving=chance.randrange(3))
     return drive, bytes(volume)
 
@@ -81,6 +87,8 @@ def every_call(chance, drive, volume):
     counter = chance.choice((drive.counter, 0, TOP))
     shape = chance.choice(((drive.n, drive.p, drive.f), (number, other, 64)))
     yield "format", BLANK, calls.format(volume, *shape, SALT, PRESENT, counter), b""
+    version, cipher = chance.choice((1, 2, 2, 2, 0, 3, 65535)), chance.choice((0, 0, 0, 1, 16))
+    yield "format", BLANK, calls.format(volume, *shape, SALT, PRESENT, counter, version, cipher), b""
     yield "mount", BLANK, calls.mount(volume, drive.present, drive.old, counter), b""
     yield "read", drive, calls.read(drive, volume, offset, data), data
     yield "write", drive, calls.write(drive, volume, offset, data), b""
@@ -92,6 +100,8 @@ def every_call(chance, drive, volume):
     yield "begin", drive, calls.begin(drive, volume, secret), b""
     yield "sweep", drive, calls.sweep(drive, volume, chance.choice((0, 0, number))), b""
     yield "finish", drive, calls.finish(drive, volume), b""
+    freed = chance.choice((0, 0, 1, number)), chance.choice((0, 0, other)), chance.choice((0, 1, 1, number))
+    yield "discard", drive, calls.discard(drive, volume, *freed), b""
     yield "report", drive, calls.report(drive, volume), b""
     yield "stored_flake", drive, calls.stored_flake(drive, volume, number, other), b""
 
@@ -104,15 +114,15 @@ def judged(tally, words, name, given, volume, got, buffer):
         tally.same(f"{words} {name} length", (len(got.volume), len(got.buffer)),
                    (len(volume), len(buffer)))
     if name == "stored_flake" and not got.answer.number:
-        whole = layout(given.n, given.p, given.f).length
+        whole = layout(given.n, given.p, given.f, given.version).length
         tally.holds(f"{words} span", got.span[1] == given.f and sum(got.span) <= whole)
 
 
 def small_memory(tally):
     """Shapes that would need gigabytes, on a volume that hasn't them."""
     tracemalloc.start()
-    for epoch in (1, 0):
-        drive = Drive(16384, 64, 4096, epoch=epoch, counter=5)
+    for epoch, version in ((1, 1), (0, 1), (1, 2), (0, 2)):
+        drive = Drive(16384, 64, 4096, epoch=epoch, counter=5, version=version)
         for name, _, got, _ in every_call(random.Random(1), drive, bytes(862)):
             tally.holds(f"{name} of the largest shape", got.answer.number in (1, 2, 3))
     peak = tracemalloc.get_traced_memory()[1]

@@ -14,6 +14,7 @@ from checks.choose import TOP, a_range, secret, shape
 from checks.history import History
 from checks.hostile import Hostile
 from checks.make import Spec, made, some_text
+from checks.model import FREEING
 
 COUNT, STEPS = 400, 40
 
@@ -21,10 +22,12 @@ COUNT, STEPS = 400, 40
 def fresh(tally, chance, words):
     """A history that begins with an accepted format."""
     n, p, f = shape(chance)
+    version = chance.choice((1, 2))
     outside, salt = chance.choice((0, 7, 2**32 - 1, TOP - 20)), chance.randbytes(16)
-    spec = Spec(n, p, f, 0, 1, outside + 1, [[0, 0, 1]] * n, secret(chance), bytes(32), salt=salt)
-    old_bytes = bytes([chance.randrange(256)]) * layout(n, p, f).length
-    got = calls.format(old_bytes, n, p, f, salt, spec.present, outside)
+    spec = Spec(n, p, f, 0, 1, outside + 1, [[0, 0, 1]] * n, secret(chance), bytes(32), salt=salt,
+                version=version)
+    old_bytes = bytes([chance.randrange(256)]) * layout(n, p, f, version).length
+    got = calls.format(old_bytes, n, p, f, salt, spec.present, outside, version)
     tally.same(f"{words}: format", (got.answer.number, got.drive, got.volume), (0,) + made(spec))
     return History(tally, words, spec)
 
@@ -35,17 +38,22 @@ def near_tops(tally, chance, words):
     state = chance.randrange(2)
     epoch = chance.choice((65533, 65534, 65535))
     counter = TOP - chance.choice((0, 3, 15, 60))
-    records = [[chance.choice((0, counter - 1, counter, counter)), chance.randrange(2**min(p, 3)),
-                epoch - chance.randrange(2) * state] for _ in range(n)]
+    version = chance.choice((1, 2))
+    records = []
+    for _ in range(n):
+        held = chance.randrange(2**min(p, 3))
+        spent = held if version == 1 else held | chance.randrange(2**min(p, 3))
+        records.append([chance.choice((0, counter - 1, counter, counter)), spent, held,
+                        epoch - chance.randrange(2) * state])
     old = secret(chance) if state else bytes(32)
     return History(tally, words, Spec(n, p, f, state, epoch, counter, records, secret(chance), old,
-                                      some_text))
+                                      some_text, version=version))
 
 
 def a_change(chance, history):
     """A changing call and its values."""
     model = history.model
-    name = chance.choices(("write", "begin", "sweep", "finish"), (6, 1, 4, 2))[0]
+    name = chance.choices(("write", "begin", "sweep", "finish", "discard"), (6, 1, 4, 2, 4))[0]
     if name == "write":
         offset, length = a_range(chance, model.size())
         return name, offset, chance.randbytes(length)
@@ -54,10 +62,25 @@ def a_change(chance, history):
         # A site may well go back to a secret it had before.
         return name, chance.choice(history.secrets[:1]) if chance.random() < 0.2 else new
     if name == "sweep":
-        left = [n for n in range(model.n) if model.records[n][2] != model.epoch]
+        left = [n for n in range(model.n) if model.records[n][3] != model.epoch]
         wild = chance.choice((chance.randint(0, model.n), 2**32 - 1, 0))
         return name, chance.choice(left) if left and chance.random() < 0.7 else wild
+    if name == "discard":
+        return name, *a_discard(chance, model)
     return (name,)
+
+
+def a_discard(chance, model):
+    """0 to P flakes of a nugget, mostly of one that holds some, often of one that is left; at times again those just freed, at times
+    past the end."""
+    if model.ghosts and chance.random() < 0.2:
+        n, first = chance.choice(sorted(model.ghosts))
+        return n, first, 1
+    holding = [n for n in range(model.n) if model.flakes(n)] or [0]
+    left = [n for n in holding if model.records[n][3] != model.epoch] or holding
+    n = chance.choice((chance.choice(holding), chance.choice(left), chance.choice(left), chance.randrange(model.n), model.n, 2**32 - 1))
+    first = chance.choice((0, 0, chance.randint(0, model.p), 2**32 - 1 if chance.random() < 0.1 else 0))
+    return n, first, chance.choice((0, 1, 1, model.p - first, model.p - first, model.p, 2**32 - 1)) % 2**32
 
 
 def damage(chance, history):
@@ -93,7 +116,7 @@ def step(chance, history):
 
 
 def clean(tally, chance, words, begins):
-    """The numbers that its calls were answered."""
+    """The numbers that its calls were answered, and what its discards met."""
     history = begins(tally, chance, words)
     history.mount()
     for _ in range(STEPS):
@@ -101,7 +124,7 @@ def clean(tally, chance, words, begins):
     history.read(0, history.model.size())
     history.report()
     history.stale_all()
-    return history.met
+    return history.met | history.model.freeing
 
 
 def hostile(tally, chance, words):
@@ -123,4 +146,4 @@ def run(tally):
     met = set()
     for i in range(COUNT):
         met |= one(tally, i)
-    tally.same("every answer of an undamaged history was met", met, {0, *range(8, 14), 15})
+    tally.same("every answer of an undamaged history was met, and every kind of discard", met, {0, *range(8, 14), 15} | FREEING)

@@ -29,7 +29,8 @@ class History:
         self.same(f"{name} pads", [pad[:3] for pad in got.pads], pads)
         if want == 11:
             self.same("how many left", got.answer.left, self.model.left())
-        if want or (name == "write" and not values[1]):
+        idle = name == "write" and not values[1] or name == "discard" and self.model.counter == self.drive.counter
+        if want or idle:
             self.same(f"{name} leaves all", (got.drive, got.volume), (self.drive, self.volume))
             return got
         self.images.append(self.volume)
@@ -113,10 +114,10 @@ class History:
         self.same("report", (got.answer.number, tuple(got.report), got.drive, got.volume),
                   (0, self.model.report(), self.drive, self.volume))
         records = records_in(self.volume, self.model.n)
-        moved = sum(record[2] == self.drive.epoch for record in records)
+        moved = sum(record[3] == self.drive.epoch for record in records)
         told = got.report
         self.same("report of the records", (told.moved, told.left, told.flakes),
-                  (moved, len(records) - moved, sum(ones(record[1]) for record in records)))
+                  (moved, len(records) - moved, sum(ones(record[2]) for record in records)))
         self.same("whole share exactly if nothing is left", told.share == 10000, told.left == 0)
 
     def stored_flake(self, nugget, flake):

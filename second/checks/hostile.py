@@ -15,10 +15,10 @@ from checks.choose import a_range, secret
 from checks.garbage import WORDS, judged
 from checks.make import flipped
 
-FIELDS = ("n", "p", "f", "state", "leaving", "epoch", "counter")
+FIELDS = ("n", "p", "f", "version", "state", "leaving", "epoch", "counter")
 CALLS = ("format", "mount", "read", "write", "queue", "begin", "sweep", "finish", "report",
-         "stored_flake")
-WEIGHTS = (1, 3, 5, 8, 4, 1, 6, 4, 2, 1)
+         "stored_flake", "discard")
+WEIGHTS = (1, 3, 5, 8, 4, 1, 6, 4, 2, 1, 6)
 
 
 class Hostile:
@@ -26,12 +26,13 @@ class Hostile:
 
     def __init__(self, tally, words, chance, shape):
         self.tally, self.words, self.chance = tally, words, chance
-        self.drive, self.volume = BLANK, chance.randbytes(layout(*shape).length)
+        version = chance.choice((1, 2))
+        self.drive, self.volume = BLANK, chance.randbytes(layout(*shape, version).length)
         first = secret(chance)
         self.secrets = [first, bytes(32), b"s" * 32]
         self.kept, self.sound = [], None
         salt, outside = chance.randbytes(16), chance.choice((0, 9, TOP - 30))
-        self.call("format", self.volume, *shape, salt, first, outside)
+        self.call("format", self.volume, *shape, salt, first, outside, version)
 
     def call(self, name, *values):
         """Makes a call, judges it, and mostly goes back to what was sound after a refusal."""
@@ -50,13 +51,13 @@ class Hostile:
     def set(self, work, n, **numbers):
         lay = self.drive.layout
         at = lay.record_at(n)
-        work[at:lay.record_at(n + 1)] = read_record(work, lay, n)._replace(**numbers).stored()
+        work[at:lay.record_at(n + 1)] = read_record(work, lay, n)._replace(**numbers).stored(lay.version)
 
     def flip(self):
         """A bit of the head, the records, the tags, the tree or the flakes."""
         drive, size = self.drive, len(self.volume)
         parts = [(0, size)]
-        if shape_in_limits(drive.n, drive.p, drive.f) and drive.layout.length == size:
+        if shape_in_limits(drive.n, drive.p, drive.f, drive.version) and drive.layout.length == size:
             lay = drive.layout
             parts = [(0, 5), (5, 16), (0, HEAD), (HEAD, lay.tags), (lay.tags, lay.tree),
                      (lay.tree, lay.flakes), (lay.flakes, size), (lay.flakes, size)]
@@ -84,7 +85,7 @@ class Hostile:
             self.drive = self.drive._replace(**{name: chance.randbytes(32)})
         else:
             name = chance.choice(FIELDS)
-            width = {"state": 2**8, "leaving": 2**16, "epoch": 2**16}.get(name, 2**32)
+            width = {"state": 2**8, "leaving": 2**16, "epoch": 2**16, "version": 2**16}.get(name, 2**32)
             self.drive = self.drive._replace(**{name: chance.choice(WORDS) % width})
 
     def cut(self):
@@ -135,7 +136,8 @@ class Hostile:
             counter = drive.counter
             self.set(work, n, keycount=chance.choice((TOP, counter, counter, min(counter + 1, TOP))))
         elif way == 2:
-            self.set(work, n, journal=chance.choice(journals))
+            spent, held = chance.choice(journals), chance.choice(journals)
+            self.set(work, n, spent=spent, held=chance.choice((spent, spent & held, held)))
         else:
             self.set(work, n, epoch=(drive.epoch + chance.choice((0, -1, -1, 1, -2))) % 2**16)
 
@@ -172,7 +174,8 @@ class Hostile:
         chance, drive, volume = self.chance, self.drive, self.volume
         if name == "format":
             shape = drive[:3] if chance.random() < 0.7 else [chance.choice(WORDS) for _ in range(3)]
-            return volume, *shape, chance.randbytes(16), secret(chance), chance.choice((0, 5, TOP))
+            return (volume, *shape, chance.randbytes(16), secret(chance), chance.choice((0, 5, TOP)),
+                    chance.choice((drive.version, 1, 2, chance.choice(WORDS) % 2**16)))
         if name == "mount":
             present = drive.present if chance.random() < 0.8 else chance.choice(self.secrets)
             old = drive.old if chance.random() < 0.7 else chance.choice(self.secrets)
@@ -192,6 +195,9 @@ class Hostile:
             return drive, volume, self.index(0)
         if name == "stored_flake":
             return drive, volume, self.index(0), self.index(1)
+        if name == "discard":
+            count = chance.choice((0, 1, 1, 2, chance.choice(WORDS)))
+            return drive, volume, self.index(0), chance.choice((0, self.index(1))), count
         return drive, volume
 
     def step(self):

@@ -2,12 +2,14 @@
 
 import struct
 
-from checks.make import h, mixed, pad_of
+from checks.make import full, h, mixed, pad_of, width
 
 
 def records_in(volume, n):
-    """The records as they stand in a volume's bytes."""
-    return [struct.unpack_from("<QQH", volume, 104 + 18 * i) for i in range(n)]
+    """The records as they stand in a volume's bytes: keycount, spent, held, epoch."""
+    version = volume[3]
+    row = "<QQH" if version == 1 else "<QQQH"
+    return [full(struct.unpack_from(row, volume, 104 + width(version) * i)) for i in range(n)]
 
 
 def ones(journal):
@@ -15,15 +17,16 @@ def ones(journal):
 
 
 class Ledger:
-    """Begins with the flakes that a spec holds present, each listed under its keycount."""
+    """Begins with the flakes that are spent in a spec, each listed under its keycount."""
 
     def __init__(self, tally, words, spec):
         self.tally, self.words = tally, words
         self.n, self.p, self.f, self.salt = spec.n, spec.p, spec.f, spec.salt
         self.entries, self.blocks, self.last, self.retired = set(), set(), {}, 0
-        for n, (keycount, journal, epoch) in enumerate(spec.records):
+        for n, record in enumerate(spec.records):
+            keycount, spent, _, epoch = full(record)
             secret = spec.present if epoch == spec.epoch else spec.old
-            self.add([(n, keycount, f, secret) for f in range(spec.p) if journal >> f & 1])
+            self.add([(n, keycount, f, secret) for f in range(spec.p) if spent >> f & 1])
 
     def add(self, pads):
         """No entry comes twice, and no block of keystream is laid twice."""
@@ -45,17 +48,17 @@ class Ledger:
             self.tally.holds("keycount rises by one at most", other[0] - one[0] in (0, 1))
             self.retired += (other[0] - one[0]) * ones(one[1])
         self.add(pads)
-        present = sum(ones(record[1]) for record in now)
-        self.tally.same(f"{self.words}: entries listed", len(self.entries), present + self.retired)
+        spent = sum(ones(record[1]) for record in now)
+        self.tally.same(f"{self.words}: entries listed", len(self.entries), spent + self.retired)
         for n, record in enumerate(now):
             self.flakes(after, n, record, model)
 
     def flakes(self, volume, n, record, model):
         """Stored bytes are the contents under the pad last listed, whose secret is its epoch's."""
-        keycount, journal, epoch = record
+        keycount, _, held, epoch = record
         secret = model.present if epoch == model.epoch else model.old
         for f in range(self.p):
-            if not journal >> f & 1:
+            if not held >> f & 1:
                 continue
             words = f"{self.words}: flake {n} {f}"
             self.tally.same(words + " last listed", self.last.get((n, f)), (n, keycount, f, secret))

@@ -40,7 +40,8 @@ def some_text(nugget, flake, f):
 
 
 class Spec(NamedTuple):
-    """What a volume shall hold. A record is a list: keycount, journal, epoch."""
+    """What a volume shall hold. A record is a list: keycount, spent, held, epoch; or three of them, with one mask for both.
+    `ghosts` are flakes that aren't held but were: secret, keycount and contents by nugget and flake."""
     n: int
     p: int
     f: int
@@ -54,6 +55,23 @@ class Spec(NamedTuple):
     node1: bytes = None
     check: bytes = None
     salt: bytes = SALT
+    version: int = 1
+    ghosts: dict = {}
+
+
+def full(record):
+    """Keycount, spent, held, epoch."""
+    return [*record[:-1], *record[1:]] if len(record) == 3 else list(record)
+
+
+def record_bytes(version, record):
+    keycount, spent, held, epoch = full(record)
+    masks = [held] if version == 1 else [spent, held]
+    return struct.pack(f"<{1 + len(masks)}QH", keycount & 2**64 - 1, *masks, epoch)
+
+
+def width(version):
+    return 18 if version == 1 else 26
 
 
 def power(n):
@@ -66,9 +84,10 @@ def power(n):
 def tree_of(spec, records, tags):
     l = power(spec.n)
     nodes = [bytes(32)] * (2 * l)
+    wide = width(spec.version)
     for n in range(spec.n):
         mine = tags[16 * spec.p * n:16 * spec.p * (n + 1)]
-        nodes[l + n] = h(b"L" + struct.pack("<I", n) + records[18 * n:18 * n + 18] + mine)
+        nodes[l + n] = h(b"L" + struct.pack("<I", n) + records[wide * n:wide * n + wide] + mine)
     for i in range(l - 1, 0, -1):
         nodes[i] = h(b"T" + nodes[2 * i] + nodes[2 * i + 1])
     if spec.node1 is not None:
@@ -82,23 +101,25 @@ def head_of(spec, node1):
         check = h(b"O" + spec.salt + struct.pack("<H", spec.epoch), spec.old)
     if spec.check is not None:
         check = spec.check
-    front = struct.pack("<3sHBHIHH16sQ32s", b"NGT", 1, spec.state, spec.epoch, spec.n, spec.p,
+    front = struct.pack("<3sHBHIHH16sQ32s", b"NGT", spec.version, spec.state, spec.epoch, spec.n, spec.p,
                         spec.f, spec.salt, spec.counter, check)
     return front + h(b"H" + front + node1, spec.present)
 
 
 def made(spec):
-    """The drive and the volume of a spec. Absent flakes have zero tags and zero bytes."""
+    """The drive and the volume of a spec. Absent flakes have zero tags and zero bytes, but for ghosts."""
     records, tags, flakes = b"", [], []
-    for n, (keycount, journal, epoch) in enumerate(spec.records):
-        records += struct.pack("<QQH", keycount & 2**64 - 1, journal, epoch)
+    for n, record in enumerate(spec.records):
+        records += record_bytes(spec.version, record)
+        keycount, _, held, epoch = full(record)
         secret = spec.present if epoch == spec.epoch else spec.old
         for f in range(spec.p):
             stored, tag = bytes(spec.f), bytes(16)
-            if journal >> f & 1:
-                pad = pad_of(secret, spec.salt, n, keycount, f, spec.f)
-                stored = mixed(spec.text(n, f, spec.f), pad)
-                tag = tag_of(secret, spec.salt, n, keycount, f, stored)
+            lies = (secret, keycount, spec.text(n, f, spec.f)) if held >> f & 1 else spec.ghosts.get((n, f))
+            if lies:
+                pad = pad_of(lies[0], spec.salt, n, lies[1], f, spec.f)
+                stored = mixed(lies[2], pad)
+                tag = tag_of(lies[0], spec.salt, n, lies[1], f, stored)
             flakes.append(stored)
             tags.append(tag)
     nodes = tree_of(spec, records, b"".join(tags))
@@ -106,7 +127,7 @@ def made(spec):
     changing = spec.state == 1
     drive = Drive(spec.n, spec.p, spec.f, spec.salt, spec.state, spec.epoch - 1 if changing else 0,
                   spec.epoch, spec.counter, nodes[0], spec.present,
-                  spec.old if changing else bytes(32))
+                  spec.old if changing else bytes(32), spec.version)
     return drive, volume
 
 

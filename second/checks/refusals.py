@@ -1,4 +1,4 @@
-"""Each refusal of each call alone, and each pair of faults that can stand together.
+"""Each refusal of each call alone, and each pair of faults that can stand together, in both versions.
 
 A call's faults are listed in document 01's order, so of a pair the earlier is answered.
 """
@@ -19,15 +19,17 @@ ALL = LAY.contents
 class Case:
     """An input in the making; faults change it in any order before it is built."""
 
-    def __init__(self, state, epoch, records):
+    def __init__(self, state, epoch, records, version):
+        self.version = version
         self.spec = {"state": state, "epoch": epoch, "counter": 9, "node1": None, "check": None,
                      "records": [list(record) for record in records]}
         self.flips, self.cut, self.tail, self.drive, self.values = [], None, b"", {}, {}
 
     def build(self):
-        drive, volume = made(Spec(3, 2, 64, **self.spec))
+        drive, volume = made(Spec(3, 2, 64, **self.spec, version=self.version))
         for at in self.flips:
-            volume = flipped(volume, at)
+            # What stands behind the records of version 1 stands three times 8 bytes later in version 2.
+            volume = flipped(volume, at + 24 * (self.version == 2 and at >= LAY.tags))
         return drive._replace(**self.drive), (volume + self.tail)[:self.cut]
 
 
@@ -144,8 +146,12 @@ def mount_call(_drive, volume, present=PRESENT, old=OLD, outside=9):
     return calls.mount(volume, present, old, outside)
 
 
-def format_call(_drive, volume, shape=(3, 2, 64), outside=9):
-    return calls.format(volume, *shape, SALT, PRESENT, outside)
+def format_call(drive, volume, shape=(3, 2, 64), outside=9):
+    return calls.format(volume, *shape, SALT, PRESENT, outside, drive.version)
+
+
+def discard_call(drive, volume, nugget=0, count=2):
+    return calls.discard(drive, volume, nugget, 0, count)
 
 
 def cut_short(case):
@@ -185,6 +191,9 @@ TABLE = [
      [("N", Answer(1), value(shape=(0, 2, 64))), ("longer", Answer(2), longer),
       ("shorter", Answer(2), shorter), ("counter", Answer(13), value(outside=TOP))]),
 ]
+DISCARD = ("discard", discard_call, 1, 3, MIXED,
+           [*FIRST, ("nugget", Answer(8), value(nugget=3)), ("range", Answer(8), value(count=3)), *PATH0,
+            LATE_COUNTER])
 # Faults that set one and the same thing, or that undo each other, can't be had together.
 APART = [{"longer", "shorter"}, {"under 104", "longer"}, {"under 104", "shorter"},
          {"steady", "one left"}, {"nugget", "flake"}, {"check", "old secret"},
@@ -194,14 +203,14 @@ APART = [{"longer", "shorter"}, {"under 104", "longer"}, {"under 104", "shorter"
          *({"counter", f"keycount {n} above"} for n in range(3))]
 
 
-def tried(tally, row, faults):
+def tried(tally, row, faults, version):
     name, call, state, epoch, records, _ = row
-    case = Case(state, epoch, records)
+    case = Case(state, epoch, records, version)
     for _, _, fault in faults:
         fault(case)
     drive, volume = case.build()
     got = call(drive, volume, **case.values)
-    words = f"{name} with {[fault[0] for fault in faults]}"
+    words = f"{name} of version {version} with {[fault[0] for fault in faults]}"
     if not faults:
         tally.same(words, got.answer, Answer(0))
         return
@@ -210,11 +219,17 @@ def tried(tally, row, faults):
     tally.same(words, got, calls.Result(faults[0][1], after, volume, buffer))
 
 
+def all_tried(tally, row, version):
+    tried(tally, row, [], version)
+    for fault in row[5]:
+        tried(tally, row, [fault], version)
+    for pair in combinations(row[5], 2):
+        if {pair[0][0], pair[1][0]} not in APART:
+            tried(tally, row, pair, version)
+
+
 def run(tally):
-    for row in TABLE:
-        tried(tally, row, [])
-        for fault in row[5]:
-            tried(tally, row, [fault])
-        for pair in combinations(row[5], 2):
-            if {pair[0][0], pair[1][0]} not in APART:
-                tried(tally, row, pair)
+    for version in (1, 2):
+        for row in TABLE:
+            all_tried(tally, row, version)
+    all_tried(tally, DISCARD, 2)

@@ -26,7 +26,8 @@ use Rattle.reports.proofs.Exact.{stored-shown}
 use Rattle.answers.specs.Stages.{andThen}
 use Rattle.changes.specs.Write.{writeAnswer}
 use Rattle.changes.specs.Rekey.{beginAnswer, sweepAnswer, finishAnswer}
-use Rattle.history.specs.World.{World, Call, mount, write, begin, sweep, finish, asks, read, report, stored}
+use Rattle.changes.specs.Discard.{discardAnswer}
+use Rattle.history.specs.World.{World, Call, mount, write, begin, sweep, finish, discard, asks, read, report, stored}
 use Rattle.history.specs.Step.{answerTo, step}
 use Rattle.history.specs.History.{Start, begun, run, history, among}
 use Rattle.history.specs.Answers.{changing, hasMoved, isLeft, nuggetsLeft, Columns, columns, columnsOf, columnsAfter, allAccepted, reportOn}
@@ -45,7 +46,7 @@ use Rattle.history.proofs.Old.{old-secret-needed}
 use Rattle.assurances.specs.Example.{secretOf, example, Example, FullIsNotFree, takesDrive, BlankRefused, StoredShows}
 
 pub blank-refused : BlankRefused
-unfolding readAnswer writeAnswer beginAnswer sweepAnswer finishAnswer reportAnswer storedAnswer andThen
+unfolding readAnswer writeAnswer beginAnswer sweepAnswer finishAnswer discardAnswer reportAnswer storedAnswer andThen
 blank-refused w c e h = go c h
   where
     shut : openingOf (w .drive) (w .vol) ≡ A.Limits
@@ -57,6 +58,7 @@ blank-refused w c e h = go c h
     go (begin secret) q = rw shut refl
     go (sweep n) q = rw shut refl
     go finish q = rw shut refl
+    go (discard n first count) q = rw shut refl
     go (asks (read o buffer)) q = rw shut refl
     go (asks report) q = rw shut refl
     go (asks (stored n f)) q = rw (e, blank-measure (w .vol)) refl
@@ -70,13 +72,13 @@ record At (w : World) (k : Columns) : Type 0 where
   shaped : shapeOf (w .drive) ≡ shape 1 2 64
   tells : columnsOf w ≡ k
 
-at-next : (w : World) (k : Columns) (c : Call) → At w k → answerTo w c ≡ A.Accepted → At (step w c) (columnsAfter k c)
+at-next : (w : World) (k : Columns) (c : Call) → At w k → answerTo w c ≡ A.Accepted → At (step w c) (columnsAfter w k c)
 unfolding run
 at-next w k c x ok =
     record {
       sounds = step-sound w c (x .sounds);
       shaped = ap (λ (b : Shape × List ℕ). b .0) (run-base w (c ∷ []) (x .sounds)) ∙ x .shaped;
-      tells = follows w (x .sounds) c ∙ yes _ (ap accepts ok) (ap (λ (z : Columns). columnsAfter z c) (x .tells));
+      tells = follows w (x .sounds) c ∙ yes _ (ap accepts ok) (ap (λ (z : Columns). columnsAfter w z c) (x .tells));
     }
 
 -- a mount between two calls

@@ -1,12 +1,12 @@
 -- Two steady drives that differ in the old secret alone: call by call.
-use mathlib.Core.Path.{_≡_, refl, ap, _∙_}
-use mathlib.Core.Bool.{Bool, true, false}
+use mathlib.Core.Path.{_≡_, refl, sym, ap, ap₂, _∙_}
+use mathlib.Core.Bool.{Bool, true, false, not}
 use mathlib.Core.Logic.{_⊎_, inl, inr}
 use mathlib.Core.List.{List, []}
-use Prim.Native.Nat.{ℕ}
+use Prim.Native.Nat.{ℕ, _+_, _<_}
 use lib.ListN.{length}
-use Rattle.base.specs.Pick.{pick}
-use Rattle.base.proofs.PickLaws.{told, clash}
+use Rattle.base.specs.Pick.{pick, both}
+use Rattle.base.proofs.PickLaws.{told, clash, both-left}
 use Rattle.answers.specs.Numbers.{accepts}
 use Rattle.answers.specs.declared.Answer.the-variants as A
 use Rattle.answers.proofs.StageLaws.{both-stages, passed}
@@ -19,9 +19,15 @@ use Rattle.reports.specs.Stored.{isFlake, storedAnswer, storedFlake}
 use Rattle.changes.specs.Laid.{over}
 use Rattle.changes.specs.Write.{writeAnswer, writes, writtenDrive, writeDone, writeVolume, writePads}
 use Rattle.changes.specs.Rekey.{beginTests, beginAnswer, begunDrive, beginDone, beginVolume, sweepAnswer, sweepDone, sweepVolume, sweepPads, finishTests, finishAnswer, finishedDrive, finishDone, finishVolume}
-use Rattle.changes.proofs.Exact.{yes-same}
-use Rattle.history.specs.World.{World, Call, mount, write, begin, sweep, finish, asks, read, report, stored}
-use Rattle.history.specs.Step.{answerTo, worldAfter, contentsAfter, mounted, step, changesBy}
+use Rattle.layout.specs.declared.Shape.{Shape}
+use Rattle.drive.specs.Drive.{shapeOf}
+use Rattle.nodes.specs.Nodes.{nodeIn}
+use Rattle.changes.specs.Change.{markedTo, tendedTo, worked, advanced, settled}
+use Rattle.changes.specs.Discard.{clearTests, clearsNone, discardAnswer, clears, discardWays, discardWork, discardedDrive, discardDone, discardVolume, discardsAt}
+use Rattle.changes.proofs.DiscardLaws.{discard-told, discard-lays}
+use Rattle.changes.proofs.Exact.{yes-same, advanced-old}
+use Rattle.history.specs.World.{World, Call, mount, write, begin, sweep, finish, discard, asks, read, report, stored}
+use Rattle.history.specs.Step.{answerTo, worldAfter, contentsAfter, contentsWithout, mounted, step, changesBy}
 use Rattle.assurances.specs.Unseen.{withOld, swapped, AlikeButOld, OldUnseen, OldUnread}
 use Rattle.assurances.proofs.SameReads.{read-alike, buffer-alike}
 use Rattle.assurances.proofs.Steady.{opens, tests, bytes, write-same, written-same, stored-same}
@@ -112,6 +118,56 @@ module _ (w : World) (any : List ℕ) (steady : isChanging (w .drive .state) ≡
       let l = left-alike w any (accepts (finishAnswer d v)) (finishedDrive d) (finishVolume d v) [] (w .secret) (w .old) (w .contents) in
       (same, rw same (l .0), λ q. rw same (l .1 q))
 
+  module _ (n first count : ℕ) where
+    discard-answer : discardAnswer e v n first count ≡ discardAnswer d v n first count
+    unfolding discardAnswer clearTests
+    discard-answer = rw (opens d any v steady) refl
+
+    -- nothing is enciphered, so no secret is asked for
+    freed-same : n < d .n → discardWork e v n first count ≡ discardWork d v n first count
+    unfolding worked
+    freed-same h =
+        ap (λ (z : List ℕ). tendedTo (shapeOf d) (discardWays n first count) (d .n) (markedTo (shapeOf d) (d .epoch) (discardWays n first count) v (d .n) z))
+        (sym (discard-lays e v n first count h) ∙ discard-lays d v n first count h)
+
+    freed-drive : n < d .n → discardedDrive e v n first count ≡ discardedDrive d v n first count
+    unfolding advanced
+    freed-drive h =
+        λ i.
+        record {
+          n = d .n;
+          p = d .p;
+          f = d .f;
+          version = d .version;
+          salt = d .salt;
+          state = d .state;
+          epoch = d .epoch;
+          counter = d .counter + 1;
+          node = nodeIn (shapeOf d) (freed-same h i) 1;
+          present = d .present;
+          old = (advanced-old e (discardWork e v n first count) steady ∙ sym (advanced-old d (discardWork d v n first count) steady)) i;
+        }
+
+    inside : clears d v n first count ≡ true → n < d .n
+    inside q = discard-told d v n first count (both-left (accepts (discardAnswer d v n first count)) (not (clearsNone d v n first count)) q) .inside
+
+    discard-steps : step u (discard n first count)
+        ≡ worldAfter u (pick (clears d v n first count) (discardedDrive d v n first count) e) (discardVolume d v n first count) [] (w .secret) (w .old) (contentsWithout w n first count)
+    unfolding step discardDone discardVolume
+    discard-steps =
+        let same = discard-answer in
+        let drives : discardDone e v n first count .drive ≡ pick (clears d v n first count) (discardedDrive d v n first count) e =
+        rw same (yes-same (clears d v n first count) e (λ q. freed-drive (inside q))) in
+        let vols : discardVolume e v n first count ≡ discardVolume d v n first count =
+        rw same (yes-same (clears d v n first count) v (λ q. ap₂ settled (freed-drive (inside q)) (freed-same (inside q)))) in
+        λ i. worldAfter u (drives i) (vols i) [] (w .secret) (w .old) (λ a. pick (both (accepts (same i)) (discardsAt (shapeOf d) n first count a)) 0 (w .contents a))
+
+    discard-unseen : Same (discard n first count)
+    unfolding step discardDone
+    discard-unseen =
+        let l = left-alike w any (clears d v n first count) (discardedDrive d v n first count) (discardVolume d v n first count) [] (w .secret) (w .old) (contentsWithout w n first count) in
+        (discard-answer, ap (λ (z : World). swapped z (step w (discard n first count) .drive .old)) discard-steps ∙ l .0, λ q. discard-steps ∙ l .1 q)
+
   unseen : (c : Call) → Same c
   unfolding step mounted reportAnswer storedAnswer measureOf inForm isFlake
   unseen (mount brought) = (refl, refl, λ q. refl)
@@ -119,6 +175,7 @@ module _ (w : World) (any : List ℕ) (steady : isChanging (w .drive .state) ≡
   unseen (begin secret) = begin-unseen secret
   unseen (sweep n) = sweep-unseen n
   unseen finish = finish-unseen
+  unseen (discard n first count) = discard-unseen n first count
   unseen (asks (read o buffer)) = (
     read-alike d any v v (opens d any v steady) (tests d any v steady) (bytes d any v steady) o (length buffer),
     refl,

@@ -18,7 +18,7 @@ use Rattle.answers.proofs.StageLaws.{both-stages, accepted-is, passed, spared}
 use Rattle.layout.specs.Shaped.{Shaped}
 use Rattle.records.specs.declared.Record.{Record}
 use Rattle.records.specs.declared.Way.{Way}
-use Rattle.records.specs.declared.Way.the-variants.{Idle, Add, Rekey}
+use Rattle.records.specs.declared.Way.the-variants.{Idle, Add, Rekey, Clear}
 use Rattle.records.specs.Journal.{bit}
 use Rattle.records.specs.Rule.{enciphered, rekeys}
 use Rattle.records.proofs.BitLaws.{bit-empty}
@@ -57,6 +57,7 @@ unfolding enciphered
 busy Idle r f e = absurd (clash e (bit-empty f))
 busy (Add t) r f e = refl
 busy (Rekey t) r f e = refl
+busy (Clear m) r f e = refl
 
 module _ (d : Drive) (any v : List ℕ) (steady : isChanging (d .state) ≡ false) where
   abbrev e : Drive
@@ -153,6 +154,7 @@ module _ (d : Drive) (any v : List ℕ) (steady : isChanging (d .state) ≡ fals
           n = d .n;
           p = d .p;
           f = d .f;
+          version = d .version;
           salt = d .salt;
           state = d .state;
           epoch = d .epoch;

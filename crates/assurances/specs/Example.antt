@@ -13,7 +13,7 @@ use Rattle.opening.specs.Mount.{mountAnswer}
 use Rattle.nuggets.specs.Nugget.{storedIn}
 use Rattle.reading.specs.Read.{readBuffer}
 use Rattle.reports.specs.Stored.{storedFlake}
-use Rattle.history.specs.World.{World, Call, mount, write, begin, sweep, finish, asks, report, stored}
+use Rattle.history.specs.World.{World, Call, mount, write, begin, sweep, finish, discard, asks, report, stored}
 use Rattle.history.specs.Step.{answerTo}
 use Rattle.history.specs.History.{Start, begun, history}
 use Rattle.history.specs.Answers.{nuggetsLeft, allAccepted, checkedText, KeyCollision, reportOn}
@@ -61,6 +61,7 @@ takesDrive (write o bytes) = true
 takesDrive (begin secret) = true
 takesDrive (sweep n) = true
 takesDrive finish = true
+takesDrive (discard n first count) = true
 takesDrive (asks q) = true
 
 abbrev pub BlankRefused : Type 0

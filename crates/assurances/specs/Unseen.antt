@@ -27,6 +27,7 @@ withOld d any =
       n = d .n;
       p = d .p;
       f = d .f;
+      version = d .version;
       salt = d .salt;
       state = d .state;
       epoch = d .epoch;

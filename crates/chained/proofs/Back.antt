@@ -1,6 +1,6 @@
 -- Each drive that a call hands back has its fields within their types, and so comes back from its image.
 use mathlib.Core.Path.{_≡_, refl, ap}
-use mathlib.Core.Bool.{Bool, true, false}
+use mathlib.Core.Bool.{Bool, true, false, not}
 use mathlib.Core.List.{List}
 use Prim.Native.Nat.{ℕ, _+_, _-_, _^_, _<_, _≤_}
 use native.Mathlib.Omega.{arith}
@@ -18,7 +18,7 @@ use Rattle.answers.proofs.StageLaws.{accepted-is}
 use Rattle.layout.specs.declared.Shape.{Shape}
 use Rattle.layout.specs.Shaped.{Shaped}
 use Rattle.layout.proofs.Height.{leaves-some}
-use Rattle.layout.proofs.Limits.{limits}
+use Rattle.layout.proofs.Limits.{limits, version-le, version-known}
 use Rattle.records.specs.declared.Way.{Way}
 use Rattle.nodes.specs.Nodes.{nodeIn}
 use Rattle.nodes.proofs.Bounds.{node-fits}
@@ -37,10 +37,12 @@ use Rattle.changes.specs.Write.{writes, writtenDrive, writeAnswer, writeDone}
 use Rattle.changes.specs.Rekey.{beginAnswer, begunDrive, beginDone, sweepAnswer, sweepDone, finishAnswer, finishedDrive, finishDone}
 use Rattle.changes.proofs.AnswerLaws.{begin-told, sweep-told, finish-told, write-told}
 use Rattle.changes.proofs.LaidLaws.{laid-lent}
+use Rattle.changes.specs.Discard.{clearsNone, discardAnswer, clears, discardedDrive, discardDone}
+use Rattle.changes.proofs.DiscardLaws.{discard-told, clears-room}
 use Rattle.changes.proofs.MarkLaws.{marks-lent}
 use Rattle.changes.proofs.TendLaws.{tends-lent}
 use Rattle.drive.proofs.OpeningLaws.{opening-lent}
-use Rattle.chained.specs.Back.{ComesBack, ImageCarried, FormatCarried, MountCarried, WriteCarried, BeginCarried, SweepCarried, FinishCarried}
+use Rattle.chained.specs.Back.{ComesBack, ImageCarried, FormatCarried, MountCarried, WriteCarried, BeginCarried, SweepCarried, FinishCarried, DiscardCarried}
 
 carried : (d : Drive) → DriveFits d → ComesBack d
 carried d w = record { fits = w; back = drive-back d w }
@@ -53,6 +55,7 @@ blank-fits =
       nWidth = omega arith;
       pWidth = omega arith;
       fWidth = omega arith;
+      versionWidth = omega arith;
       epochWidth = omega arith;
       leftWidth = omega arith;
       counterWidth = omega arith;
@@ -88,6 +91,7 @@ image-fits v l b =
       nWidth = number-low 0 4 v b (omega (arith, l));
       pWidth = number-low 4 4 v b (omega (arith, l));
       fWidth = number-low 8 4 v b (omega (arith, l));
+      versionWidth = number-low 18 2 v b (omega (arith, l));
       epochWidth = number-low 14 2 v b (omega (arith, l));
       leftWidth = left-low (eqb byte 0) (num (part 16 2 v)) (number-low 16 2 v b (omega (arith, l)));
       counterWidth = number-low 40 8 v b (omega (arith, l));
@@ -117,6 +121,7 @@ format-fits s salt secret v outside long wide low = picked (accepts (formatAnswe
           nWidth = omega (arith, ok .few);
           pWidth = omega (arith, ok .narrow);
           fWidth = omega (arith, ok .short);
+          versionWidth = omega (arith, version-le (s .version) (version-known s (lent .limited)));
           epochWidth = omega arith;
           leftWidth = omega arith;
           counterWidth = omega (arith, low, room);
@@ -147,6 +152,7 @@ mount-fits v present old outside bytes wide old-wide = picked (accepts (mountAns
           nWidth = number-low 8 4 v bytes (omega (arith, long));
           pWidth = omega (arith, number-low 12 2 v bytes (omega (arith, long)));
           fWidth = omega (arith, number-low 14 2 v bytes (omega (arith, long)));
+          versionWidth = number-low 3 2 v bytes (omega (arith, long));
           epochWidth = epoch;
           leftWidth = left-low (eqb (num (part 5 1 v)) 0) (epochIn v - 1) (omega (arith, epoch));
           counterWidth = number-low 32 8 v bytes (omega (arith, long));
@@ -173,6 +179,7 @@ advanced-fits d v way new lent room w =
       nWidth = w .nWidth;
       pWidth = w .pWidth;
       fWidth = w .fWidth;
+      versionWidth = w .versionWidth;
       epochWidth = w .epochWidth;
       leftWidth = w .leftWidth;
       counterWidth = omega (arith, w .counterWidth, room);
@@ -206,6 +213,7 @@ begin-fits d v secret wide w = picked (accepts (beginAnswer d v secret)) (begunD
           nWidth = w .nWidth;
           pWidth = w .pWidth;
           fWidth = w .fWidth;
+          versionWidth = w .versionWidth;
           epochWidth = omega (arith, w .epochWidth, t .epochRoom);
           leftWidth = w .epochWidth;
           counterWidth = omega (arith, w .counterWidth, t .counterRoom);
@@ -237,6 +245,7 @@ finish-fits d v w = picked (accepts (finishAnswer d v)) (finishedDrive d) d on w
           nWidth = w .nWidth;
           pWidth = w .pWidth;
           fWidth = w .fWidth;
+          versionWidth = w .versionWidth;
           epochWidth = w .epochWidth;
           leftWidth = omega arith;
           counterWidth = omega (arith, w .counterWidth, t .counterRoom);
@@ -248,3 +257,15 @@ finish-fits d v w = picked (accepts (finishAnswer d v)) (finishedDrive d) d on w
 
 pub finish-carried : FinishCarried
 finish-carried d v w = carried _ (finish-fits d v w)
+
+pub discard-fits : (d : Drive) (v : List ℕ) (n first count : ℕ) → DriveFits d → DriveFits (discardDone d v n first count .drive)
+unfolding discardDone
+discard-fits d v n first count w = picked (clears d v n first count) (discardedDrive d v n first count) d on w
+  where
+    on : clears d v n first count ≡ true → DriveFits (discardedDrive d v n first count)
+    on e =
+        let t = discard-told d v n first count (both-left (accepts (discardAnswer d v n first count)) (not (clearsNone d v n first count)) e) in
+        advanced-fits d v _ _ (t .lent) (clears-room d v n first count e) w
+
+pub discard-carried : DiscardCarried
+discard-carried d v n first count w = carried _ (discard-fits d v n first count w)

@@ -12,6 +12,7 @@ use Rattle.opening.specs.Format.{formatDone}
 use Rattle.opening.specs.Mount.{mountDone}
 use Rattle.changes.specs.Write.{writeDone}
 use Rattle.changes.specs.Rekey.{beginDone, sweepDone, finishDone}
+use Rattle.changes.specs.Discard.{discardDone}
 
 -- each field is within its type, and so the drive comes back from its image
 pub record ComesBack (d : Drive) : Type 0 where
@@ -42,3 +43,6 @@ SweepCarried = (d : Drive) (v : List ℕ) (n : ℕ) → DriveFits d → ComesBac
 
 abbrev pub FinishCarried : Type 0
 FinishCarried = (d : Drive) (v : List ℕ) → DriveFits d → ComesBack (finishDone d v .drive)
+
+abbrev pub DiscardCarried : Type 0
+DiscardCarried = (d : Drive) (v : List ℕ) (n first count : ℕ) → DriveFits d → ComesBack (discardDone d v n first count .drive)

@@ -1,4 +1,4 @@
--- A host in C over any list of calls. It starts from an accepted `ngt_format` and hands image and volume, as the last call left
+-- A host in C over any list of calls. It starts from an accepted `ngt_format` or `ngt_format_as` and hands image and volume, as the last call left
 -- them, to the next one. Each statement is proved, under the same name in small letters, in proofs/Host.antt.
 use Prim.{Unit}
 use Prim.Native.Nat.{ℕ}
@@ -6,8 +6,8 @@ use mathlib.Core.Path.{_≡_}
 use mathlib.Core.List.{List, [], _∷_}
 use lib.ListN.{length}
 use Rattle.packed.specs.Image.{driveImage, driveIn}
-use Rattle.ngt.specs.Calls.{Tells, Formatted, Mounted, Filled, Reported, Shown, Begun, Swept, Finished, Written}
-use Rattle.history.specs.World.{World, Call, mount, write, begin, sweep, finish, asks, read, report, stored}
+use Rattle.ngt.specs.Calls.{Tells, Formatted, Mounted, Filled, Reported, Shown, Begun, Swept, Finished, Discarded, Written}
+use Rattle.history.specs.World.{World, Call, mount, write, begin, sweep, finish, discard, asks, read, report, stored}
 use Rattle.history.specs.Step.{oldFor, answerTo, step}
 use Rattle.history.specs.History.{Start, begun, history}
 
@@ -30,11 +30,12 @@ Makes w h (write o bytes) g k = Written (driveIn (h .image)) (h .vol) o bytes (h
 Makes w h (begin secret) g k = Begun (driveIn (h .image)) (h .vol) secret (h .image) (g .number) (k .vol) (k .image) (g .answer)
 Makes w h (sweep n) g k = Swept (driveIn (h .image)) (h .vol) n (h .image) (g .number) (k .vol) (k .image) (g .answer)
 Makes w h finish g k = Finished (driveIn (h .image)) (h .vol) (h .image) (g .number) (k .vol) (k .image) (g .answer)
+Makes w h (discard n first count) g k = Discarded (driveIn (h .image)) (h .vol) n first count (h .image) (g .number) (k .vol) (k .image) (g .answer)
 Makes w h (asks (read o buffer)) g k = Filled (driveIn (h .image)) (h .vol) o buffer (g .number) (g .filled) (g .answer) × (k ≡ h)
 Makes w h (asks report) g k = Reported (driveIn (h .image)) (h .vol) (g .number) (g .filled) (g .answer) × (k ≡ h)
 Makes w h (asks (stored n f)) g k = Shown (driveIn (h .image)) (h .vol) n f (g .number) (g .filled) (g .answer) × (k ≡ h)
 
--- `ngt_format`, with what the history starts from
+-- `ngt_format`, or `ngt_format_as` for another version, with what the history starts from
 abbrev pub Starts : Start → Host → Type 0
 Starts x h =
     (g : Got) × Formatted (x .shape) (x .salt) (x .secret) (x .outside) (x .given) (g .number) (h .vol) (h .image) (g .answer)
@@ -51,6 +52,7 @@ TypedCall (write o bytes) = Unit {0}
 TypedCall (begin secret) = length secret ≡ 32
 TypedCall (sweep n) = Unit {0}
 TypedCall finish = Unit {0}
+TypedCall (discard n first count) = Unit {0}
 TypedCall (asks q) = Unit {0}
 
 unfoldable pub Typed : List Call → Type 0

@@ -14,7 +14,7 @@ use Rattle.answers.specs.declared.Answer.the-variants as A
 use Rattle.answers.specs.Numbers.{accepts}
 use Rattle.answers.proofs.StageLaws.{passed, both-stages, spared, accepted-is}
 use Rattle.records.specs.declared.Way.{Way}
-use Rattle.records.specs.declared.Way.the-variants.{Idle, Add, Rekey}
+use Rattle.records.specs.declared.Way.the-variants.{Idle, Add, Rekey, Clear}
 use Rattle.records.specs.Rule.{sweepWay, rekeys, CanRise}
 use Rattle.records.specs.Record.{recordOf}
 use Rattle.records.proofs.RuleLaws.{formed-keycount}
@@ -156,6 +156,7 @@ rekeys-moves : (way : Way) → rekeys way ≡ true → idles way ≡ false
 rekeys-moves Idle e = cc
 rekeys-moves (Add t) e = refl
 rekeys-moves (Rekey t) e = refl
+rekeys-moves (Clear m) e = refl
 
 -- "answer 13 always comes first"
 pub thirteen-first : ThirteenFirst

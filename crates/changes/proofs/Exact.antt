@@ -7,9 +7,9 @@ use Prim.Native.Nat.{ℕ, zero, suc, _+_, _*_, _-_, _^_, _<_, _≤_}
 use native.Mathlib.Omega.{arith}
 use lib.Dec.{eqb, leb, ltb}
 use borrow.Author.Tests.{ltb-true}
-use Rattle.base.specs.Pick.{pick}
+use Rattle.base.specs.Pick.{pick, both}
 use Rattle.base.specs.Lists.{same}
-use Rattle.base.proofs.PickLaws.{yes, clash}
+use Rattle.base.proofs.PickLaws.{yes, clash, both-left}
 use Rattle.answers.specs.declared.Answer.{Answer}
 use Rattle.answers.specs.declared.Answer.the-variants as A
 use Rattle.answers.specs.Numbers.{accepts}
@@ -32,6 +32,7 @@ use Rattle.reports.proofs.Exact.{many-not}
 use Rattle.changes.specs.Change.{idles, nuggetChange, testedTo, advanced}
 use Rattle.changes.specs.Write.{writeWay, writeAnswer}
 use Rattle.changes.specs.Rekey.{beginTests, beginAnswer, begunDrive, moveTests, nuggetTests, sweepAnswer, leftIn, finishTests, finishAnswer, finishedDrive}
+use Rattle.changes.specs.Discard.{rangeFits, clearsNone, clearTests, discardAnswer}
 
 -- every test that could call drive or volume altered passes
 pub record Clean (d : Drive) (v : List ℕ) : Type 0 where
@@ -91,6 +92,17 @@ module _ (d : Drive) (v : List ℕ) (x : Clean d v) where
       (no-same (eqb (recordOf (shapeOf d) v n .epoch) (d .epoch)) _
       (λ left. no-same (eqb (d .counter) counterTop) _
       (λ low. x .flakes n (ltb-true n (d .n) h)))))))
+
+  pub discard-exact : (n first count : ℕ) → discardAnswer d v n first count
+      ≡ pick (eqb (d .version) 1) A.State
+      (pick (both (ltb n (d .n)) (leb (first + count) (d .p)))
+      (pick (clearsNone d v n first count) A.Accepted (pick (eqb (d .counter) (2 ^ 64 - 1)) A.CounterTop A.Accepted)) A.PastEnd)
+  unfolding discardAnswer clearTests rangeFits andThen
+  discard-exact n first count =
+      yes _ (ap accepts (x .opens))
+      (no-same (eqb (d .version) 1) _
+      (λ later. yes-same (both (ltb n (d .n)) (leb (first + count) (d .p))) _
+      (λ h. yes _ (ap accepts (x .paths n (ltb-true n (d .n) (both-left (ltb n (d .n)) (leb (first + count) (d .p)) h)))) refl)))
 
   -- those left, counted one by one
   pub left-counted : leftIn d v ≡ many (d .n) (λ i. not (eqb (recordOf (shapeOf d) v i .epoch) (d .epoch)))

@@ -9,6 +9,7 @@ pub mod ViewLaws
 pub mod SettleLaws
 pub mod SpanLaws
 pub mod SweepLaws
+pub mod DiscardLaws
 pub mod Exact
 pub mod AnswerLaws
 pub mod Relaid

@@ -16,7 +16,7 @@ use Rattle.layout.specs.Parts.{recordAt, tagsAt}
 use Rattle.layout.proofs.Places.{record-inside, records-above}
 use Rattle.records.specs.declared.Record.{Record}
 use Rattle.records.specs.declared.Way.{Way}
-use Rattle.records.specs.declared.Way.the-variants.{Idle, Add, Rekey}
+use Rattle.records.specs.declared.Way.the-variants.{Idle, Add, Rekey, Clear}
 use Rattle.records.specs.Record.{recordBytes, Codes, recordOf}
 use Rattle.records.specs.Rule.{turned}
 use Rattle.records.proofs.RecordLaws.{record-told, length-record, read-stored}
@@ -29,6 +29,7 @@ pub idle-is : (way : Way) → idles way ≡ true → way ≡ Idle
 idle-is Idle e = refl
 idle-is (Add t) e = absurd (clash e refl)
 idle-is (Rekey t) e = absurd (clash e refl)
+idle-is (Clear m) e = absurd (clash e refl)
 
 module _ (s : Shape) (head : ℕ) (way : Way) (r : Record) (n : ℕ) (w : List ℕ) where
   pub mark-idle : idles way ≡ true → marked s head way r n w ≡ w

@@ -20,7 +20,7 @@ use Rattle.layout.specs.Spots.{offsetAt}
 use Rattle.layout.proofs.Places.{flake-inside}
 use Rattle.records.specs.declared.Record.{Record}
 use Rattle.records.specs.declared.Way.{Way}
-use Rattle.records.specs.declared.Way.the-variants.{Idle, Add, Rekey}
+use Rattle.records.specs.declared.Way.the-variants.{Idle, Add, Rekey, Clear}
 use Rattle.records.specs.Journal.{bit}
 use Rattle.records.specs.Record.{recordOf}
 use Rattle.records.specs.Rule.{rekeys, enciphered, keycountAfter}
@@ -45,6 +45,7 @@ unfolding enciphered
 rekeyed-held Idle r f e h = absurd (clash e refl)
 rekeyed-held (Add t) r f e h = absurd (clash e refl)
 rekeyed-held (Rekey t) r f e h = bit-union (r .held) t f ∙ either-left _ h
+rekeyed-held (Clear m) r f e h = absurd (clash e refl)
 
 -- a flake that the range doesn't meet keeps each byte
 pub missed-byte : (s : Shape) (o len n f b : ℕ) → meets s o len n f ≡ false → b < s .f → both (leb o (offsetAt s n f b)) (ltb (offsetAt s n f b) (o + len)) ≡ false

@@ -1,4 +1,4 @@
--- A sweep changes one nugget: all others are idle, and each flake keeps its contents.
+-- A sweep, or a discard, changes one nugget: all others are idle, and each flake keeps its contents.
 use mathlib.Core.Path.{_≡_, refl, sym, _∙_, ap}
 use mathlib.Core.Bool.{Bool, true, false}
 use mathlib.Core.List.{List, [], _∷_}
@@ -15,6 +15,7 @@ use Rattle.layout.specs.declared.Shape.{Shape}
 use Rattle.layout.specs.Shaped.{Shaped}
 use Rattle.layout.specs.Spots.{offsetAt}
 use Rattle.records.specs.declared.Record.{Record}
+use Rattle.records.specs.declared.Way.{Way}
 use Rattle.records.specs.declared.Way.the-variants.{Idle}
 use Rattle.records.specs.Rule.{sweepWay}
 use Rattle.records.specs.Listing.{Entry, padsBy, padsTo}
@@ -23,7 +24,7 @@ use Rattle.drive.specs.Drive.{shapeOf}
 use Rattle.nuggets.specs.Nugget.{nuggetOf, contentsOf}
 use Rattle.nuggets.proofs.PieceLaws.{length-contents}
 use Rattle.changes.specs.Laid.{over, written, laidEntry, laid}
-use Rattle.changes.specs.Change.{padsFor, marked, markedTo, tended, tendedTo, worked}
+use Rattle.changes.specs.Change.{onlyAt, padsFor, marked, markedTo, tended, tendedTo, worked}
 use Rattle.changes.specs.Write.{newContents}
 use Rattle.changes.specs.Rekey.{sweepWays, sweepWork}
 use Rattle.changes.proofs.Each.{Each, each-map}
@@ -32,35 +33,35 @@ use Rattle.changes.proofs.PadsLaws.{to-stands, laid-record}
 use Rattle.changes.proofs.SpanLaws.{still-to, pads-idle-to, marked-idle, tended-idle}
 use Rattle.records.specs.Record.{recordOf}
 
-pub way-own : (n : ℕ) → sweepWays n n ≡ sweepWay
-way-own n = yes _ (eq-eqb n n refl) refl
+pub way-own : (n : ℕ) (way : Way) → onlyAt n way n ≡ way
+way-own n way = yes _ (eq-eqb n n refl) refl
 
-pub way-other : (n m : ℕ) → (m ≡ n → ⊥) → sweepWays n m ≡ Idle
-way-other n m h = no _ (ne-eqb m n h) refl
+pub way-other : (n : ℕ) (way : Way) (m : ℕ) → (m ≡ n → ⊥) → onlyAt n way m ≡ Idle
+way-other n way m h = no _ (ne-eqb m n h) refl
 
 -- an account that moves at n alone
 alone : {A : Type 0} (f : ℕ → A) (n k : ℕ) → n < k → ((m : ℕ) → (m ≡ n → ⊥) → f (suc m) ≡ f m) → (f k ≡ f (suc n)) × (f n ≡ f 0)
 alone f n k h g = (still-to f (suc n) k h (λ m a b. g m (λ e. omega (arith, a, e))), still-to f 0 n (omega arith) (λ m a b. g m (λ e. omega (arith, b, e))))
 
 -- what is listed, marked and tended is the nugget's own
-module _ (n k : ℕ) (h : n < k) where
-  pub sweep-pads : (p : ℕ) (records : ℕ → Record) (s : List ℕ) → padsTo p (sweepWays n) records s k ≡ padsBy p sweepWay n (records n) s
+module _ (n k : ℕ) (h : n < k) (way : Way) where
+  pub only-pads : (p : ℕ) (records : ℕ → Record) (s : List ℕ) → padsTo p (onlyAt n way) records s k ≡ padsBy p way n (records n) s
   unfolding padsTo
-  sweep-pads p records s =
-      let (behind, before) = alone (padsTo p (sweepWays n) records s) n k h (λ m q. pads-idle-to (sweepWays n) m (way-other n m q) p records s) in
-      behind ∙ rw (before, way-own n)
+  only-pads p records s =
+      let (behind, before) = alone (padsTo p (onlyAt n way) records s) n k h (λ m q. pads-idle-to (onlyAt n way) m (way-other n way m q) p records s) in
+      behind ∙ rw (before, way-own n way)
 
-  pub sweep-marks : (s : Shape) (head : ℕ) (v w : List ℕ) → markedTo s head (sweepWays n) v k w ≡ marked s head sweepWay (recordOf s v n) n w
+  pub only-marks : (s : Shape) (head : ℕ) (v w : List ℕ) → markedTo s head (onlyAt n way) v k w ≡ marked s head way (recordOf s v n) n w
   unfolding markedTo
-  sweep-marks s head v w =
-      let (behind, before) = alone (λ m. markedTo s head (sweepWays n) v m w) n k h (λ m q. marked-idle (sweepWays n) m (way-other n m q) s head v w) in
-      behind ∙ rw (before, way-own n)
+  only-marks s head v w =
+      let (behind, before) = alone (λ m. markedTo s head (onlyAt n way) v m w) n k h (λ m q. marked-idle (onlyAt n way) m (way-other n way m q) s head v w) in
+      behind ∙ rw (before, way-own n way)
 
-  pub sweep-tends : (s : Shape) (w : List ℕ) → tendedTo s (sweepWays n) k w ≡ tended s sweepWay n w
+  pub only-tends : (s : Shape) (w : List ℕ) → tendedTo s (onlyAt n way) k w ≡ tended s way n w
   unfolding tendedTo
-  sweep-tends s w =
-      let (behind, before) = alone (λ m. tendedTo s (sweepWays n) m w) n k h (λ m q. tended-idle (sweepWays n) m (way-other n m q) s w) in
-      behind ∙ rw (before, way-own n)
+  only-tends s w =
+      let (behind, before) = alone (λ m. tendedTo s (onlyAt n way) m w) n k h (λ m q. tended-idle (onlyAt n way) m (way-other n way m q) s w) in
+      behind ∙ rw (before, way-own n way)
 
 -- no bytes written leave the contents
 none-over : (a was : ℕ) → over 0 [] a was ≡ was
@@ -92,7 +93,7 @@ module _ (d : Drive) (v : List ℕ) (n : ℕ) (l : Shaped (shapeOf d) v) (h : n 
       ≡ laid (shapeOf d) (d .salt) (contentsOf d v) (padsFor d v (sweepWays n)) v
   sweep-lays =
       let s = shapeOf d in
-      let own : padsFor d v (sweepWays n) ≡ padsBy (d .p) sweepWay n (recordOf (shapeOf d) v n) (d .present) = sweep-pads n (d .n) h (d .p) (recordOf (shapeOf d) v) (d .present) in
+      let own : padsFor d v (sweepWays n) ≡ padsBy (d .p) sweepWay n (recordOf (shapeOf d) v n) (d .present) = only-pads n (d .n) h sweepWay (d .p) (recordOf (shapeOf d) v) (d .present) in
       ap (λ (es : List Entry). laid s (d .salt) (newContents d v 0 []) es v) (sym own)
       ∙ laid-alike s (d .salt) (newContents d v 0 []) (contentsOf d v) (padsFor d v (sweepWays n)) v
       (each-map (EntryInside s) (λ e. newContents d v 0 [] (e .nugget) (e .flake) ≡ contentsOf d v (e .nugget) (e .flake)) (padsFor d v (sweepWays n))
@@ -118,5 +119,5 @@ module _ (d : Drive) (v : List ℕ) (n : ℕ) (l : Shaped (shapeOf d) v) (h : n 
         (p
         ∙ ap (λ (r : Record). marked (shapeOf d) (d .epoch) sweepWay r n x) sweep-record
         ∙ ap (λ (u : List ℕ). marked (shapeOf d) (d .epoch) sweepWay (recordOf (shapeOf d) v n) n u) (e ∙ sweep-lays)
-        ∙ sym (sweep-marks n (d .n) h (shapeOf d) (d .epoch) v w))
-        ∙ sym (sweep-tends n (d .n) h (shapeOf d) (markedTo (shapeOf d) (d .epoch) (sweepWays n) v (d .n) w))
+        ∙ sym (only-marks n (d .n) h sweepWay (shapeOf d) (d .epoch) v w))
+        ∙ sym (only-tends n (d .n) h sweepWay (shapeOf d) (markedTo (shapeOf d) (d .epoch) (sweepWays n) v (d .n) w))

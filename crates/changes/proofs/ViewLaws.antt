@@ -18,7 +18,7 @@ use Rattle.layout.specs.Parts.{recordAt, treeAt, flakesAt, tagAt, flakeAt, node
 use Rattle.layout.proofs.Places.{apart, record-inside, tag-inside, node-inside, parts-inside}
 use Rattle.records.specs.declared.Record.{Record}
 use Rattle.records.specs.declared.Way.{Way}
-use Rattle.records.specs.declared.Way.the-variants.{Idle, Add, Rekey}
+use Rattle.records.specs.declared.Way.the-variants.{Idle, Add, Rekey, Clear as Clears}
 use Rattle.records.specs.Record.{Codes, recordOf}
 use Rattle.records.specs.Journal.{bit}
 use Rattle.records.specs.Rule.{enciphered, keycountAfter, turned}
@@ -64,6 +64,7 @@ unfolding enciphered
 idle-none Idle r f e = bit-empty f
 idle-none (Add t) r f e = absurd (clash e refl)
 idle-none (Rekey t) r f e = absurd (clash e refl)
+idle-none (Clears m) r f e = absurd (clash e refl)
 
 module _ (d : Drive) (v : List ℕ) (way : ℕ → Way) (new : ℕ → ℕ → List ℕ) (l : Shaped (shapeOf d) v) (long : Long (shapeOf d) new) where
   abbrev s : Shape

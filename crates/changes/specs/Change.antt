@@ -2,6 +2,7 @@
 use Prim.Native.Nat.{ℕ, zero, suc, _+_}
 use mathlib.Core.Bool.{Bool, true, false}
 use mathlib.Core.List.{List}
+use lib.Dec.{eqb}
 use lib.Seq.{sets}
 use Rattle.base.specs.Pick.{pick}
 use Rattle.layout.specs.declared.Shape.{Shape}
@@ -11,7 +12,7 @@ use Rattle.answers.specs.declared.Answer.the-variants as A
 use Rattle.answers.specs.Stages.{andThen}
 use Rattle.records.specs.declared.Record.{Record}
 use Rattle.records.specs.declared.Way.{Way}
-use Rattle.records.specs.declared.Way.the-variants.{Idle, Add, Rekey}
+use Rattle.records.specs.declared.Way.the-variants.{Idle, Add, Rekey, Clear}
 use Rattle.records.specs.Record.{recordBytes, recordOf}
 use Rattle.records.specs.Rule.{rekeys, turned}
 use Rattle.records.specs.Listing.{Entry, padsTo}
@@ -28,6 +29,11 @@ abbrev pub idles : Way → Bool
 idles Idle = true
 idles (Add t) = false
 idles (Rekey t) = false
+idles (Clear m) = false
+
+-- one nugget changes in this way, and all others stay as they are
+abbrev pub onlyAt : ℕ → Way → ℕ → Way
+onlyAt n way m = pick (eqb m n) way Idle
 
 -- "each: path; [..] flakes, ascending"; "a rekey tests all of J; a write without rekey tests none"
 unfoldable pub nuggetChange : Drive → List ℕ → ℕ → Way → Answer

@@ -9,7 +9,6 @@ use Rattle.answers.specs.declared.Answer.the-variants as A
 use Rattle.answers.specs.Numbers.{accepts}
 use Rattle.answers.specs.Stages.{andThen}
 use Rattle.records.specs.declared.Way.{Way}
-use Rattle.records.specs.declared.Way.the-variants.{Idle}
 use Rattle.records.specs.Rule.{sweepWay}
 use Rattle.records.specs.Listing.{Entry}
 use Rattle.tree.specs.Whole.{wholeOf}
@@ -21,7 +20,7 @@ use Rattle.drive.specs.Opening.{openingOf}
 use Rattle.nuggets.specs.Nugget.{contentsOf}
 use Rattle.nuggets.specs.Tests.{pathFor, flakesOf}
 use Rattle.reports.specs.Counts.{movedIn}
-use Rattle.changes.specs.Change.{padsFor, worked, advanced, settled}
+use Rattle.changes.specs.Change.{onlyAt, padsFor, worked, advanced, settled}
 use Rattle.records.specs.Record.{recordOf}
 
 -- "Epoch: 1 to 65,535"
@@ -70,7 +69,7 @@ sweepAnswer d v n =
 
 -- "Sweep takes a nugget and rekeys it with T empty.": the way of each nugget
 abbrev pub sweepWays : ℕ → ℕ → Way
-sweepWays n m = pick (eqb m n) sweepWay Idle
+sweepWays n = onlyAt n sweepWay
 
 -- each flake keeps its contents
 abbrev pub sweepWork : Drive → List ℕ → ℕ → List ℕ

@@ -36,9 +36,10 @@ use Rattle.opening.specs.Mount.{shapeIn, stateByteIn, headFits, lengthFits, sea
 use Rattle.opening.proofs.HeadBack.{opened}
 use Rattle.changes.specs.Write.{writeWay, writeAnswer}
 use Rattle.changes.proofs.SpanLaws.{idles-way}
+use Rattle.changes.proofs.DiscardLaws.{discard-told}
 use Rattle.changes.proofs.AnswerLaws.{Tests, Granted, begin-told, sweep-told, finish-told, write-opens, write-told}
 use Rattle.detection.specs.Right.{PathGood, SaysPresent, TagsRight}
-use Rattle.detection.specs.Detection.{read, write, begin, sweep, finish, report, HeadDetected, ReadDetected, WriteDetected, RekeyDetected, SweepDetected, FinishDetected, ReportDetected, MountDetected}
+use Rattle.detection.specs.Detection.{read, write, begin, sweep, finish, discard, report, HeadDetected, ReadDetected, WriteDetected, RekeyDetected, SweepDetected, DiscardDetected, FinishDetected, ReportDetected, MountDetected}
 use Rattle.detection.proofs.RightLaws.{head-right, path-good, whole-right, tag-right}
 use Rattle.detection.proofs.TouchedLaws.{spot-within, touched-bit, touched-some, way-rekeys}
 
@@ -59,6 +60,7 @@ head-detected d v a (write o len) e = head-right d v (write-opens d v o len (ap 
 head-detected d v a (begin secret) e = head-right d v (begin-told d v secret (ap accepts e) .opens)
 head-detected d v a (sweep n) e = head-right d v (sweep-told d v n (ap accepts e) .opens)
 head-detected d v a finish e = head-right d v (finish-told d v (ap accepts e) .opens)
+head-detected d v a (discard n first count) e = head-right d v (discard-told d v n first count (ap accepts e) .opens)
 head-detected d v a report e = head-right d v (report-stages d v e .0)
 
 pub read-detected : ReadDetected
@@ -115,6 +117,11 @@ pub sweep-detected : SweepDetected
 sweep-detected d v n e =
     let m = sweep-told d v n (ap accepts e) in
     (m .inside, path-good d v n (m .lent) (m .inside) (m .path), λ f l p. tag-right d v n (recordOf (shapeOf d) v n .held) f (m .flakes) l p)
+
+pub discard-detected : DiscardDetected
+discard-detected d v n first count e =
+    let t = discard-told d v n first count (ap accepts e) in
+    (t .inside, path-good d v n (t .lent) (t .inside) (t .path))
 
 pub finish-detected : FinishDetected
 finish-detected d v e = let t = finish-told d v (ap accepts e) in whole-right d v (t .whole) (t .lent)

@@ -20,6 +20,7 @@ use Rattle.reports.specs.Report.{reportAnswer}
 use Rattle.opening.specs.Mount.{shapeIn, openedDrive, mountAnswer}
 use Rattle.changes.specs.Write.{writeAnswer}
 use Rattle.changes.specs.Rekey.{beginAnswer, sweepAnswer, finishAnswer}
+use Rattle.changes.specs.Discard.{discardAnswer}
 use Rattle.detection.specs.Right.{HeadRight, PathGood, SaysPresent, TagRight, TagsRight, WholeGood}
 
 -- the calls on an open drive, but stored flake, with what they answer
@@ -29,6 +30,7 @@ pub data Answered (d : Drive) (v : List ℕ) : Answer → Type 0 where
   begin : (secret : List ℕ) → Answered d v (beginAnswer d v secret)
   sweep : (n : ℕ) → Answered d v (sweepAnswer d v n)
   finish : Answered d v (finishAnswer d v)
+  discard : (n first count : ℕ) → Answered d v (discardAnswer d v n first count)
   report : Answered d v (reportAnswer d v)
 
 -- "All others start 1, 2, 7 head": each accepted one has the drive's head before it, and the drive's node 1
@@ -60,6 +62,10 @@ RekeyDetected =
 -- "Sweep: 9, 8, 7 path, 12, 13, [..] 7 flakes."
 abbrev pub SweepDetected : Type 0
 SweepDetected = (d : Drive) (v : List ℕ) (n : ℕ) → sweepAnswer d v n ≡ A.Accepted → (n < d .n) × PathGood d v n × TagsRight d v n
+
+-- Document 02, Item 4: "Discard, after 7 head: [..] 7 path"
+abbrev pub DiscardDetected : Type 0
+DiscardDetected = (d : Drive) (v : List ℕ) (n first count : ℕ) → discardAnswer d v n first count ≡ A.Accepted → (n < d .n) × PathGood d v n
 
 -- "Finish: 9, 7 whole, 11, 13." "Report: 7 whole."
 abbrev pub FinishDetected : Type 0

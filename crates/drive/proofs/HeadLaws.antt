@@ -29,7 +29,7 @@ pub two-pieces : (z a b : List ℕ) → length a ≡ 72 → length b ≡ 32 → 
 two-pieces z a b ha hb hz = sym (sets-append z 0 a b 72 (omega arith)) ∙ sets-full z (a ++ b) (simp length-append (omega arith))
 
 -- the code's pieces of the front are its row
-pub front-pieces : (d : Drive) → frontFrom (numbersOf (d .n) (d .p) (d .f) (stateByte (d .state)) (d .epoch)) (d .salt) (d .counter) (checkIn d) ≡ frontIn d
+pub front-pieces : (d : Drive) → frontFrom (numbersOf (d .version) (d .n) (d .p) (d .f) (stateByte (d .state)) (d .epoch)) (d .salt) (d .counter) (checkIn d) ≡ frontIn d
 unfolding numbersOf frontIn
 front-pieces d = simp append-assoc
 

@@ -4,16 +4,16 @@ use mathlib.Core.Bool.{Bool, true, false}
 use mathlib.Core.List.{List}
 use lib.ListN.{replicate}
 use Rattle.layout.specs.declared.Shape.{Shape}
-use Rattle.layout.specs.Shape.{shape}
+use Rattle.layout.specs.Shape.{shapeAs}
 use Rattle.records.specs.declared.Gauge.{Gauge}
 use Rattle.records.specs.Record.{against}
 use Rattle.drive.specs.declared.Drive.{Drive}
 use Rattle.drive.specs.declared.State.{State}
 use Rattle.drive.specs.declared.State.the-variants.{Steady, Changing}
 
--- the drive's shape: version 1 under ChaCha20
+-- the drive's shape, under its version and ChaCha20
 abbrev pub shapeOf : Drive → Shape
-shapeOf d = shape (d .n) (d .p) (d .f)
+shapeOf d = shapeAs (d .version) (d .n) (d .p) (d .f)
 
 abbrev pub isChanging : State → Bool
 isChanging Steady = false
@@ -33,6 +33,7 @@ blankDrive =
       n = 0;
       p = 0;
       f = 0;
+      version = 0;
       salt = zeros 16;
       state = Steady;
       epoch = 0;
@@ -49,6 +50,7 @@ headed d state epoch counter node present old =
       n = d .n;
       p = d .p;
       f = d .f;
+      version = d .version;
       salt = d .salt;
       state = state;
       epoch = epoch;

@@ -1,5 +1,6 @@
 -- Document 01, the row of the head: "0-2 `NGT`; 3-4 version 1; 5 state (0 steady, 1 changing); 6-7 epoch; 8-11 N; 12-13 P;
--- 14-15 F; 16-31 salt; 32-39 counter; 40-71 old-secret check (zeros when steady); 72-103 seal".
+-- 14-15 F; 16-31 salt; 32-39 counter; 40-71 old-secret check (zeros when steady); 72-103 seal". Document 02, Item 4: "Format and
+-- the drive gain the version."
 use Prim.{tt}
 use Prim.Native.Nat.{ℕ}
 use mathlib.Core.List.{List, [], _∷_, _++_}
@@ -14,9 +15,6 @@ use Rattle.drive.specs.Drive.{zeros}
 abbrev pub mark : List ℕ
 mark = 78 ∷ 71 ∷ 84 ∷ []
 
-abbrev pub version : ℕ
-version = 1
-
 abbrev pub stateByte : State → ℕ
 stateByte Steady = 0
 stateByte (Changing left) = 1
@@ -30,8 +28,8 @@ abbrev pub frontRow : List Field
 frontRow = numbersRow ++ (string 16 ∷ number 8 ∷ string 32 ∷ [])
 
 -- bytes 0 to 15
-unfoldable pub numbersOf : ℕ → ℕ → ℕ → ℕ → ℕ → List ℕ
-numbersOf n p f state epoch = row numbersRow (mark & version & state & epoch & n & p & f & tt)
+unfoldable pub numbersOf : ℕ → ℕ → ℕ → ℕ → ℕ → ℕ → List ℕ
+numbersOf version n p f state epoch = row numbersRow (mark & version & state & epoch & n & p & f & tt)
 
 -- "old-secret check (zeros when steady)": the check that a state holds
 abbrev pub checkFor : State → List ℕ → List ℕ → ℕ → List ℕ
@@ -43,7 +41,7 @@ checkIn d = checkFor (d .state) (d .old) (d .salt) (d .epoch)
 
 -- bytes 0 to 71
 abbrev pub frontValues : Drive → Values frontRow
-frontValues d = mark & version & stateByte (d .state) & d .epoch & d .n & d .p & d .f & d .salt & d .counter & checkIn d & tt
+frontValues d = mark & d .version & stateByte (d .state) & d .epoch & d .n & d .p & d .f & d .salt & d .counter & checkIn d & tt
 
 unfoldable pub frontIn : Drive → List ℕ
 frontIn d = row frontRow (frontValues d)

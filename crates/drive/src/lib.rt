@@ -19,11 +19,12 @@ pub enum State {
     Changing(u16),
 }
 
-// "The open drive is one record": N, P, F, salt, state, epoch, counter, node 1, present secret and old secret.
+// "The open drive is one record": N, P, F, version, salt, state, epoch, counter, node 1, present secret and old secret.
 pub struct Drive {
     pub n: u32,
     pub p: u32,
     pub f: u32,
+    pub version: u16,
     pub salt: [u8; 16],
     pub state: State,
     pub epoch: u16,
@@ -47,6 +48,7 @@ pub fn blank() -> Drive
         n: 0,
         p: 0,
         f: 0,
+        version: 0,
         salt: [0u8; 16],
         state: State::Steady,
         epoch: 0,
@@ -64,7 +66,7 @@ pub fn shape_of(d: Drive) -> Shape
         n: d.n,
         p: d.p,
         f: d.f,
-        version: 1,
+        version: d.version,
         cipher: 0,
     }
 }
@@ -107,6 +109,7 @@ pub fn headed(
         n: d.n,
         p: d.p,
         f: d.f,
+        version: d.version,
         salt: salt,
         state: state,
         epoch: epoch,
@@ -138,12 +141,12 @@ pub fn state_byte(state: State) -> u8
 }
 
 // Head bytes 0 to 15.
-fn numbers_of(n: u32, p: u32, f: u32, state: u8, epoch: u16) -> [u8; 16]
-    ensures { λ r. ⌜ r ≡ numbersOf n p f state epoch ⌝ }
+fn numbers_of(version: u16, n: u32, p: u32, f: u32, state: u8, epoch: u16) -> [u8; 16]
+    ensures { λ r. ⌜ r ≡ numbersOf version n p f state epoch ⌝ }
 {
     let mut out = [0u8; 16];
     words::store(&mut out, 0, 3, 0x54474e);
-    words::store(&mut out, 3, 2, 1);
+    words::store(&mut out, 3, 2, version as u64);
     words::store(&mut out, 5, 1, state as u64);
     words::store(&mut out, 6, 2, epoch as u64);
     words::store(&mut out, 8, 4, n as u64);
@@ -186,7 +189,7 @@ pub fn front(d: Drive) -> [u8; 72]
     let check = check_in(d);
     let salt = d.salt;
     let state = d.state;
-    let numbers = numbers_of(d.n, d.p, d.f, state_byte(state), d.epoch);
+    let numbers = numbers_of(d.version, d.n, d.p, d.f, state_byte(state), d.epoch);
     front_of(numbers, salt, d.counter, check)
 }
 

@@ -1,5 +1,5 @@
 -- Writes on a drive of one nugget with two flakes of 64 bytes: its record and its counts afterwards, by computation.
-use mathlib.Core.Path.{_≡_, refl, ap, ap₂, _∙_}
+use mathlib.Core.Path.{_≡_, refl, sym, ap, ap₂, _∙_}
 use mathlib.Core.List.{List}
 use Prim.Native.Nat.{ℕ, _+_, _*_, _<_, _≤_}
 use native.Mathlib.Nat.{zero-add}
@@ -8,9 +8,11 @@ use lib.ListN.{length, length-append}
 use Rattle.layout.specs.declared.Shape.{Shape}
 use Rattle.records.specs.declared.Record.{Record}
 use Rattle.records.specs.declared.Way.{Way}
-use Rattle.records.specs.declared.Way.the-variants.{Idle, Add, Rekey}
+use Rattle.records.specs.declared.Way.the-variants.{Idle, Add, Rekey, Clear}
 use Rattle.records.specs.Journal.{flakeCount}
-use Rattle.records.specs.Rule.{wayOf, enciphered, keycountAfter, spentAfter, heldAfter, epochAfter, turned}
+use Rattle.records.proofs.BitLaws.{without-none}
+use Rattle.records.proofs.RuleLaws.{way-clears}
+use Rattle.records.specs.Rule.{wayOf, clearedBy, enciphered, keycountAfter, spentAfter, heldAfter, epochAfter, turned}
 use Rattle.records.specs.Listing.{padsTo}
 use Rattle.records.proofs.ListingLaws.{length-padsBy}
 use Rattle.drive.specs.declared.Drive.{Drive}
@@ -64,13 +66,15 @@ unfolding epochAfter
 epoch-stays Idle k j = refl
 epoch-stays (Add t) k j = refl
 epoch-stays (Rekey t) k j = refl
+epoch-stays (Clear m) k j = refl
 
 -- and its masks agree
-masks-agree : (way : Way) (k j : ℕ) → spentAfter way (first k j) ≡ heldAfter way (first k j)
+masks-agree : (way : Way) (k j : ℕ) → clearedBy way ≡ 0 → spentAfter way (first k j) ≡ heldAfter way (first k j)
 unfolding spentAfter heldAfter
-masks-agree Idle k j = refl
-masks-agree (Add t) k j = refl
-masks-agree (Rekey t) k j = refl
+masks-agree Idle k j z = refl
+masks-agree (Add t) k j z = refl
+masks-agree (Rekey t) k j z = refl
+masks-agree (Clear m) k j z = sym (rw z (without-none j))
 
 -- of one nugget with two flakes: how many pads its way lists, how many flakes are retired, how many are present
 module _ (n p : ℕ) (one : n ≡ 1) (two : p ≡ 2) where
@@ -149,7 +153,7 @@ module _ (w : World) {k j listed retired counter : ℕ} (h : Holds w k j listed 
         shaped = ap shapeOf drive-is ∙ h .shaped;
         epoch = ap (λ (d : Drive). d .epoch) drive-is ∙ h .epoch;
         counts = ap (λ (d : Drive). d .counter) drive-is ∙ ap (λ (c : ℕ). c + 1) (h .counts);
-        nugget = nugget-is ∙ (λ i. record { keycount = keycountAfter way r; spent = masks-agree way k j i; held = heldAfter way r; epoch = epoch-stays way k j i });
+        nugget = nugget-is ∙ (λ i. record { keycount = keycountAfter way r; spent = masks-agree way k j (way-clears r (touchedOf small o len 0) 1) i; held = heldAfter way r; epoch = epoch-stays way k j i });
         entries = entries-are;
         gone = gone-are;
       }

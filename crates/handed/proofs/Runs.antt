@@ -11,7 +11,7 @@ use lib.ListN.{length, getD, replicate, length-replicate}
 use borrow.Author.Tests.{eqb-true, ne-eqb, le-leb, lt-ltb}
 use Rattle.base.specs.Pick.{pick, both}
 use Rattle.base.specs.Lists.{same, tab}
-use Rattle.base.proofs.PickLaws.{yes, no, told, both-on, both-right, either-right}
+use Rattle.base.proofs.PickLaws.{yes, no, told, clash, both-on, both-right, either-right}
 use Rattle.base.proofs.TabLaws.{getD-tab}
 use Rattle.words.specs.Le.{Bytes}
 use Rattle.layout.specs.declared.Shape.{Shape}
@@ -24,11 +24,13 @@ use Rattle.answers.specs.declared.Answer.the-variants as A
 use Rattle.answers.specs.Numbers.{accepts}
 use Rattle.answers.proofs.StageLaws.{goes-on, stops, first-answers, both-stages, accepted-is}
 use Rattle.records.specs.declared.Record.{Record}
-use Rattle.records.specs.Journal.{bit, union}
+use Rattle.records.specs.declared.Way.{Way}
+use Rattle.records.specs.declared.Way.the-variants.{Idle, Add, Rekey, Clear}
+use Rattle.records.specs.Journal.{bit}
 use Rattle.records.specs.Record.{recordOf}
-use Rattle.records.specs.Rule.{wayOf, heldAfter}
+use Rattle.records.specs.Rule.{wayOf, touchedBy, heldAfter}
 use Rattle.records.specs.Listing.{Entry}
-use Rattle.records.proofs.BitLaws.{bit-union}
+use Rattle.records.proofs.BitLaws.{bit-union, bit-empty}
 use Rattle.records.proofs.MaskLaws.{bit-with}
 use Rattle.records.proofs.RuleLaws.{way-touched}
 use Rattle.drive.specs.declared.Drive.{Drive}
@@ -183,6 +185,14 @@ import-history start calls one two bytes =
     (λ (off : accepts (handAnswer (w .drive) (w .vol) one two (length bytes)) ≡ false). subst (HoldsImport w one two bytes) (sym (after-off start calls one two bytes off)) (kept start calls one two bytes off))
     (told (accepts (handAnswer (w .drive) (w .vol) one two (length bytes))))
 
+-- a touched flake is held afterwards
+touched-held : (way : Way) (r : Record) (f : ℕ) → bit (touchedBy way) f ≡ true → bit (heldAfter way r) f ≡ true
+unfolding heldAfter
+touched-held Idle r f on = absurd (clash on (bit-empty f))
+touched-held (Add t) r f on = bit-union (r .held) t f ∙ either-right (bit (r .held) f) on
+touched-held (Rekey t) r f on = bit-union (r .held) t f ∙ either-right (bit (r .held) f) on
+touched-held (Clear m) r f on = absurd (clash on (bit-empty f))
+
 -- a write of the whole touches every flake
 module _ (s : Shape) (n f len : ℕ) (a : n < s .n) (b : f < s .p) (size : len ≡ capacity s) (wide : 0 < s .f) where
   touches : bit (touchedOf s 0 len n) f ≡ true
@@ -193,12 +203,9 @@ module _ (s : Shape) (n f len : ℕ) (a : n < s .n) (b : f < s .p) (size : len �
       ∙ both-on (lt-ltb f (s .p) b) (lt-ltb (max 0 (offsetAt s n f 0)) (min (0 + len) (offsetAt s n f (s .f))) (omega (arith, room, size, wide)))
 
   pub held-all : (r : Record) (head : ℕ) → bit (heldAfter (wayOf r (touchedOf s 0 len n) head) r) f ≡ true
-  unfolding heldAfter
   held-all r head =
       let t = touchedOf s 0 len n in
-      ap (λ (k : ℕ). bit (union (r .held) k) f) (way-touched r t head)
-      ∙ bit-union (r .held) t f
-      ∙ either-right (bit (r .held) f) touches
+      touched-held (wayOf r t head) r f (ap (λ (k : ℕ). bit k f) (way-touched r t head) ∙ touches)
 
 module _ (start other : Start) (calls others : List Call) (one two out : List ℕ) where
   abbrev from : World

@@ -17,7 +17,7 @@ use Rattle.records.specs.declared.Record.{Record}
 use Rattle.records.specs.declared.Way.{Way}
 use Rattle.records.specs.Journal.{bit}
 use Rattle.records.specs.Record.{Codes, recordOf}
-use Rattle.records.specs.Rule.{touchedBy, keycountAfter, turned, CanRise}
+use Rattle.records.specs.Rule.{touchedBy, keycountAfter, turned, CanRise, MayClear}
 use Rattle.records.proofs.RuleLaws.{well-formed-after, codes-after}
 use Rattle.keys.specs.declared.Lock.{Lock}
 use Rattle.drive.specs.declared.Drive.{Drive}
@@ -54,6 +54,7 @@ pub record Due (d : Drive) (v : List ℕ) (way : ℕ → Way) (new : ℕ → ℕ
   pub fits : (n : ℕ) → n < d .n → WayFits (d .p) (d .epoch) (recordOf (shapeOf d) v n) (way n)
   pub codes : (n : ℕ) → n < d .n → Codes (shapeOf d) (recordOf (shapeOf d) v n)
   pub room : (n : ℕ) → n < d .n → CanRise (way n) (recordOf (shapeOf d) v n)
+  pub may : (n : ℕ) → n < d .n → MayClear (shapeOf d) (way n)
   pub long : Long (shapeOf d) new
 
 module _ (d : Drive) (v : List ℕ) (way : ℕ → Way) (new : ℕ → ℕ → List ℕ) (x : Due d v way new) where
@@ -82,7 +83,7 @@ module _ (d : Drive) (v : List ℕ) (way : ℕ → Way) (new : ℕ → ℕ → L
   codes-turned : (n : ℕ) → n < d .n → Codes (shapeOf d) (turned (way n) (d .epoch) (recordOf (shapeOf d) v n))
   codes-turned n h =
       codes-after (shapeOf d) (way n) (d .epoch) (recordOf (shapeOf d) v n) (x .codes n h)
-      (lt-of-lt-of-le (touched-low n h) (pow-mono (limits s (lent .limited) .narrow))) (x .epoch-low) (x .room n h)
+      (lt-of-lt-of-le (touched-low n h) (pow-mono (limits s (lent .limited) .narrow))) (x .epoch-low) (x .room n h) (x .may n h)
 
   -- each record is the one turned in its nugget's way
   pub record-after : (n : ℕ) → n < d .n → recordOf (shapeOf d) z n ≡ turned (way n) (d .epoch) (recordOf (shapeOf d) v n)

@@ -1,4 +1,4 @@
--- Write and sweep: a change of nuggets, each in its way, keeps what stays true.
+-- Write, sweep and discard: a change of nuggets, each in its way, keeps what stays true.
 use mathlib.Core.Path.{_≡_, refl, sym, ap, _∙_}
 use mathlib.Core.Bool.{true, false}
 use mathlib.Core.Logic.{_⊎_, inl, inr}
@@ -6,30 +6,31 @@ use mathlib.Core.List.{List, _++_}
 use Prim.Native.Nat.{ℕ, _+_, _^_, _<_, _≤_}
 use native.Mathlib.Nat.{lt-of-lt-of-le}
 use native.Mathlib.Omega.{arith}
-use lib.ListN.{length}
 use lib.Pow.{pow-mono}
 use Rattle.base.proofs.PickLaws.{clash}
-use Rattle.base.proofs.TabLaws.{length-tab}
 use Rattle.layout.specs.Parts.{recordAt}
 use Rattle.layout.proofs.Limits.{limits}
 use Rattle.records.specs.declared.Record.{Record}
 use Rattle.records.specs.declared.Way.{Way}
-use Rattle.records.specs.declared.Way.the-variants.{Idle, Add, Rekey}
+use Rattle.records.specs.declared.Way.the-variants.{Idle, Add, Rekey, Clear}
 use Rattle.records.specs.Journal.{bit}
 use Rattle.records.specs.Record.{Codes, recordOf}
-use Rattle.records.specs.Rule.{touchedBy, enciphered, heldAfter, turned}
+use Rattle.records.specs.Rule.{touchedBy, clearedBy, enciphered, heldAfter, turned, MayClear}
 use Rattle.records.proofs.BitLaws.{bit-empty}
 use Rattle.drive.specs.declared.Drive.{Drive}
 use Rattle.drive.specs.declared.State.{State}
 use Rattle.drive.specs.declared.State.the-variants.{Steady, Changing}
-use Rattle.drive.specs.Drive.{shapeOf, gaugeOf, isChanging, keptOld, counterTop}
+use Rattle.drive.specs.Drive.{shapeOf, gaugeOf, isChanging, keptOld, zeros, counterTop}
 use Rattle.changes.specs.Change.{padsFor, worked, advanced, settled}
+use Rattle.changes.proofs.Each.{chosen}
+use Rattle.changes.proofs.LaidLaws.{Long}
+use Rattle.changes.proofs.PutLaws.{Same}
 use Rattle.ledger.specs.Totals.{risen}
 use Rattle.ledger.specs.Ledger.{Ledger}
 use Rattle.ledger.specs.Step.{WayFits, Step}
 use Rattle.ledger.proofs.StepLaws.{keeps}
 use Rattle.ledger.proofs.OnwardLaws.{onward-step}
-use Rattle.ledger.proofs.TurnLaws.{absent-after}
+use Rattle.ledger.proofs.TurnLaws.{absent-untouched}
 use Rattle.history.specs.World.{World}
 use Rattle.history.specs.Step.{worldAfter}
 use Rattle.history.specs.Demands.{plainIn}
@@ -45,8 +46,9 @@ use Rattle.records.proofs.RecordLaws.{read-one}
 not-laid : (way : Way) (r : Record) (f : ℕ) → bit (heldAfter way r) f ≡ false → bit (enciphered way r) f ≡ false
 unfolding heldAfter enciphered
 not-laid Idle r f e = bit-empty f
-not-laid (Add t) r f e = absent-after (Add t) r f e .1
+not-laid (Add t) r f e = absent-untouched (Add t) r f e
 not-laid (Rekey t) r f e = e
+not-laid (Clear m) r f e = bit-empty f
 
 kept-twice : (s : State) (a b : List ℕ) → keptOld s a ≡ b → keptOld s b ≡ b
 kept-twice Steady a b e = e
@@ -70,8 +72,12 @@ module _ (w : World) (x : Sound w) (way : ℕ → Way) (new : ℕ → ℕ → Li
   pub record Ready : Type 0 where
     pub fits : (n : ℕ) → n < w .drive .n → WayFits (w .drive .p) (w .drive .epoch) (recordOf (shapeOf (w .drive)) (w .vol) n) (way n)
     pub low : w .drive .counter ≡ counterTop → ⊥
-    pub news : (n f : ℕ) → n < w .drive .n → f < w .drive .p → new n f ≡ plainIn (shapeOf (w .drive)) after n f
-    pub rest : (n f : ℕ) → n < w .drive .n → f < w .drive .p → bit (touchedBy (way n)) f ≡ false
+    pub may : (n : ℕ) → n < w .drive .n → MayClear (shapeOf (w .drive)) (way n)
+    pub long : Long (shapeOf (w .drive)) new
+    pub news : (n f : ℕ) → n < w .drive .n → f < w .drive .p → chosen way (recordOf (shapeOf (w .drive)) (w .vol)) n f ≡ true
+        → new n f ≡ plainIn (shapeOf (w .drive)) after n f
+    pub gone : (n f : ℕ) → n < w .drive .n → f < w .drive .p → bit (clearedBy (way n)) f ≡ true → plainIn (shapeOf (w .drive)) after n f ≡ zeros (w .drive .f)
+    pub rest : (n f : ℕ) → n < w .drive .n → f < w .drive .p → bit (touchedBy (way n)) f ≡ false → bit (clearedBy (way n)) f ≡ false
         → plainIn (shapeOf (w .drive)) after n f ≡ plainIn (shapeOf (w .drive)) (w .contents) n f
 
   below : (n : ℕ) → n < d .n → recordOf (shapeOf d) v n .keycount ≤ d .counter
@@ -94,10 +100,6 @@ module _ (w : World) (x : Sound w) (way : ℕ → Way) (new : ℕ → ℕ → Li
       low (inl e) = omega (arith, e, x .handed .epoch-lt)
       low (inr e) = omega (arith, e .1, x .handed .epoch-lt)
 
-  plain-long : (n f : ℕ) → length (plainIn (shapeOf d) after n f) ≡ d .f
-  unfolding plainIn
-  plain-long n f = length-tab (d .f) _
-
   module _ (r : Ready) where
     due : Due d v way new
     due =
@@ -109,7 +111,8 @@ module _ (w : World) (x : Sound w) (way : ℕ → Way) (new : ℕ → ℕ → Li
           fits = r .fits;
           codes = codes;
           room = λ n h e. omega (arith, below n h, x .handed .counter-lt, r .low);
-          long = λ n f a b. ap length (r .news n f a b) ∙ plain-long n f;
+          may = r .may;
+          long = r .long;
         }
 
     -- each record is the one turned in its nugget's way
@@ -117,6 +120,11 @@ module _ (w : World) (x : Sound w) (way : ℕ → Way) (new : ℕ → ℕ → Li
         → recordOf (shapeOf d) (settled (advanced (w .drive) (worked (w .drive) (w .vol) way new)) (worked (w .drive) (w .vol) way new)) n
         ≡ turned (way n) (w .drive .epoch) (recordOf (shapeOf (w .drive)) (w .vol) n)
     worked-turns n h = record-after d v way new due n h
+
+    -- and a flake that isn't enciphered is as it was, and so is its tag
+    pub worked-same : (n f : ℕ) → n < w .drive .n → f < w .drive .p → chosen way (recordOf (shapeOf (w .drive)) (w .vol)) n f ≡ false
+        → Same (shapeOf (w .drive)) n f (w .vol) (settled (advanced (w .drive) (worked (w .drive) (w .vol) way new)) (worked (w .drive) (w .vol) way new))
+    worked-same n f h l off = kept-after d v way new due n f h l off
 
     abbrev e : Drive
     e = advanced d (worked d v way new)
@@ -140,9 +148,10 @@ module _ (w : World) (x : Sound w) (way : ℕ → Way) (new : ℕ → ℕ → Li
           turns = worked-turns;
           lists = refl;
           retires = refl;
-          enciphers = λ n f a b on. rw (← r .news n f a b) (put-after d v way new due n f a b on .stored);
+          enciphers = λ n f a b on. rw (← r .news n f a b on) (put-after d v way new due n f a b on .stored);
           leaves = λ n f a b off. kept-after d v way new due n f a b off .stored;
           untouched = r .rest;
+          clears = r .gone;
         }
 
     pub worked-keeps : Keeps w (worldAfter w (advanced d (worked d v way new)) (settled (advanced d (worked d v way new)) (worked d v way new)) (padsFor d v way) (w .secret) (w .old) after)

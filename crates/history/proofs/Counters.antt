@@ -16,8 +16,9 @@ use Rattle.opening.proofs.HeadBack.{opened}
 use Rattle.opening.proofs.Reopens.{drive-back}
 use Rattle.changes.specs.Change.{advanced}
 use Rattle.changes.specs.Write.{writeDone}
+use Rattle.changes.specs.Discard.{discardDone}
 use Rattle.changes.specs.Rekey.{begunDrive, beginDone, sweepDone, finishedDrive, finishDone}
-use Rattle.history.specs.World.{World, Call, mount, write, begin, sweep, finish, asks}
+use Rattle.history.specs.World.{World, Call, mount, write, begin, sweep, finish, discard, asks}
 use Rattle.history.specs.Step.{worldAfter, mounted, step, changesBy}
 use Rattle.history.specs.History.{run, among}
 use Rattle.history.proofs.Sound.{Sound}
@@ -32,12 +33,13 @@ either-base true new old e = e
 either-base false new old e = refl
 
 pub step-base : (w : World) (c : Call) → Sound w → baseOf (step w c .drive) ≡ baseOf (w .drive)
-unfolding step worldAfter writeDone beginDone sweepDone finishDone advanced begunDrive finishedDrive
+unfolding step worldAfter writeDone beginDone sweepDone finishDone discardDone advanced begunDrive finishedDrive
 step-base w (mount any) x = ap (λ (u : World). baseOf (u .drive)) (mount-same w x any)
 step-base w (write o bytes) x = either-base (changesBy w (write o bytes)) _ (w .drive) refl
 step-base w (begin secret) x = either-base (changesBy w (begin secret)) _ (w .drive) refl
 step-base w (sweep n) x = either-base (changesBy w (sweep n)) _ (w .drive) refl
 step-base w finish x = either-base (changesBy w finish) _ (w .drive) refl
+step-base w (discard n first count) x = either-base (changesBy w (discard n first count)) _ (w .drive) refl
 step-base w (asks q) x = refl
 
 pub run-base : (w : World) (calls : List Call) → Sound w → baseOf (run w calls .drive) ≡ baseOf (w .drive)
@@ -52,12 +54,13 @@ raised false new old e = omega arith
 
 -- "Each accepted format, nonempty write, begin, sweep and finish adds 1 to the counter"; "Reads, reports, mounts and empty writes add nothing."
 step-counter : (w : World) (c : Call) → w .drive .counter ≡ w .outside → step w c .outside ≡ w .outside + pick (changesBy w c) 1 0
-unfolding step worldAfter mounted writeDone beginDone sweepDone finishDone advanced begunDrive finishedDrive
+unfolding step worldAfter mounted writeDone beginDone sweepDone finishDone discardDone advanced begunDrive finishedDrive
 step-counter w (mount any) e = omega arith
 step-counter w (write o bytes) e = rw (← e) (raised (changesBy w (write o bytes)) _ (w .drive) refl)
 step-counter w (begin secret) e = rw (← e) (raised (changesBy w (begin secret)) _ (w .drive) refl)
 step-counter w (sweep n) e = rw (← e) (raised (changesBy w (sweep n)) _ (w .drive) refl)
 step-counter w finish e = rw (← e) (raised (changesBy w finish) _ (w .drive) refl)
+step-counter w (discard n first count) e = rw (← e) (raised (changesBy w (discard n first count)) _ (w .drive) refl)
 step-counter w (asks q) e = omega arith
 
 run-counter : (w : World) (calls : List Call) → Sound w → w .outside ≤ run w calls .outside

@@ -30,15 +30,15 @@ use Rattle.opening.specs.Format.{freshDrive, formatDone}
 use Rattle.ledger.specs.Totals.{sum}
 use Rattle.ledger.specs.Ledger.{secretAt, entryAt}
 use Rattle.ledger.proofs.Theorems.{no-entry-twice as none-twice-in, keycounts-below as below-in}
-use Rattle.history.specs.World.{World, write}
+use Rattle.history.specs.World.{World, write, discard}
 use Rattle.history.specs.Step.{step}
 use Rattle.history.specs.History.{Start, begun, run, history}
-use Rattle.history.specs.Demands.{ShapeKept, KeycountsBelow, ReadsBack, WrittenLast, NeverWritten, NoEntryTwice, EntriesListed, plainIn, UnderLastPad, StaleNeverMounts, MountsBack, ShareFull}
+use Rattle.history.specs.Demands.{ShapeKept, KeycountsBelow, ReadsBack, WrittenLast, NeverWritten, DiscardedReadsZero, NoEntryTwice, EntriesListed, plainIn, UnderLastPad, StaleNeverMounts, MountsBack, ShareFull}
 use Rattle.history.proofs.Quiet.{untouched-lent, report-accepts}
 use Rattle.history.proofs.View.{kitOf, ledgerOf, secret-seen, reads-plain}
 use Rattle.history.proofs.Sound.{Sound}
 use Rattle.history.proofs.Steps.{start-sound, sound, mount-back}
-use Rattle.history.proofs.Runs.{run-append, run-kept, step-writes}
+use Rattle.history.proofs.Runs.{run-append, run-kept, run-zero, step-frees, step-writes}
 use Rattle.history.proofs.Counters.{baseOf, run-base, run-raised, head-counter}
 use Rattle.opening.proofs.FormatLaws.{format-lent}
 use Rattle.opening.proofs.FreshLaws.{fresh-by}
@@ -49,7 +49,7 @@ unfolding begun formatDone freshDrive
 begun-base x =
     let (lent, top) = format-lent (x .shape) (x .outside) (x .given) (ap accepts (x .accepted)) in
     rw (x .accepted)
-    (fresh-by (λ (z : Shape). baseOf (freshDrive z (x .salt) (x .secret) (x .outside)) ≡ (z, x .salt)) (x .shape) (lent .limited) (λ n p f l. refl))
+    (fresh-by (λ (z : Shape). baseOf (freshDrive z (x .salt) (x .secret) (x .outside)) ≡ (z, x .salt)) (x .shape) (lent .limited) (λ version n p f l. refl))
 
 pub shape-kept : ShapeKept
 shape-kept x calls =
@@ -89,7 +89,14 @@ written-last x calls later o bytes i h e off =
 
 pub never-written : NeverWritten
 unfolding begun
-never-written x calls a off = run-kept a (begun x) calls off
+never-written x calls a off = run-zero a (begun x) calls off refl
+
+pub discarded-reads-zero : DiscardedReadsZero
+unfolding run
+discarded-reads-zero x calls later n first count a e inside off =
+    let w = history x calls in
+    ap (λ (u : World). u .contents a) (run-append (begun x) calls (discard n first count ∷ later))
+    ∙ run-zero a (step w (discard n first count)) later off (step-frees w n first count a e inside)
 
 pub no-entry-twice : NoEntryTwice
 no-entry-twice x calls = let w = history x calls in none-twice-in (kitOf (w .drive)) (ledgerOf w) (sound x calls .inv)

@@ -8,7 +8,9 @@ pub mod After
 pub mod Sound
 pub mod Changed
 pub mod Ways
+pub mod Freed
 pub mod Steps
+pub mod Discards
 pub mod Table
 pub mod Written
 pub mod Counters

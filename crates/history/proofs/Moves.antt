@@ -11,7 +11,7 @@ use Rattle.base.proofs.PickLaws.{yes, no, clash}
 use Rattle.answers.specs.declared.Answer.the-variants as A
 use Rattle.answers.specs.Numbers.{accepts}
 use Rattle.records.specs.declared.Record.{Record}
-use Rattle.records.specs.Rule.{turned, epochAfter}
+use Rattle.records.specs.Rule.{sweepWay, turned, epochAfter}
 use Rattle.records.proofs.RuleLaws.{formed-epoch}
 use Rattle.records.specs.Record.{recordOf}
 use Rattle.drive.specs.Drive.{shapeOf, gaugeOf, counterTop}
@@ -91,8 +91,8 @@ module _ (w : World) (x : Sound w) where
 
     pub swept-own : recordOf (shapeOf (step w (sweep n) .drive)) (step w (sweep n) .vol) n .epoch ≡ w .drive .epoch
     unfolding epochAfter
-    swept-own = ap (λ (r : Record). r .epoch) (swept-record n (sweep-tells .inside)) ∙ rw (way-own n) refl
+    swept-own = ap (λ (r : Record). r .epoch) (swept-record n (sweep-tells .inside)) ∙ rw (way-own n sweepWay) refl
 
     pub swept-other : (m : ℕ) → m < w .drive .n → (m ≡ n → ⊥) → recordOf (shapeOf (step w (sweep n) .drive)) (step w (sweep n) .vol) m .epoch ≡ recordOf (shapeOf (w .drive)) (w .vol) m .epoch
     unfolding epochAfter
-    swept-other m h far = ap (λ (r : Record). r .epoch) (swept-record m h) ∙ rw (way-other n m far) refl
+    swept-other m h far = ap (λ (r : Record). r .epoch) (swept-record m h) ∙ rw (way-other n sweepWay m far) refl

@@ -1,14 +1,15 @@
 -- Pads and keys, read off what stays true through every history.
 use mathlib.Core.Path.{_≡_, refl, sym, ap, ap₂, _∙_, subst}
 use mathlib.Core.Bool.{true}
+use mathlib.Core.Logic.{_⊎_}
 use mathlib.Core.List.{List, [], _∷_, _++_}
 use mathlib.Core.Option.{some}
-use Prim.Native.Nat.{ℕ, _+_, _*_, _/_, _^_, _<_, _≤_}
+use Prim.Native.Nat.{ℕ, _+_, _*_, _/_, _%_, _^_, _<_, _≤_}
 use native.Mathlib.Omega.{arith}
 use lib.ListN.{length, getElem?}
 use Rattle.records.specs.Journal.{bit}
 use Rattle.base.specs.Lists.{part}
-use Rattle.layout.proofs.Places.{record-room}
+use Rattle.layout.proofs.Places.{record-room, parts-inside}
 use Rattle.base.proofs.PickLaws.{clash}
 use Rattle.base.proofs.FoldLaws.{same-true}
 use Rattle.base.proofs.PartLaws.{length-part}
@@ -18,15 +19,16 @@ use Rattle.messages.specs.OneMessage.{bytesOf, Wide}
 use Rattle.messages.proofs.ReadBack.{nugget-told, tag-told}
 use Rattle.layout.specs.declared.Shape.{Shape}
 use Rattle.layout.specs.Shape.{leaves, widthOf}
-use Rattle.layout.specs.Parts.{recordAt}
+use Rattle.layout.specs.Parts.{recordAt, tagAt}
 use Rattle.layout.specs.Shaped.{Shaped}
-use Rattle.layout.proofs.Limits.{limits, lent-small, by-numbers}
+use Rattle.layout.proofs.Limits.{limits, lent-small, width-is}
 use Rattle.records.specs.Listing.{Entry}
 use Rattle.keys.specs.Keys.{nuggetKey, tagKey, checkOf, sealOf}
 use Rattle.keys.specs.Pads.{Size, Stretch, Lies, padOf, inputOf}
 use Rattle.keys.proofs.Stretches.{stretch-is, no-stretch-twice as stretches-apart}
-use Rattle.nodes.specs.Nodes.{nodeIn, leafOf, innerOf}
+use Rattle.nodes.specs.Nodes.{nodeIn, recordPart, tagsPart, leafOf, innerOf}
 use Rattle.nodes.specs.Made.{madeOf}
+use Rattle.nodes.proofs.Bounds.{tags-inside}
 use Rattle.nodes.proofs.MadeLaws.{made-leaf, made-inner, length-made}
 use Rattle.drive.specs.declared.Drive.{Drive}
 use Rattle.drive.specs.declared.State.{State}
@@ -195,10 +197,12 @@ check-for : (s : State) (old salt : List ℕ) (epoch : ℕ) → isChanging s ≡
 check-for Steady old salt epoch e = absurd (clash e refl)
 check-for (Changing left) old salt epoch e = refl
 
--- "the 18 record bytes"
-record-long : {s : Shape} {v : List ℕ} (n : ℕ) → Shaped s v → n < s .n → length (part (recordAt s n) (widthOf s) v) ≡ 18
-unfolding widthOf
-record-long {s} {v} n l h = length-part (recordAt s n) (widthOf s) v (record-room n l h) ∙ by-numbers (λ (x : Shape). widthOf x ≡ 18) s (l .limited) refl
+-- "the 18 record bytes", or version 2's 26, and the tags of 16 bytes each
+record-long : {s : Shape} {v : List ℕ} (n : ℕ) → Shaped s v → n < s .n → (length (recordPart s v n) ≡ 18) ⊎ (length (recordPart s v n) ≡ 26)
+record-long {s} {v} n l h = rw (length-part (recordAt s n) (widthOf s) v (record-room n l h)) (width-is s)
+
+tags-long : {s : Shape} {v : List ℕ} (n : ℕ) → Shaped s v → n < s .n → length (tagsPart s v n) % 16 ≡ 0
+tags-long {s} {v} n l h = rw (length-part (tagAt s n 0) (16 * s .p) v (omega (arith, l .size, tags-inside s n h, parts-inside s))) (omega arith)
 
 -- head and tree of a sound world
 module _ (w : World) (x : Sound w) where
@@ -235,7 +239,7 @@ module _ (w : World) (x : Sound w) where
         };
         leaf = λ n h. record {
           hash = good (leaves (d .n) + n) (omega (arith, big .some-leaves)) (omega (arith, big .enough-leaves, h)) ∙ made-leaf (shapeOf d) (w .vol) n h;
-          wide = (omega (arith, h, ok .few), record-long n lent h);
+          wide = (omega (arith, h, ok .few), record-long n lent h, tags-long n lent h);
         };
         inner = λ i low high. record {
           hash = good i low (omega (arith, high)) ∙ made-inner (shapeOf d) (w .vol) i high;

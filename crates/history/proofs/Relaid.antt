@@ -7,7 +7,7 @@ use borrow.Author.Tests.{ltb-true}
 use Rattle.base.proofs.PickLaws.{yes, both-left, both-right}
 use Rattle.answers.specs.Numbers.{accepts}
 use Rattle.records.specs.declared.Way.{Way}
-use Rattle.records.specs.Rule.{rekeys}
+use Rattle.records.specs.Rule.{rekeys, sweepWay}
 use Rattle.drive.specs.declared.Drive.{Drive}
 use Rattle.drive.specs.Drive.{shapeOf}
 use Rattle.opening.proofs.Reopens.{length-head}
@@ -38,8 +38,8 @@ sweep-relays start calls n f ok b held =
     let t = sweep-told d v n ok in
     ap (λ (u : List ℕ). storedIn (shapeOf d) u n f) (yes v ok refl)
     ∙ headed d (sweptDrive d v n) (sweepWork d v n) n f (sound start calls .handed .salt-long)
-    ∙ worked-relays d v (t .lent) (sweepWays n) (contentsOf d v) (long-same d v (t .lent)) n f (t .inside) b (ap rekeys (way-own n)) held refl
-    ∙ ap (λ (way : Way). relaidUnder d v way n f) (way-own n)
+    ∙ worked-relays d v (t .lent) (sweepWays n) (contentsOf d v) (long-same d v (t .lent)) n f (t .inside) b (ap rekeys (way-own n sweepWay)) held refl
+    ∙ ap (λ (way : Way). relaidUnder d v way n f) (way-own n sweepWay)
 
 pub write-relays : WriteRelays
 unfolding step worldAfter writeVolume advanced

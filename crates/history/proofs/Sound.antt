@@ -79,14 +79,15 @@ module _ (w : World) (x : Sound w) where
       omega (arith, none)
 
   -- a call that is refused, or changes nothing
-  module _ (after : ℕ → ℕ) (e : (a : ℕ) → after a ≡ w .contents a) where
+  module _ (after : ℕ → ℕ)
+      (e : (n f : ℕ) → n < w .drive .n → f < w .drive .p → plainIn (shapeOf (w .drive)) after n f ≡ plainIn (shapeOf (w .drive)) (w .contents) n f) where
     same-kept : Kept (kitOf (w .drive)) (ledgerOf w)
         (viewOf (w .drive) (w .vol) (w .listing ++ []) (w .retired + risen (w .drive .p) (w .drive .n) (recordOf (shapeOf (w .drive)) (w .vol)) (recordOf (shapeOf (w .drive)) (w .vol))) after)
     same-kept =
         record {
           sameRecords = λ n h. refl;
           sameStored = λ n f a b. refl;
-          samePlain = λ n f a b. plain-same (shapeOf (w .drive)) after (w .contents) e n f;
+          samePlain = e;
           sameListing = append-nil (w .listing);
           sameRetired = retired-same (w .vol) (λ n. refl);
           counterUp = omega arith;

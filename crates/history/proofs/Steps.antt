@@ -14,7 +14,7 @@ use Rattle.base.proofs.TabLaws.{tab-const}
 use Rattle.answers.specs.declared.Answer.the-variants as A
 use Rattle.answers.specs.Numbers.{accepts}
 use Rattle.layout.specs.declared.Shape.{Shape}
-use Rattle.layout.specs.Shape.{shape, inLimits}
+use Rattle.layout.specs.Shape.{shapeAs, inLimits}
 use Rattle.records.specs.declared.Record.{Record}
 use Rattle.records.specs.Journal.{bit}
 use Rattle.records.proofs.BitLaws.{bit-empty}
@@ -38,20 +38,22 @@ use Rattle.changes.proofs.SettleLaws.{settled-record}
 use Rattle.ledger.specs.Invariant.{Inv}
 use Rattle.ledger.proofs.CalmLaws.{starts}
 use Rattle.ledger.proofs.OnwardLaws.{onward-same}
-use Rattle.history.specs.World.{World, Call, mount, write, begin, sweep, finish, asks}
-use Rattle.history.specs.Step.{oldFor, contentsAfter, mounted, step}
+use Rattle.history.specs.World.{World, Call, mount, write, begin, sweep, finish, discard, asks}
+use Rattle.history.specs.Step.{oldFor, contentsAfter, contentsWithout, mounted, step}
 use Rattle.history.specs.History.{Start, begun, run, history}
 use Rattle.history.specs.Demands.{plainIn}
 use Rattle.history.proofs.Quiet.{Untouched, whole-quiet}
 use Rattle.history.proofs.View.{kitOf, viewOf, ledgerOf}
-use Rattle.history.proofs.Sound.{Sound, Keeps, same-keeps, begun-keeps, finished-keeps}
+use Rattle.history.proofs.Sound.{Sound, Keeps, plain-same, same-keeps, begun-keeps, finished-keeps}
 use Rattle.history.proofs.Ways.{written-keeps, swept-keeps}
+use Rattle.history.proofs.Freed.{discarded-keeps, idle-plain}
+use Rattle.changes.specs.Discard.{clears, discardDone, discardVolume}
 use Rattle.records.specs.Record.{recordOf}
 
 -- a fresh drive and volume
-module _ (a p f : ℕ) (salt secret : List ℕ) (outside : ℕ) (salted : length salt ≡ 16) (limited : inLimits (shape a p f) ≡ true) where
+module _ (version a p f : ℕ) (salt secret : List ℕ) (outside : ℕ) (salted : length salt ≡ 16) (limited : inLimits (shapeAs version a p f) ≡ true) where
   abbrev s : Shape
-  s = shape a p f
+  s = shapeAs version a p f
 
   abbrev d : Drive
   d = freshDrive s salt secret outside
@@ -85,17 +87,17 @@ module _ (s : Shape) (salt secret : List ℕ) (outside : ℕ) (salted : length s
   fresh-record : (n : ℕ) → n < s .n → recordOf (shapeOf (freshDrive s salt secret outside)) (freshVolume s salt secret outside) n ≡ freshRecord
   fresh-record =
       fresh-by (λ (z : Shape). (n : ℕ) → n < z .n → recordOf (shapeOf (freshDrive z salt secret outside)) (freshVolume z salt secret outside) n ≡ freshRecord) s limited
-      (λ a p f l. numbers-record a p f salt secret outside salted l)
+      (λ version a p f l. numbers-record version a p f salt secret outside salted l)
 
   fresh-untouched : Untouched (freshDrive s salt secret outside) (freshVolume s salt secret outside)
   fresh-untouched =
       fresh-by (λ (z : Shape). Untouched (freshDrive z salt secret outside) (freshVolume z salt secret outside)) s limited
-      (λ a p f l. numbers-untouched a p f salt secret outside salted l)
+      (λ version a p f l. numbers-untouched version a p f salt secret outside salted l)
 
   fresh-inv : Inv (kitOf (freshDrive s salt secret outside)) (viewOf (freshDrive s salt secret outside) (freshVolume s salt secret outside) [] 0 (λ a. 0))
   fresh-inv =
       fresh-by (λ (z : Shape). Inv (kitOf (freshDrive z salt secret outside)) (viewOf (freshDrive z salt secret outside) (freshVolume z salt secret outside) [] 0 (λ a. 0))) s limited
-      (λ a p f l. numbers-inv a p f salt secret outside salted l)
+      (λ version a p f l. numbers-inv version a p f salt secret outside salted l)
 
 -- "Begin with one accepted format"
 pub start-sound : (x : Start) → Sound (begun x)
@@ -165,7 +167,8 @@ module _ (w : World) (x : Sound w) where
           rw e (written-keeps w x o bytes (write-told (w .drive) (w .vol) o (length bytes) some accepted) (contentsAfter w o bytes) (λ a. yes _ accepted refl))
       go (inr e) =
           rw e
-          (same-keeps w x (contentsAfter w o bytes) (λ a. none-over (accepts (writeAnswer (w .drive) (w .vol) o (length bytes))) o bytes a (w .contents a) e))
+          (same-keeps w x (contentsAfter w o bytes) (λ n f h l. plain-same (shapeOf (w .drive)) (contentsAfter w o bytes) (w .contents)
+          (λ a. none-over (accepts (writeAnswer (w .drive) (w .vol) o (length bytes))) o bytes a (w .contents a) e) n f))
 
   begin-keeps : (secret : List ℕ) → Keeps w (step w (begin secret))
   unfolding step beginDone beginVolume
@@ -173,7 +176,7 @@ module _ (w : World) (x : Sound w) where
     where
       go : (accepts (beginAnswer (w .drive) (w .vol) secret) ≡ true) ⊎ (accepts (beginAnswer (w .drive) (w .vol) secret) ≡ false) → Keeps w (step w (begin secret))
       go (inl e) = rw e (begun-keeps w x secret (begin-told (w .drive) (w .vol) secret e))
-      go (inr e) = rw e (same-keeps w x (w .contents) (λ a. refl))
+      go (inr e) = rw e (same-keeps w x (w .contents) (λ n f a b. refl))
 
   sweep-keeps : (n : ℕ) → Keeps w (step w (sweep n))
   unfolding step sweepDone sweepVolume sweepPads
@@ -181,7 +184,7 @@ module _ (w : World) (x : Sound w) where
     where
       go : (accepts (sweepAnswer (w .drive) (w .vol) n) ≡ true) ⊎ (accepts (sweepAnswer (w .drive) (w .vol) n) ≡ false) → Keeps w (step w (sweep n))
       go (inl e) = rw e (swept-keeps w x n (sweep-told (w .drive) (w .vol) n e))
-      go (inr e) = rw e (same-keeps w x (w .contents) (λ a. refl))
+      go (inr e) = rw e (same-keeps w x (w .contents) (λ n f a b. refl))
 
   finish-keeps : Keeps w (step w finish)
   unfolding step finishDone finishVolume
@@ -189,7 +192,15 @@ module _ (w : World) (x : Sound w) where
     where
       go : (accepts (finishAnswer (w .drive) (w .vol)) ≡ true) ⊎ (accepts (finishAnswer (w .drive) (w .vol)) ≡ false) → Keeps w (step w finish)
       go (inl e) = rw e (finished-keeps w x (finish-told (w .drive) (w .vol) e))
-      go (inr e) = rw e (same-keeps w x (w .contents) (λ a. refl))
+      go (inr e) = rw e (same-keeps w x (w .contents) (λ n f a b. refl))
+
+  discard-keeps : (n first count : ℕ) → Keeps w (step w (discard n first count))
+  unfolding step discardDone discardVolume
+  discard-keeps n first count = go (told (clears (w .drive) (w .vol) n first count))
+    where
+      go : (clears (w .drive) (w .vol) n first count ≡ true) ⊎ (clears (w .drive) (w .vol) n first count ≡ false) → Keeps w (step w (discard n first count))
+      go (inl e) = rw e (discarded-keeps w x n first count e)
+      go (inr e) = rw e (same-keeps w x (contentsWithout w n first count) (idle-plain w x n first count e))
 
 unchanged : (w : World) → Sound w → Keeps w w
 unchanged w x = record { sound = x; onward = onward-same (kitOf (w .drive)) (ledgerOf w); rests = λ n f h l gone. record { stored = refl; tag = refl } }
@@ -201,6 +212,7 @@ step-keeps w (write o bytes) x = write-keeps w x o bytes
 step-keeps w (begin secret) x = begin-keeps w x secret
 step-keeps w (sweep n) x = sweep-keeps w x n
 step-keeps w finish x = finish-keeps w x
+step-keeps w (discard n first count) x = discard-keeps w x n first count
 step-keeps w (asks q) x = unchanged w x
 
 pub step-sound : (w : World) (c : Call) → Sound w → Sound (step w c)

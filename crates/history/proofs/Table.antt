@@ -16,13 +16,13 @@ use Rattle.drive.specs.declared.Done.{Done}
 use Rattle.opening.specs.Mount.{mountDone}
 use Rattle.reading.proofs.Exact.{read-exact}
 use Rattle.reports.proofs.Exact.{stored-exact}
-use Rattle.changes.proofs.Exact.{Clean, write-exact, begin-exact, sweep-exact, finish-exact}
+use Rattle.changes.proofs.Exact.{Clean, write-exact, begin-exact, sweep-exact, finish-exact, discard-exact}
 use Rattle.records.specs.Record.{recordOf}
-use Rattle.history.specs.World.{World, Call, mount, write, begin, sweep, finish, asks, read, report, stored}
+use Rattle.history.specs.World.{World, Call, mount, write, begin, sweep, finish, discard, asks, read, report, stored}
 use Rattle.history.specs.Step.{answerTo}
 use Rattle.history.specs.History.{history}
 use Rattle.history.specs.Demands.{NoFalseAlarm}
-use Rattle.history.specs.Answers.{changing, hasMoved, nuggetsLeft, counterFull, inRange, due, AnswersExactly}
+use Rattle.history.specs.Answers.{changing, hasMoved, nuggetsLeft, counterFull, inRange, inNugget, noneHeld, due, AnswersExactly}
 use Rattle.history.proofs.Quiet.{path-quiet, whole-quiet, flakes-quiet, nugget-read, report-accepts}
 use Rattle.history.proofs.Sound.{Sound}
 use Rattle.history.proofs.Steps.{sound, mount-back}
@@ -44,6 +44,7 @@ module _ (w : World) (x : Sound w) where
   exactly (begin secret) = rw (← x .present) (begin-exact (w .drive) (w .vol) clean secret)
   exactly (sweep n) = sweep-exact (w .drive) (w .vol) clean n
   exactly finish = finish-exact (w .drive) (w .vol) clean
+  exactly (discard n first count) = discard-exact (w .drive) (w .vol) clean n first count
   exactly (asks (read o buffer)) = read-exact (w .drive) (w .vol) (x .untouched .opens) (nugget-read (w .drive) (w .vol) (x .untouched)) o (length buffer)
   exactly (asks report) = report-accepts (w .drive) (w .vol) (x .untouched)
   exactly (asks (stored n f)) = stored-exact (w .drive) (w .vol) (x .untouched .opens) n f
@@ -80,6 +81,11 @@ due-quiet w finish =
     quiet-pick (changing w)
     (quiet-pick (ltb 0 (nuggetsLeft w)) (inr (omega arith)) (quiet-pick (counterFull w) (inr (omega arith)) (inl refl)))
     (inr (omega arith))
+due-quiet w (discard n first count) =
+    quiet-pick (eqb (w .drive .version) 1) (inr (omega arith))
+    (quiet-pick (inNugget w n first count)
+    (quiet-pick (noneHeld w n first count) (inl refl) (quiet-pick (counterFull w) (inr (omega arith)) (inl refl)))
+    (inr (omega arith)))
 due-quiet w (asks (read o buffer)) = quiet-pick (inRange w o (length buffer)) (inl refl) (inr (omega arith))
 due-quiet w (asks report) = inl refl
 due-quiet w (asks (stored n f)) = quiet-pick (both (ltb n (w .drive .n)) (ltb f (w .drive .p))) (inl refl) (inr (omega arith))

@@ -22,9 +22,10 @@ use Rattle.drive.specs.Drive.{shapeOf, isChanging}
 use Rattle.opening.specs.Mount.{mountAnswer, mountDone}
 use Rattle.reports.specs.declared.told.Report.{Report}
 use Rattle.reports.specs.Report.{reportOf}
+use Rattle.changes.specs.Discard.{clearsNone}
 use Rattle.ledger.specs.Listing.{lastOf}
 use Rattle.ledger.specs.Totals.{sum}
-use Rattle.history.specs.World.{World, Call, mount, write, begin, sweep, finish, asks, read, report, stored}
+use Rattle.history.specs.World.{World, Call, mount, write, begin, sweep, finish, discard, asks, read, report, stored}
 use Rattle.history.specs.Step.{answerTo, step}
 use Rattle.history.specs.History.{Start, begun, run, history}
 
@@ -59,7 +60,14 @@ counterFull w = eqb (w .drive .counter) (2 ^ 64 - 1)
 abbrev pub inRange : World → ℕ → ℕ → Bool
 inRange w o len = leb (o + len) (w .drive .n * w .drive .p * w .drive .f)
 
--- The table. 8: past the end; 9: not in this state; 10: the same secret; 11: nuggets left; 12: moved; 13: counter at its top;
+-- the range of flakes lies within a nugget of the drive, and none of them is held
+abbrev pub inNugget : World → ℕ → ℕ → ℕ → Bool
+inNugget w n first count = both (ltb n (w .drive .n)) (leb (first + count) (w .drive .p))
+
+abbrev pub noneHeld : World → ℕ → ℕ → ℕ → Bool
+noneHeld w n first count = clearsNone (w .drive) (w .vol) n first count
+
+-- The table. 8: past the end; 9: not in this state, or not in this version; 10: the same secret; 11: nuggets left; 12: moved; 13: counter at its top;
 -- 15: epoch at its top. 1 to 7 aren't in it; 14 is no answer's number.
 abbrev pub due : World → Call → Answer
 due w (mount any) = A.Accepted
@@ -85,6 +93,12 @@ due w finish =
     else A.Left (nuggetsLeft w) if ltb 0 (nuggetsLeft w)
     else A.CounterTop if counterFull w
     else A.Accepted
+due w (discard n first count) =
+    A.State if eqb (w .drive .version) 1
+    else A.PastEnd unless inNugget w n first count
+    else A.Accepted if noneHeld w n first count
+    else A.CounterTop if counterFull w
+    else A.Accepted
 due w (asks (read o buffer)) = A.PastEnd unless inRange w o (length buffer) else A.Accepted
 due w (asks report) = A.Accepted
 due w (asks (stored n f)) = A.PastEnd unless both (ltb n (w .drive .n)) (ltb f (w .drive .p)) else A.Accepted
@@ -106,14 +120,15 @@ columns b e k s = record { begun = b; epoch = e; counter = k; secret = s }
 abbrev pub columnsOf : World → Columns
 columnsOf w = columns (changing w) (w .drive .epoch) (w .drive .counter) (w .secret)
 
--- after an accepted call
-abbrev pub columnsAfter : Columns → Call → Columns
-columnsAfter k (mount any) = k
-columnsAfter k (write o bytes) = columns (k .begun) (k .epoch) (k .counter + pick (eqb (length bytes) 0) 0 1) (k .secret)
-columnsAfter k (begin secret) = columns true (k .epoch + 1) (k .counter + 1) secret
-columnsAfter k (sweep n) = columns (k .begun) (k .epoch) (k .counter + 1) (k .secret)
-columnsAfter k finish = columns false (k .epoch) (k .counter + 1) (k .secret)
-columnsAfter k (asks q) = k
+-- after an accepted call on what the user holds: whether a discard adds to the counter goes by what is held
+abbrev pub columnsAfter : World → Columns → Call → Columns
+columnsAfter w k (mount any) = k
+columnsAfter w k (write o bytes) = columns (k .begun) (k .epoch) (k .counter + pick (eqb (length bytes) 0) 0 1) (k .secret)
+columnsAfter w k (begin secret) = columns true (k .epoch + 1) (k .counter + 1) secret
+columnsAfter w k (sweep n) = columns (k .begun) (k .epoch) (k .counter + 1) (k .secret)
+columnsAfter w k finish = columns false (k .epoch) (k .counter + 1) (k .secret)
+columnsAfter w k (discard n first count) = columns (k .begun) (k .epoch) (k .counter + pick (noneHeld w n first count) 0 1) (k .secret)
+columnsAfter w k (asks q) = k
 
 -- "epochs are 1; the counter is the outside value plus 1"
 abbrev pub ColumnsStart : Type 0
@@ -124,7 +139,7 @@ abbrev pub ColumnsFollow : Type 0
 ColumnsFollow =
     (start : Start) (calls : List Call) (c : Call)
     → let w = history start calls in
-    columnsOf (step w c) ≡ pick (accepts (answerTo w c)) (columnsAfter (columnsOf w) c) (columnsOf w)
+    columnsOf (step w c) ≡ pick (accepts (answerTo w c)) (columnsAfter w (columnsOf w) c) (columnsOf w)
 
 -- and the nuggets left: all of them after an accepted begin, one less after an accepted sweep (SweepMoves)
 abbrev pub BeginLeavesAll : Type 0

@@ -6,7 +6,7 @@
 -- w .vol, w .drive                 the volume as last left, the drive as last returned
 -- w .secret, w .old, w .outside    the secrets and the outside counter that the user brings to a mount
 -- w .listing, w .retired           beside them: every enciphering so far; how many flakes keycount rises have retired
--- w .contents a                    beside them: the byte last written at offset a, 0 where none was
+-- w .contents a                    beside them: the byte last written at offset a, 0 where none was or it was discarded since
 -- answerTo w c, step w c           what call c answers, and what the user holds after it
 -- n, f; o, a; v                    a nugget and a flake of it; offsets into the contents; a volume's bytes
 -- A → B, A × B, A ⊎ B, A → ⊥       if A then B; both; one of the two; never A
@@ -35,9 +35,10 @@ use Rattle.nuggets.specs.Nugget.{secretFor, lockOf, storedIn}
 use Rattle.reading.specs.Read.{readBuffer}
 use Rattle.reports.specs.Report.{reportOf}
 use Rattle.ledger.specs.Listing.{lastOf, NoneTwice}
-use Rattle.history.specs.World.{World, Call, asks, read, write}
+use Rattle.history.specs.World.{World, Call, asks, read, write, discard}
 use Rattle.ledger.specs.Totals.{spentIn}
-use Rattle.history.specs.Step.{oldFor, answerTo, step, changesBy, writesAt}
+use Rattle.changes.specs.Discard.{clearsNone, discardsAt}
+use Rattle.history.specs.Step.{oldFor, answerTo, step, changesBy, writesAt, altersAt}
 use Rattle.history.specs.History.{Start, begun, history, among}
 use Rattle.records.specs.Record.{recordOf}
 
@@ -64,19 +65,52 @@ ReadsBack =
     answerTo w (asks (read o buffer)) ≡ A.Accepted
     → readBuffer (w .drive) (w .vol) o buffer ≡ tab (length buffer) (λ i. w .contents (o + i))
 
--- What was last written: byte i of an accepted write, if no accepted write after it covers the place.
+-- What was last written: byte i of an accepted write, if no accepted write or discard after it covers the place.
 abbrev pub WrittenLast : Type 0
 WrittenLast =
     (start : Start) (calls later : List Call) (o : ℕ) (bytes : List ℕ) (i : ℕ)
     → let w = history start calls in
     i < length bytes
     → answerTo w (write o bytes) ≡ A.Accepted
-    → among (writesAt (o + i)) (step w (write o bytes)) later ≡ false
+    → among (altersAt (o + i)) (step w (write o bytes)) later ≡ false
     → history start (calls ++ (write o bytes ∷ later)) .contents (o + i) ≡ getD bytes i 0
 
 -- and 0 if no accepted write covers it
 abbrev pub NeverWritten : Type 0
 NeverWritten = (start : Start) (calls : List Call) (a : ℕ) → among (writesAt a) (begun start) calls ≡ false → history start calls .contents a ≡ 0
+
+-- Document 02, Item 4: "a discarded place counts as never written": 0 until an accepted write covers it
+abbrev pub DiscardedReadsZero : Type 0
+DiscardedReadsZero =
+    (start : Start) (calls later : List Call) (n first count a : ℕ)
+    → let w = history start calls in
+    answerTo w (discard n first count) ≡ A.Accepted
+    → discardsAt (shapeOf (w .drive)) n first count a ≡ true
+    → among (writesAt a) (step w (discard n first count)) later ≡ false
+    → history start (calls ++ (discard n first count ∷ later)) .contents a ≡ 0
+
+-- what a discard leaves of a nugget's record, flakes and tags
+pub record KeptButHeld (s : Shape) (v u : List ℕ) (n : ℕ) : Type 0 where
+  pub keycount : recordOf s u n .keycount ≡ recordOf s v n .keycount
+  pub spent : recordOf s u n .spent ≡ recordOf s v n .spent
+  pub epoch : recordOf s u n .epoch ≡ recordOf s v n .epoch
+  pub stored : (f : ℕ) → f < s .p → storedIn s u n f ≡ storedIn s v n f
+  pub tags : (f : ℕ) → f < s .p → part (tagAt s n f) 16 u ≡ part (tagAt s n f) 16 v
+
+-- "clears held bits only; the pad stays spent": every nugget keeps all else
+abbrev pub DiscardKeeps : Type 0
+DiscardKeeps =
+    (start : Start) (calls : List Call) (n first count m : ℕ)
+    → let w = history start calls in
+    m < w .drive .n → KeptButHeld (shapeOf (w .drive)) (w .vol) (step w (discard n first count) .vol) m
+
+-- "A discard that clears nothing adds nothing to the counter": drive and volume to the bit, whatever it answers
+abbrev pub DiscardIdle : Type 0
+DiscardIdle =
+    (start : Start) (calls : List Call) (n first count : ℕ)
+    → let w = history start calls in
+    clearsNone (w .drive) (w .vol) n first count ≡ true
+    → (step w (discard n first count) .drive ≡ w .drive) × (step w (discard n first count) .vol ≡ w .vol)
 
 -- 2. "List every enciphering by nugget, keycount and flake. No entry comes twice." What that means for the keystream: Pads.antt.
 abbrev pub NoEntryTwice : Type 0

@@ -4,7 +4,7 @@ use mathlib.Core.Bool.{Bool, false}
 use mathlib.Core.List.{List, [], _++_}
 use lib.Dec.{leb, ltb}
 use lib.ListN.{length}
-use Rattle.base.specs.Pick.{pick, both}
+use Rattle.base.specs.Pick.{pick, both, either}
 use Rattle.answers.specs.declared.Answer.{Answer}
 use Rattle.answers.specs.Numbers.{accepts}
 use Rattle.records.specs.Listing.{Entry}
@@ -17,8 +17,9 @@ use Rattle.reports.specs.Stored.{storedAnswer}
 use Rattle.changes.specs.Laid.{over}
 use Rattle.changes.specs.Write.{writeAnswer, writes, writeDone, writeVolume, writePads}
 use Rattle.changes.specs.Rekey.{beginAnswer, beginDone, beginVolume, sweepAnswer, sweepDone, sweepVolume, sweepPads, finishAnswer, finishDone, finishVolume}
+use Rattle.changes.specs.Discard.{discardAnswer, clears, discardDone, discardVolume, discardsAt}
 use Rattle.ledger.specs.Totals.{risen}
-use Rattle.history.specs.World.{World, Call, mount, write, begin, sweep, finish, asks, read, report, stored}
+use Rattle.history.specs.World.{World, Call, mount, write, begin, sweep, finish, discard, asks, read, report, stored}
 use Rattle.records.specs.Record.{recordOf}
 
 -- "Mount takes both secrets (the old one unused when steady)": the right one while changing, anything when steady
@@ -32,6 +33,7 @@ answerTo w (write o bytes) = writeAnswer (w .drive) (w .vol) o (length bytes)
 answerTo w (begin secret) = beginAnswer (w .drive) (w .vol) secret
 answerTo w (sweep n) = sweepAnswer (w .drive) (w .vol) n
 answerTo w finish = finishAnswer (w .drive) (w .vol)
+answerTo w (discard n first count) = discardAnswer (w .drive) (w .vol) n first count
 answerTo w (asks (read o buffer)) = readAnswer (w .drive) (w .vol) o (length buffer)
 answerTo w (asks report) = reportAnswer (w .drive) (w .vol)
 answerTo w (asks (stored n f)) = storedAnswer (w .drive) (w .vol) n f
@@ -54,6 +56,11 @@ worldAfter w drive vol pads secret old contents =
 -- the contents once a write is accepted, and the same if it is refused
 abbrev pub contentsAfter : World → ℕ → List ℕ → ℕ → ℕ
 contentsAfter w o bytes a = pick (accepts (answerTo w (write o bytes))) (over o bytes a (w .contents a)) (w .contents a)
+
+-- document 02, Item 4: "a discarded place counts as never written"
+abbrev pub contentsWithout : World → ℕ → ℕ → ℕ → ℕ → ℕ
+contentsWithout w n first count a =
+    pick (both (accepts (answerTo w (discard n first count))) (discardsAt (shapeOf (w .drive)) n first count a)) 0 (w .contents a)
 
 -- what the user holds after a mount
 unfoldable pub mounted : World → Drive → World
@@ -82,15 +89,20 @@ step w (begin secret) =
 step w (sweep n) =
     worldAfter w (sweepDone (w .drive) (w .vol) n .drive) (sweepVolume (w .drive) (w .vol) n) (sweepPads (w .drive) (w .vol) n) (w .secret) (w .old) (w .contents)
 step w finish = worldAfter w (finishDone (w .drive) (w .vol) .drive) (finishVolume (w .drive) (w .vol)) [] (w .secret) (w .old) (w .contents)
+step w (discard n first count) =
+    worldAfter w (discardDone (w .drive) (w .vol) n first count .drive) (discardVolume (w .drive) (w .vol) n first count) [] (w .secret) (w .old)
+    (contentsWithout w n first count)
 step w (asks q) = w
 
--- "Each accepted format, nonempty write, begin, sweep and finish adds 1 to the counter": the call is an accepted change
+-- "Each accepted format, nonempty write, begin, sweep and finish adds 1 to the counter", and a discard unless it "clears nothing":
+-- the call is an accepted change
 abbrev pub changesBy : World → Call → Bool
 changesBy w (mount any) = false
 changesBy w (write o bytes) = writes (answerTo w (write o bytes)) bytes
 changesBy w (begin secret) = accepts (answerTo w (begin secret))
 changesBy w (sweep n) = accepts (answerTo w (sweep n))
 changesBy w finish = accepts (answerTo w finish)
+changesBy w (discard n first count) = clears (w .drive) (w .vol) n first count
 changesBy w (asks q) = false
 
 -- the call is an accepted write over offset a
@@ -100,4 +112,19 @@ writesAt a w (write o bytes) = both (accepts (answerTo w (write o bytes))) (both
 writesAt a w (begin secret) = false
 writesAt a w (sweep n) = false
 writesAt a w finish = false
+writesAt a w (discard n first count) = false
 writesAt a w (asks q) = false
+
+-- an accepted discard of it
+abbrev pub freesAt : ℕ → World → Call → Bool
+freesAt a w (mount any) = false
+freesAt a w (write o bytes) = false
+freesAt a w (begin secret) = false
+freesAt a w (sweep n) = false
+freesAt a w finish = false
+freesAt a w (discard n first count) = both (accepts (answerTo w (discard n first count))) (discardsAt (shapeOf (w .drive)) n first count a)
+freesAt a w (asks q) = false
+
+-- or one of the two
+abbrev pub altersAt : ℕ → World → Call → Bool
+altersAt a w c = either (writesAt a w c) (freesAt a w c)

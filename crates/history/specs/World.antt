@@ -39,4 +39,6 @@ pub data Call : Type 0 where
   -- the nugget
   sweep : ℕ → Call
   finish : Call
+  -- the nugget, the first flake of the range, and how many
+  discard : ℕ → ℕ → ℕ → Call
   asks : Ask → Call

@@ -50,10 +50,11 @@ pub fn idle(way: Way) -> bool
         Way::Idle => true,
         Way::Add(_) => false,
         Way::Rekey(_) => false,
+        Way::Clear(_) => false,
     }
 }
 
-// "The journal becomes J with T."; rekeyed: "keycount plus 1", "epoch set to the head's".
+// "The journal becomes J with T."; rekeyed: "keycount plus 1", "epoch set to the head's"; discarded: held bits cleared.
 pub fn mark(d: Drive, vol: &mut [u8], n: u32, way: Way)
     requires { ⌜ Shaped (shapeOf d) (now vol) × (n < d .n) × CanRise way (recordOf (shapeOf d) (now vol) n) ⌝ }
     ensures { λ _. ⌜ now (vol .exit) ≡ marked (shapeOf d) (d .epoch) way (recordOf (shapeOf d) (now (vol .entry)) n) n (now (vol .entry)) ⌝ }

@@ -1,14 +1,15 @@
 -- What the limits say, as facts about the numbers.
 use mathlib.Core.Path.{_≡_, refl, sym, _∙_}
 use mathlib.Core.Bool.{Bool, true, false}
+use mathlib.Core.Logic.{_⊎_, inl, inr}
 use Prim.Native.Nat.{ℕ, _*_, _%_, _≤_}
 use native.Mathlib.Nat.{mul-le-mul, le-trans}
 use native.Mathlib.Omega.{arith}
 use lib.Dec.{leb, eqb, lit≤}
 use borrow.Author.Tests.{leb-true, eqb-true}
 use Rattle.base.specs.Pick.{pick}
-use Rattle.base.proofs.PickLaws.{both-left, both-right}
-use Rattle.layout.specs.Shape.{shape, sized, known, inLimits, widthOf, within, leaves}
+use Rattle.base.proofs.PickLaws.{both-left, both-right, either-told}
+use Rattle.layout.specs.Shape.{shapeAs, sized, knownVersion, known, inLimits, widthOf, within, leaves}
 use Rattle.layout.proofs.Height.{leaves-least, leaves-enough, leaves-some}
 use Rattle.layout.specs.declared.Shape.{Shape}
 use mathlib.Core.List.{List}
@@ -115,15 +116,37 @@ lent-small {s} l = small s (limits s (l .limited))
 pub placed : (s : Shape) {x y : ℕ} → inLimits s ≡ true → x ≡ within s y → x ≡ y
 placed s lim e = e ∙ inside s lim
 
--- a shape in limits is its N, P and F under the version and the cipher that there are
-known-shape : (s : Shape) → inLimits s ≡ true → shape (s .n) (s .p) (s .f) ≡ s
+-- a version that there is has two bytes
+pub version-le : (version : ℕ) → knownVersion version ≡ true → version ≤ 2
+unfolding knownVersion
+version-le version e = go (either-told (eqb version 1) (eqb version 2) e)
+  where
+    go : (eqb version 1 ≡ true) ⊎ (eqb version 2 ≡ true) → version ≤ 2
+    go (inl d) = omega (arith, eqb-true version 1 d)
+    go (inr d) = omega (arith, eqb-true version 2 d)
+
+-- a shape in limits has one
+pub version-known : (s : Shape) → inLimits s ≡ true → knownVersion (s .version) ≡ true
+unfolding inLimits known
+version-known s e = both-left (knownVersion (s .version)) (eqb (s .cipher) 0) (both-right (sized s) (known s) e)
+
+-- and is its N, P and F under its version and the cipher that there is
+pub known-shape : (s : Shape) → inLimits s ≡ true → shapeAs (s .version) (s .n) (s .p) (s .f) ≡ s
 unfolding inLimits known
 known-shape s e =
     let k = both-right (sized s) (known s) e in
-    let version : 1 ≡ s .version = sym (eqb-true (s .version) 1 (both-left (eqb (s .version) 1) (eqb (s .cipher) 0) k)) in
-    let cipher : 0 ≡ s .cipher = sym (eqb-true (s .cipher) 0 (both-right (eqb (s .version) 1) (eqb (s .cipher) 0) k)) in
-    λ i. record { n = s .n; p = s .p; f = s .f; version = version i; cipher = cipher i }
+    let cipher : 0 ≡ s .cipher = sym (eqb-true (s .cipher) 0 (both-right (knownVersion (s .version)) (eqb (s .cipher) 0) k)) in
+    λ i. record { n = s .n; p = s .p; f = s .f; version = s .version; cipher = cipher i }
 
--- so what holds of every N, P and F holds of it
-pub by-numbers : (Q : Shape → Type 0) (s : Shape) → inLimits s ≡ true → Q (shape (s .n) (s .p) (s .f)) → Q s
+-- so what holds of every version, N, P and F holds of it
+pub by-numbers : (Q : Shape → Type 0) (s : Shape) → inLimits s ≡ true → Q (shapeAs (s .version) (s .n) (s .p) (s .f)) → Q s
 by-numbers Q s e x = rw (known-shape s e) at x
+
+-- a record has 18 bytes or 26
+pub width-is : (s : Shape) → (widthOf s ≡ 18) ⊎ (widthOf s ≡ 26)
+unfolding widthOf
+width-is s = go (eqb (s .version) 1)
+  where
+    go : (b : Bool) → (_≡_ {A = ℕ} (pick b 18 26) 18) ⊎ (_≡_ {A = ℕ} (pick b 18 26) 26)
+    go true = inl refl
+    go false = inr refl

@@ -7,6 +7,9 @@ use Rattle.layout.proofs as fn
 pub in-limits : OneOutcome fn.in_limits.ended fn.in_limits.Reads.Post
 in-limits κs a x y u v p q = (agree p q, refl)
 
+pub known-version : OneOutcome fn.known_version.ended fn.known_version.Reads.Post
+known-version κs a x y u v p q = (agree p q, refl)
+
 pub width-of : OneOutcome fn.width_of.ended fn.width_of.Reads.Post
 width-of κs a x y u v p q = (agree p q, refl)
 

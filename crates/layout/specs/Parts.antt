@@ -7,7 +7,7 @@ use Rattle.layout.specs.Shape.{leaves, widthOf}
 abbrev pub recordsAt : ℕ
 recordsAt = 104
 
--- "Records 18 N", 18 the width of a record in version 1
+-- "Records 18 N"; document 02, Item 4: "Version 2 of the volume has 26-byte records"
 abbrev pub tagsAt : Shape → ℕ
 tagsAt s = recordsAt + s .n * widthOf s
 

@@ -2,12 +2,16 @@
 use Prim.Native.Nat.{ℕ, zero, suc, _%_, _^_}
 use mathlib.Core.Bool.{Bool}
 use lib.Dec.{leb, eqb}
-use Rattle.base.specs.Pick.{pick, both}
+use Rattle.base.specs.Pick.{pick, both, either}
 use Rattle.layout.specs.declared.Shape.{Shape}
 
--- N, P and F under version 1 and ChaCha20
+-- N, P and F under a version and ChaCha20
+abbrev pub shapeAs : ℕ → ℕ → ℕ → ℕ → Shape
+shapeAs version n p f = record { n = n; p = p; f = f; version = version; cipher = 0 }
+
+-- and under version 1
 abbrev pub shape : ℕ → ℕ → ℕ → Shape
-shape n p f = record { n = n; p = p; f = f; version = 1; cipher = 0 }
+shape n p f = shapeAs 1 n p f
 
 -- "Nuggets N: 1 to 16,384. Flakes per nugget P: 1 to 64. Flake size F: 64 to 4,096, a multiple of 64."
 unfoldable pub sized : Shape → Bool
@@ -20,15 +24,19 @@ sized s =
 abbrev pub isOne : Shape → Bool
 isOne s = eqb (s .version) 1
 
--- that version, and ChaCha20 as the one cipher
+-- that version, or document 02's, Item 4: "Version 2 of the volume"
+unfoldable pub knownVersion : ℕ → Bool
+knownVersion version = either (eqb version 1) (eqb version 2)
+
+-- such a version, and ChaCha20 as the one cipher
 unfoldable pub known : Shape → Bool
-known s = both (isOne s) (eqb (s .cipher) 0)
+known s = both (knownVersion (s .version)) (eqb (s .cipher) 0)
 
 -- the numbers within their limits, the version and the cipher known
 unfoldable pub inLimits : Shape → Bool
 inLimits s = both (sized s) (known s)
 
--- how many bytes a record has: in version 1 one mask stands for the flakes spent and held, in a later one a mask for each
+-- how many bytes a record has: in version 1 one mask stands for the flakes spent and held, in version 2 a mask for each
 unfoldable pub widthOf : Shape → ℕ
 widthOf s = pick (isOne s) 18 26
 

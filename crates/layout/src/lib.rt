@@ -3,7 +3,7 @@
 ghost use mathlib.Core.Path.{_≡_};
 ghost use Prim.Native.Nat.{_+_, _*_, _<_, _^_};
 ghost use Rattle.base.specs.Pick.{pick};
-ghost use Rattle.layout.specs.Shape.{sized, known, inLimits, widthOf, heightOf, leaves, within};
+ghost use Rattle.layout.specs.Shape.{sized, knownVersion, known, inLimits, widthOf, heightOf, leaves, within};
 ghost use Rattle.layout.specs.Parts.{tagsAt, treeAt, flakesAt, lengthOf, recordAt, tagAt, nodeAt, flakeAt};
 ghost use Rattle.layout.specs.Spots.{spotAt, nowhere, offsetAt, capacity};
 
@@ -48,11 +48,22 @@ fn are_sized(s: Shape) -> bool
     s.f % 64 == 0
 }
 
+// Whether the version is one that there is.
+pub fn known_version(version: u16) -> bool
+    ensures { λ r. ⌜ r ≡ knownVersion version ⌝ }
+{
+    if version == 1 { true } else { version == 2 }
+}
+
 // Whether the version and the cipher are ones that there are.
 fn are_known(s: Shape) -> bool
     ensures { λ r. ⌜ r ≡ known s ⌝ }
 {
-    if s.version == 1 { s.cipher == 0 } else { false }
+    if known_version(s.version) {
+        s.cipher == 0
+    } else {
+        false
+    }
 }
 
 // Whether the shape is one that a volume may have.

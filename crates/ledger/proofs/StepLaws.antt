@@ -16,7 +16,7 @@ use Rattle.records.specs.declared.Record.{Record}
 use Rattle.records.specs.declared.Way.{Way}
 use Rattle.records.specs.Journal.{bit, flakeCount as presentOf}
 use Rattle.records.specs.Record.{wellFormed}
-use Rattle.records.specs.Rule.{enciphered, keycountAfter, spentAfter, turned}
+use Rattle.records.specs.Rule.{clearedBy, enciphered, keycountAfter, spentAfter, turned}
 use Rattle.records.specs.Listing.{Entry, entry, padsBy, padsTo}
 use Rattle.records.proofs.BitLaws.{none-above, bit-below}
 use Rattle.records.proofs.RuleLaws.{keycount-rises, well-formed-after, formed-held, formed-epoch}
@@ -28,7 +28,7 @@ use Rattle.ledger.specs.Step.{Step}
 use Rattle.ledger.proofs.ListingLaws.{times-append, last-append}
 use Rattle.ledger.proofs.CallLaws.{times-by, last-by, last-by-none, times-past, times-call, last-call, length-call}
 use Rattle.ledger.proofs.TotalLaws.{sum-same, sum-pairs}
-use Rattle.ledger.proofs.TurnLaws.{Adds, Rekeyed, turn-told, new-epoch, old-stays, touched-lt, enciphered-lt, untouched-by, absent-after, one-once, one-now, one-tally}
+use Rattle.ledger.proofs.TurnLaws.{Adds, Rekeyed, turn-told, new-epoch, old-stays, touched-lt, enciphered-lt, untouched-by, held-uncleared, absent-untouched, absent-before, one-once, one-now, one-tally}
 
 module _ (κ : Kit) (way : ℕ → Way) (l m : Ledger) (inv : Inv κ l) (step : Step κ way l m) where
   abbrev before : ℕ → Record
@@ -165,12 +165,17 @@ module _ (κ : Kit) (way : ℕ → Way) (l m : Ledger) (inv : Inv κ l) (step : 
       go (inr e) =
           let (was, same) = entry-old n f h e d in
           let few : f < κ .p = few-after n f h d in
-          rw (same, step .leaves n f h few e, step .untouched n f h few (untouched-by (way n) (before n) f e)) (inv .laid n f h was)
+          let kept = held-uncleared (way n) (before n) f (rw (step .turns n h) at d) in
+          rw (same, step .leaves n f h few e, step .untouched n f h few (untouched-by (way n) (before n) f e) kept) (inv .laid n f h was)
 
   blank-after : (n f : ℕ) → n < κ .n → f < κ .p → bit (m .records n .held) f ≡ false → m .plain n f ≡ blankFlake κ
   blank-after n f h few d =
-      let (was, off) = absent-after (way n) (before n) f (rw (step .turns n h) at d) in
-      step .untouched n f h few off ∙ inv .blank n f h few was
+      let gone = rw (step .turns n h) at d in
+      go gone (told (bit (clearedBy (way n)) f))
+    where
+      go : bit (turned (way n) (l .epoch) (before n) .held) f ≡ false → (bit (clearedBy (way n)) f ≡ true) ⊎ (bit (clearedBy (way n)) f ≡ false) → m .plain n f ≡ blankFlake κ
+      go gone (inl e) = step .clears n f h few e
+      go gone (inr e) = step .untouched n f h few (absent-untouched (way n) (before n) f gone) e ∙ inv .blank n f h few (absent-before (way n) (before n) f gone e)
 
   pub keeps : Inv κ m
   keeps = record {

@@ -1,6 +1,6 @@
--- One nugget in a way that fits: either flakes are added under its keycount, or all are enciphered under the next.
+-- One nugget in a way that fits: either flakes are added under its keycount, perhaps none, or all are enciphered under the next.
 use mathlib.Core.Path.{_≡_, refl, sym, _∙_}
-use mathlib.Core.Bool.{Bool, true, false}
+use mathlib.Core.Bool.{Bool, true, false, not}
 use mathlib.Core.Logic.{_⊎_, inl, inr}
 use Prim.Native.Nat.{ℕ, _+_, _^_, _<_, _≤_}
 use native.Mathlib.Omega.{arith}
@@ -9,34 +9,17 @@ use lib.Pow.{pow-pos}
 use lib.Dec.{eqb}
 use borrow.Author.Tests.{eqb-true, eq-eqb, lt-ltb, le-ltb}
 use Rattle.base.specs.Pick.{pick, both, either}
-use Rattle.base.proofs.PickLaws.{told, clash, either-off, either-told, both-no}
+use Rattle.base.proofs.PickLaws.{told, clash, either-off, either-told, both-no, both-left, both-right}
 use Rattle.records.specs.declared.Record.{Record}
 use Rattle.records.specs.declared.Way.{Way}
-use Rattle.records.specs.declared.Way.the-variants.{Idle, Add, Rekey}
+use Rattle.records.specs.declared.Way.the-variants.{Idle, Add, Rekey, Clear}
 use Rattle.records.specs.Journal.{bit, union, shareNone, flakeCount}
-use Rattle.records.specs.Rule.{wayOf, sweepWay, touchedBy, enciphered, keycountAfter, spentAfter, heldAfter, epochAfter, turned}
-use Rattle.records.proofs.BitLaws.{bit-union, bit-empty, share-none-bits}
+use Rattle.records.specs.Rule.{wayOf, sweepWay, touchedBy, clearedBy, enciphered, keycountAfter, spentAfter, heldAfter, epochAfter, turned}
+use Rattle.records.proofs.BitLaws.{bit-union, bit-without, bit-empty, share-none-bits}
 use Rattle.records.proofs.CountLaws.{many-either}
 use Rattle.ledger.specs.Listing.{one}
 use Rattle.ledger.specs.Totals.{retiredOf}
 use Rattle.ledger.specs.Step.{WayFits}
-
--- a sweep's ways fit: the swept nugget's, and those of the nuggets left alone
-pub sweep-fits : (p head : ℕ) (r : Record) (swept : Bool) → WayFits p head r (pick swept sweepWay Idle)
-unfolding WayFits
-sweep-fits p head r true = pow-pos p
-sweep-fits p head r false = tt
-
--- a write's way fits
-pub write-fits : (p head : ℕ) (r : Record) (t : ℕ) → t < 2 ^ p → WayFits p head r (wayOf r t head)
-unfolding wayOf WayFits
-write-fits p head r t h = go (eqb t 0) (shareNone (r .spent) t) (eqb (r .epoch) head) refl refl
-  where
-    go : (a b c : Bool) → shareNone (r .spent) t ≡ b → eqb (r .epoch) head ≡ c → WayFits p head r (pick a Idle (pick (both b c) (Add t) (Rekey t)))
-    go true b c d e = tt
-    go false true true d e = (d, eqb-true (r .epoch) head e, h)
-    go false true false d e = h
-    go false false c d e = h
 
 pub record Adds (head : ℕ) (way : Way) (r : Record) : Type 0 where
   pub keycountKept : keycountAfter way r ≡ r .keycount
@@ -52,6 +35,11 @@ pub record Rekeyed (head : ℕ) (way : Way) (r : Record) : Type 0 where
   pub whole : spentAfter way r ≡ enciphered way r
   pub rest : heldAfter way r ≡ enciphered way r
 
+-- what is in a set or in the empty one is in the set
+or-none : (a : Bool) → a ≡ either a false
+or-none true = refl
+or-none false = refl
+
 -- what is in J with T and not in T is in J
 in-first : (j t f : ℕ) → bit (union j t) f ≡ true → bit t f ≡ false → bit j f ≡ true
 in-first j t f on off = go (either-told (bit j f) (bit t f) (sym (bit-union j t f) ∙ on))
@@ -66,8 +54,16 @@ turn-told p head r Idle h = inl (record {
   keycountKept = refl;
   epochKept = refl;
   apart = λ f. rw (bit-empty f) (both-no (bit (r .spent) f));
-  joined = λ f. bit-union (r .spent) 0 f;
-  stays = in-first (r .held) 0;
+  joined = λ f. rw (bit-empty f) (or-none (bit (r .spent) f));
+  stays = λ f on off. on;
+  moved = λ f e. absurd (clash e (bit-empty f));
+})
+turn-told p head r (Clear m) h = inl (record {
+  keycountKept = refl;
+  epochKept = refl;
+  apart = λ f. rw (bit-empty f) (both-no (bit (r .spent) f));
+  joined = λ f. rw (bit-empty f) (or-none (bit (r .spent) f));
+  stays = λ f on off. both-left (bit (r .held) f) (not (bit m f)) (sym (bit-without (r .held) m f) ∙ on);
   moved = λ f e. absurd (clash e (bit-empty f));
 })
 turn-told p head r (Add t) h = inl (record {
@@ -98,12 +94,14 @@ unfolding WayFits
 touched-lt p head r Idle h = pow-pos p
 touched-lt p head r (Add t) h = h .2
 touched-lt p head r (Rekey t) h = h
+touched-lt p head r (Clear m) h = pow-pos p
 
 pub enciphered-lt : (p head : ℕ) (r : Record) (way : Way) → WayFits p head r way → r .held < 2 ^ p → enciphered way r < 2 ^ p
 unfolding WayFits enciphered
 enciphered-lt p head r Idle h j = pow-pos p
 enciphered-lt p head r (Add t) h j = h .2
 enciphered-lt p head r (Rekey t) h j = or-lt p (r .held) t j h
+enciphered-lt p head r (Clear m) h j = pow-pos p
 
 -- a flake that isn't enciphered isn't touched
 pub untouched-by : (way : Way) (r : Record) (f : ℕ) → bit (enciphered way r) f ≡ false → bit (touchedBy way) f ≡ false
@@ -111,11 +109,40 @@ unfolding enciphered
 untouched-by Idle r f e = bit-empty f
 untouched-by (Add t) r f e = e
 untouched-by (Rekey t) r f e = either-off (bit (r .held) f) (bit t f) (sym (bit-union (r .held) t f) ∙ e) .1
+untouched-by (Clear m) r f e = bit-empty f
 
--- a flake absent afterwards was absent, and isn't touched
-pub absent-after : (way : Way) (r : Record) (f : ℕ) → bit (heldAfter way r) f ≡ false → (bit (r .held) f ≡ false) × (bit (touchedBy way) f ≡ false)
+-- a flake held afterwards isn't cleared
+pub held-uncleared : (way : Way) (r : Record) (f : ℕ) → bit (heldAfter way r) f ≡ true → bit (clearedBy way) f ≡ false
 unfolding heldAfter
-absent-after way r f e = either-off (bit (r .held) f) (bit (touchedBy way) f) (sym (bit-union (r .held) (touchedBy way) f) ∙ e)
+held-uncleared Idle r f e = bit-empty f
+held-uncleared (Add t) r f e = bit-empty f
+held-uncleared (Rekey t) r f e = bit-empty f
+held-uncleared (Clear m) r f e = off (bit m f) (both-right (bit (r .held) f) (not (bit m f)) (sym (bit-without (r .held) m f) ∙ e))
+  where
+    off : (b : Bool) → not b ≡ true → b ≡ false
+    off true h = absurd (clash h refl)
+    off false h = refl
+
+-- one absent afterwards is not touched
+pub absent-untouched : (way : Way) (r : Record) (f : ℕ) → bit (heldAfter way r) f ≡ false → bit (touchedBy way) f ≡ false
+unfolding heldAfter
+absent-untouched Idle r f e = bit-empty f
+absent-untouched (Add t) r f e = either-off (bit (r .held) f) (bit t f) (sym (bit-union (r .held) t f) ∙ e) .1
+absent-untouched (Rekey t) r f e = either-off (bit (r .held) f) (bit t f) (sym (bit-union (r .held) t f) ∙ e) .1
+absent-untouched (Clear m) r f e = bit-empty f
+
+-- and one that isn't cleared was absent
+pub absent-before : (way : Way) (r : Record) (f : ℕ) → bit (heldAfter way r) f ≡ false → bit (clearedBy way) f ≡ false → bit (r .held) f ≡ false
+unfolding heldAfter
+absent-before Idle r f e c = e
+absent-before (Add t) r f e c = either-off (bit (r .held) f) (bit t f) (sym (bit-union (r .held) t f) ∙ e) .0
+absent-before (Rekey t) r f e c = either-off (bit (r .held) f) (bit t f) (sym (bit-union (r .held) t f) ∙ e) .0
+absent-before (Clear m) r f e c = go (bit (r .held) f) (bit m f) c (sym (bit-without (r .held) m f) ∙ e)
+  where
+    go : (a b : Bool) → b ≡ false → both a (not b) ≡ false → a ≡ false
+    go true true q h = absurd (clash refl q)
+    go true false q h = h
+    go false b q h = refl
 
 apart-le : (a b : Bool) → both a b ≡ false → one a + one b ≤ 1
 apart-le true true e = absurd (clash refl e)
@@ -167,3 +194,26 @@ one-tally p head way r (inl a) =
     rw (le-ltb (r .keycount) (keycountAfter way r) (omega (arith, a .keycountKept)))
     (omega (arith, many-either p (bit (r .spent)) (bit (enciphered way r)) (bit (spentAfter way r)) (a .joined) (a .apart)))
 one-tally p head way r (inr a) = rw (lt-ltb (r .keycount) (keycountAfter way r) (omega (arith, a .keycountUp)), a .whole) (omega arith)
+
+-- a sweep's ways fit: the swept nugget's, and those of the nuggets left alone
+pub sweep-fits : (p head : ℕ) (r : Record) (swept : Bool) → WayFits p head r (pick swept sweepWay Idle)
+unfolding WayFits
+sweep-fits p head r true = pow-pos p
+sweep-fits p head r false = tt
+
+-- and a discard's
+pub clear-fits : (p head : ℕ) (r : Record) (m : ℕ) (own : Bool) → WayFits p head r (pick own (Clear m) Idle)
+unfolding WayFits
+clear-fits p head r m true = tt
+clear-fits p head r m false = tt
+
+-- a write's way fits
+pub write-fits : (p head : ℕ) (r : Record) (t : ℕ) → t < 2 ^ p → WayFits p head r (wayOf r t head)
+unfolding wayOf WayFits
+write-fits p head r t h = go (eqb t 0) (shareNone (r .spent) t) (eqb (r .epoch) head) refl refl
+  where
+    go : (a b c : Bool) → shareNone (r .spent) t ≡ b → eqb (r .epoch) head ≡ c → WayFits p head r (pick a Idle (pick (both b c) (Add t) (Rekey t)))
+    go true b c d e = tt
+    go false true true d e = (d, eqb-true (r .epoch) head e, h)
+    go false true false d e = h
+    go false false c d e = h

@@ -1,4 +1,4 @@
--- How a call changes the ledger: nuggets, each in its way (write, sweep), or the head alone (begin, finish).
+-- How a call changes the ledger: nuggets, each in its way (write, sweep, discard), or the head alone (begin, finish).
 use mathlib.Core.Path.{_≡_}
 use mathlib.Core.Bool.{true, false}
 use mathlib.Core.List.{_++_}
@@ -6,21 +6,22 @@ use Prim.Native.Nat.{ℕ, _+_, _^_, _<_, _≤_}
 use Rattle.words.specs.Xor.{xorl}
 use Rattle.records.specs.declared.Record.{Record}
 use Rattle.records.specs.declared.Way.{Way}
-use Rattle.records.specs.declared.Way.the-variants.{Idle, Add, Rekey}
+use Rattle.records.specs.declared.Way.the-variants.{Idle, Add, Rekey, Clear}
 use Rattle.records.specs.Journal.{bit, shareNone}
 use Rattle.records.specs.Record.{wellFormed}
-use Rattle.records.specs.Rule.{touchedBy, enciphered, keycountAfter, turned}
+use Rattle.records.specs.Rule.{touchedBy, clearedBy, enciphered, keycountAfter, turned}
 use Rattle.records.specs.Listing.{entry, padsTo}
 use Rattle.ledger.specs.Totals.{risen}
-use Rattle.ledger.specs.Ledger.{Kit, Ledger, gaugeIn, secretAt}
+use Rattle.ledger.specs.Ledger.{Kit, Ledger, gaugeIn, secretAt, blankFlake}
 
 -- the ways that keep every pad single: flakes are added where "J and T share none and its epoch is the head's"
 unfoldable pub WayFits : ℕ → ℕ → Record → Way → Type 0
 WayFits p head r Idle = Unit {0}
 WayFits p head r (Add t) = (shareNone (r .spent) t ≡ true) × (r .epoch ≡ head) × (t < 2 ^ p)
 WayFits p head r (Rekey t) = t < 2 ^ p
+WayFits p head r (Clear m) = Unit {0}
 
--- Nuggets change, each in its way. A touched flake may get any contents.
+-- Nuggets change, each in its way. A touched flake may get any contents; a discarded one "counts as never written".
 pub record Step (κ : Kit) (way : ℕ → Way) (l m : Ledger) : Type 0 where
   pub ways : (n : ℕ) → n < κ .n → WayFits (κ .p) (l .epoch) (l .records n) (way n)
   pub epochs : m .epoch ≡ l .epoch
@@ -34,7 +35,8 @@ pub record Step (κ : Kit) (way : ℕ → Way) (l m : Ledger) : Type 0 where
   pub enciphers : (n f : ℕ) → n < κ .n → f < κ .p → bit (enciphered (way n) (l .records n)) f ≡ true
       → m .stored n f ≡ xorl (m .plain n f) (κ .pad (entry n (keycountAfter (way n) (l .records n)) f (l .present)))
   pub leaves : (n f : ℕ) → n < κ .n → f < κ .p → bit (enciphered (way n) (l .records n)) f ≡ false → m .stored n f ≡ l .stored n f
-  pub untouched : (n f : ℕ) → n < κ .n → f < κ .p → bit (touchedBy (way n)) f ≡ false → m .plain n f ≡ l .plain n f
+  pub untouched : (n f : ℕ) → n < κ .n → f < κ .p → bit (touchedBy (way n)) f ≡ false → bit (clearedBy (way n)) f ≡ false → m .plain n f ≡ l .plain n f
+  pub clears : (n f : ℕ) → n < κ .n → f < κ .p → bit (clearedBy (way n)) f ≡ true → m .plain n f ≡ blankFlake κ
 
 -- no nugget changes
 pub record Kept (κ : Kit) (l m : Ledger) : Type 0 where

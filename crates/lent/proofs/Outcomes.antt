@@ -82,6 +82,12 @@ sweep-at-post κs a r e = claim (λ w. fn.sweep_at.clauses (w .𝓤) (w .H) (w .
 pub sweep-at : OneOutcome fn.sweep_at.ended sweep-at-post
 sweep-at κs a x y u v p q = (agree (p .0) (q .0), agree (p .1 .0) (q .1 .0) ∥ agree (p .1 .1) (q .1 .1) ∥ refl)
 
+abbrev discard-at-post : Promise fn.discard_at.ended
+discard-at-post κs a r e = claim (λ w. fn.discard_at.clauses (w .𝓤) (w .H) (w .𝓖 .A) (w .𝓜 .mem) (w .𝓡 .run) κs a .ensures tt r e) (λ w. r-last _) (λ w. refl)
+
+pub discard-at : OneOutcome fn.discard_at.ended discard-at-post
+discard-at κs a x y u v p q = (agree (p .0) (q .0), agree (p .1 .0) (q .1 .0) ∥ agree (p .1 .1) (q .1 .1) ∥ refl)
+
 abbrev finish-at-post : Promise fn.finish_at.ended
 finish-at-post κs a r e = claim (λ w. fn.finish_at.clauses (w .𝓤) (w .H) (w .𝓖 .A) (w .𝓜 .mem) (w .𝓡 .run) κs a .ensures tt r e) (λ w. r-last _) (λ w. refl)
 

@@ -1,6 +1,7 @@
 // The calls on a drive that is lent: "The open drive is one record that the calls change where it stands".
-// It touches `opening`, `reading`, `reports`, `writing`, `rekeying` and `queues`, whose by-value calls the functions here wrap, and `drive`, `layout` and `answers`.
+// It touches `opening`, `reading`, `reports`, `writing`, `rekeying`, `discarding` and `queues`, whose by-value calls the functions here wrap, and `drive`, `layout` and `answers`.
 use answers::Answer;
+use discarding::Freed;
 use drive::Drive;
 use layout::Shape;
 use queues::Outcome;
@@ -17,6 +18,7 @@ ghost use Rattle.reports.specs.Stored.{storedAnswer, storedFlake, storedAt, onw
 ghost use Rattle.changes.specs.Write.{writeDone, writeVolume};
 ghost use Rattle.changes.specs.Rekey.{beginDone, beginVolume, sweepDone, sweepVolume, finishDone, finishVolume};
 ghost use Rattle.handing.specs.Handing.{exportAnswer, exportBuffer, importDone, importVolume};
+ghost use Rattle.changes.specs.Discard.{discardDone, discardVolume};
 ghost use Rattle.queues.specs.Queue.{queueDone, queueVolume};
 
 // "Format takes N, P, F, salt, secret and the outside counter."
@@ -152,6 +154,18 @@ pub fn finish_at(d: &mut Drive, vol: &mut [u8]) -> Answer
 {
     let c = *d;
     let r = rekeying::finish(c, vol);
+    *d = r.drive;
+    r.answer
+}
+
+// "Discard takes a flake range of one nugget and clears held bits only"
+pub fn discard_at(d: &mut Drive, vol: &mut [u8], freed: Freed) -> Answer
+    ensures { λ r. ⌜ (r ≡ discardDone (now (d .entry)) (now (vol .entry)) (freed .nugget) (freed .first) (freed .count) .answer)
+        × ((now (d .exit) ≡ discardDone (now (d .entry)) (now (vol .entry)) (freed .nugget) (freed .first) (freed .count) .drive)
+        × (now (vol .exit) ≡ discardVolume (now (d .entry)) (now (vol .entry)) (freed .nugget) (freed .first) (freed .count))) ⌝ }
+{
+    let c = *d;
+    let r = discarding::discard(c, vol, freed);
     *d = r.drive;
     r.answer
 }

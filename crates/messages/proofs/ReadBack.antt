@@ -1,9 +1,11 @@
 -- A message is read back from its bytes, so no two have the same.
-use mathlib.Core.Path.{_≡_, sym, ap, ap₂, _∙_}
+use mathlib.Core.Path.{_≡_, refl, sym, ap, ap₂, _∙_}
+use mathlib.Core.Logic.{_⊎_, inl, inr}
 use mathlib.Core.List.{List, [], _∷_, _++_}
-use Prim.Native.Nat.{ℕ, _^_, _<_}
+use Prim.Native.Nat.{ℕ, _+_, _%_, _^_, _<_}
+use native.Mathlib.Omega.{arith}
 use lib.Dec.{eqb}
-use lib.ListN.{length, take, drop}
+use lib.ListN.{length, length-append, take, drop}
 use lib.Seq.{take-append-seam, drop-append-seam}
 use Rattle.base.specs.Pick.{pick}
 use Rattle.words.specs.Le.{num, le}
@@ -18,6 +20,15 @@ front k a b e = rw (← e) (take-append-seam a b)
 rest : (k : ℕ) (a b : List ℕ) → length a ≡ k → drop k (a ++ b) ≡ b
 rest k a b e = rw (← e) (drop-append-seam a b)
 
+-- the bytes of a leaf's record, by the length of what follows its letter: 4 + 18 or 4 + 26, and 16 for each tag
+recordWidth : ℕ → ℕ
+recordWidth size = pick (eqb (size % 16) 6) 18 26
+
+width-told : (bytes tags : List ℕ) → (length bytes ≡ 18) ⊎ (length bytes ≡ 26) → length tags % 16 ≡ 0 → recordWidth (4 + (length bytes + length tags)) ≡ length bytes
+unfolding recordWidth
+width-told bytes tags (inl e) h = let q : (4 + (18 + length tags)) % 16 ≡ 6 = omega arith in rw (e, q) refl
+width-told bytes tags (inr e) h = let q : (4 + (26 + length tags)) % 16 ≡ 14 = omega arith in rw (e, q) refl
+
 -- by the letter, and then by the widths
 told : ℕ → List ℕ → Message
 told letter l =
@@ -25,7 +36,7 @@ told letter l =
     (pick (eqb letter letterF) (forTag (num (take 2 l)) (num (drop 2 l)))
     (pick (eqb letter letterO) (forCheck (take 16 l) (num (drop 16 l)))
     (pick (eqb letter letterH) (forSeal (take 72 l) (drop 72 l))
-    (pick (eqb letter letterL) (forLeaf (num (take 4 l)) (take 18 (drop 4 l)) (drop 18 (drop 4 l)))
+    (pick (eqb letter letterL) (forLeaf (num (take 4 l)) (take (recordWidth (length l)) (drop 4 l)) (drop (recordWidth (length l)) (drop 4 l)))
     (forInner (take 32 l) (drop 32 l))))))
 
 readBack : List ℕ → Message
@@ -42,8 +53,10 @@ read-back (forSeal head node) w = ap₂ forSeal (front 72 head node w) (rest 72 
 read-back (forLeaf n bytes tags) w =
     let behind = rest 4 (le 4 n) (bytes ++ tags) (length-le 4 n) in
     let number = ap num (front 4 (le 4 n) (bytes ++ tags) (length-le 4 n)) ∙ num-le 4 n (w .0) in
-    let entry = ap (λ (l : List ℕ). take 18 l) behind ∙ front 18 bytes tags (w .1) in
-    let others = ap (λ (l : List ℕ). drop 18 l) behind ∙ rest 18 bytes tags (w .1) in
+    let size : length (le 4 n ++ (bytes ++ tags)) ≡ 4 + (length bytes + length tags) = simp (length-append, length-le) in
+    let wide : recordWidth (length (le 4 n ++ (bytes ++ tags))) ≡ length bytes = ap recordWidth size ∙ width-told bytes tags (w .1) (w .2) in
+    let entry = ap₂ (λ (k : ℕ) (l : List ℕ). take k l) wide behind ∙ front (length bytes) bytes tags refl in
+    let others = ap₂ (λ (k : ℕ) (l : List ℕ). drop k l) wide behind ∙ rest (length bytes) bytes tags refl in
     λ i. forLeaf (number i) (entry i) (others i)
 read-back (forInner left right) w = ap₂ forInner (front 32 left right w) (rest 32 left right w)
 

@@ -39,7 +39,7 @@ checkMessage salt epoch = letterO ∷ (salt ++ le 2 epoch)
 abbrev pub sealMessage : List ℕ → List ℕ → List ℕ
 sealMessage front node = letterH ∷ (front ++ node)
 
--- "`L`, nugget (4), the 18 record bytes, the nugget's P tags"
+-- "`L`, nugget (4), the 18 record bytes, the nugget's P tags"; in version 2 a record has 26
 abbrev pub leafMessage : ℕ → List ℕ → List ℕ → List ℕ
 leafMessage n record-bytes tags = (letterL ∷ le 4 n) ++ (record-bytes ++ tags)
 

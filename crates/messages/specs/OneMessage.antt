@@ -1,7 +1,8 @@
 -- What is hashed, as data, and the theorem that its bytes tell all of it. Proved, as `one-message`, in proofs/ReadBack.antt.
 use mathlib.Core.Path.{_≡_}
+use mathlib.Core.Logic.{_⊎_}
 use mathlib.Core.List.{List}
-use Prim.Native.Nat.{ℕ, _^_, _<_}
+use Prim.Native.Nat.{ℕ, _%_, _^_, _<_}
 use lib.ListN.{length}
 use Rattle.messages.specs.Messages.{nuggetMessage, tagMessage, checkMessage, sealMessage, leafMessage, innerMessage}
 
@@ -28,13 +29,14 @@ bytesOf (forSeal front node) = sealMessage front node
 bytesOf (forLeaf n bytes tags) = leafMessage n bytes tags
 bytesOf (forInner left right) = innerMessage left right
 
--- each part has the width that document 01 gives it
+-- each part has the width that document 01 gives it; a record may have version 2's, and tags have 16 bytes each, so that a leaf's
+-- message tells by its length which version it is of
 unfoldable pub Wide : Message → Type 0
 Wide (forNugget salt n) = (length salt ≡ 16) × (n < 2 ^ 32)
 Wide (forTag f k) = (f < 2 ^ 16) × (k < 2 ^ 64)
 Wide (forCheck salt epoch) = (length salt ≡ 16) × (epoch < 2 ^ 16)
 Wide (forSeal front node) = length front ≡ 72
-Wide (forLeaf n bytes tags) = (n < 2 ^ 32) × (length bytes ≡ 18)
+Wide (forLeaf n bytes tags) = (n < 2 ^ 32) × ((length bytes ≡ 18) ⊎ (length bytes ≡ 26)) × (length tags % 16 ≡ 0)
 Wide (forInner left right) = length left ≡ 32
 
 -- A message tells everything that goes into it, and messages of different letters differ. What is left to trust is only that

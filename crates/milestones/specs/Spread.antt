@@ -54,6 +54,7 @@ driveOver n g =
       n = n;
       p = 64;
       f = 64;
+      version = 1;
       salt = zeros 16;
       state = Changing 1;
       epoch = 2;

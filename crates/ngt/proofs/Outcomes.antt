@@ -7,6 +7,9 @@ use Rattle.ngt.proofs as fn
 pub ngt-format : OneOutcome fn.ngt_format.ended fn.ngt_format.Reads.Post
 ngt-format κs a x y u v p q = (agree (p .tells .told) (q .tells .told), agree (p .volume) (q .volume) ∥ refl ∥ refl ∥ refl ∥ refl ∥ refl ∥ refl ∥ agree (p .drive) (q .drive) ∥ agree (p .tells .shown) (q .tells .shown) ∥ refl)
 
+pub ngt-format-as : OneOutcome fn.ngt_format_as.ended fn.ngt_format_as.Reads.Post
+ngt-format-as κs a x y u v p q = (agree (p .tells .told) (q .tells .told), agree (p .volume) (q .volume) ∥ refl ∥ refl ∥ refl ∥ refl ∥ refl ∥ refl ∥ refl ∥ refl ∥ agree (p .drive) (q .drive) ∥ agree (p .tells .shown) (q .tells .shown) ∥ refl)
+
 pub ngt-mount : OneOutcome fn.ngt_mount.ended fn.ngt_mount.Reads.Post
 ngt-mount κs a x y u v p q = (agree (p .tells .told) (q .tells .told), refl ∥ refl ∥ refl ∥ refl ∥ agree (p .drive) (q .drive) ∥ agree (p .tells .shown) (q .tells .shown) ∥ refl)
 
@@ -36,6 +39,9 @@ ngt-export κs a x y u v p q = (agree (p .tells .told) (q .tells .told), refl �
 
 pub ngt-import : OneOutcome fn.ngt_import.ended fn.ngt_import.Reads.Post
 ngt-import κs a x y u v p q = (agree (p .tells .told) (q .tells .told), agree (p .drive) (q .drive) ∥ agree (p .volume) (q .volume) ∥ refl ∥ refl ∥ refl ∥ agree (p .tells .shown) (q .tells .shown) ∥ refl)
+
+pub ngt-discard : OneOutcome fn.ngt_discard.ended fn.ngt_discard.Reads.Post
+ngt-discard κs a x y u v p q = (agree (p .tells .told) (q .tells .told), agree (p .drive) (q .drive) ∥ agree (p .volume) (q .volume) ∥ refl ∥ refl ∥ refl ∥ agree (p .tells .shown) (q .tells .shown) ∥ refl)
 
 pub ngt-queue : OneOutcome fn.ngt_queue.ended fn.ngt_queue.Reads.Post
 ngt-queue κs a x y u v p q = (agree (p .tells .told) (q .tells .told), agree (p .drive) (q .drive) ∥ agree (p .volume) (q .volume) ∥ refl ∥ refl ∥ agree (p .counts) (q .counts) ∥ agree (p .tells .shown) (q .tells .shown) ∥ refl)

@@ -26,6 +26,7 @@ use Rattle.reports.specs.Stored.{storedAnswer}
 use Rattle.changes.specs.Rekey.{beginDone, beginVolume, sweepDone, sweepVolume, finishDone, finishVolume}
 use Rattle.changes.specs.Write.{writes, writeDone, writeVolume}
 use Rattle.handing.specs.Handing.{exportAnswer, exportBuffer, importDone, importVolume}
+use Rattle.changes.specs.Discard.{discardDone, discardVolume}
 use Rattle.queues.specs.declared.Queued.{Queued}
 use Rattle.queues.specs.Images.{imagesDone, imagesVolume}
 
@@ -33,6 +34,10 @@ use Rattle.queues.specs.Images.{imagesDone, imagesVolume}
 pub record Tells (a : Answer) (number : ℕ) (answer : List ℕ) : Type 0 where
   pub told : number ≡ numberOf a
   pub shown : answer ≡ answerImage a
+
+-- N, P and F under a version and a cipher
+abbrev pub shapeUnder : ℕ → ℕ → ℕ → ℕ → ℕ → Shape
+shapeUnder n p f version cipher = record { n = n; p = p; f = f; version = version; cipher = cipher }
 
 pub record Formatted (s : Shape) (salt secret : List ℕ) (outside : ℕ) (v : List ℕ) (number : ℕ) (vol image answer : List ℕ) : Type 0 where
   pub tells : Tells (formatDone s salt secret outside v .answer) number answer
@@ -101,6 +106,11 @@ Imported d v key tweak bytes = Rekeyed (importDone d v key tweak bytes) (importV
 -- "no byte of it if none of them changed the drive": each write that changes the drive adds 1 to the counter, so the counter tells
 abbrev pub counterRose : Drive → Drive → Bool
 counterRose d next = not (eqb (d .counter) (next .counter))
+
+-- a discard that clears nothing doesn't either, and the counter tells it too
+abbrev pub Discarded : Drive → List ℕ → ℕ → ℕ → ℕ → List ℕ → ℕ → List ℕ → List ℕ → List ℕ → Type 0
+Discarded d v n first count =
+    Changed (discardDone d v n first count) (counterRose d (discardDone d v n first count .drive)) (discardVolume d v n first count)
 
 -- what a queue leaves, where `queued` is what it handed back and `after` the volume; "a queue's `done` says how many were done"
 pub record Queues (d : Drive) (queued : Queued) (after given : List ℕ) (number : ℕ) (vol image done answer : List ℕ) : Type 0 where

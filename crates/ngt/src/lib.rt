@@ -4,6 +4,7 @@ mod lines;
 mod summary;
 
 use answers::Answer;
+use discarding::Freed;
 use drive::Drive;
 use layout::Shape;
 ghost use mathlib.Core.Path.{_≡_};
@@ -15,7 +16,7 @@ ghost use Rattle.line.specs.Lines.{Put};
 ghost use Rattle.fleets.specs.Lines.{fleetLine};
 ghost use Rattle.changes.specs.Write.{writes};
 ghost use Rattle.ngt.specs.Twins.{Compared};
-ghost use Rattle.ngt.specs.Calls.{Formatted, Mounted, Filled, Exported, Reported, Shown, spanImage, imageAfter, Begun, Swept, Finished, Written, Imported, counterRose, QueuedBy};
+ghost use Rattle.ngt.specs.Calls.{shapeUnder, Formatted, Mounted, Filled, Exported, Reported, Shown, spanImage, imageAfter, Begun, Swept, Finished, Written, Imported, counterRose, Discarded, QueuedBy};
 
 // Format, with the image of the drive that it hands back.
 #[no_mangle]
@@ -38,6 +39,38 @@ pub extern "C" fn ngt_format(
         f,
         version: 1,
         cipher: 0,
+    };
+    let done = opening::format(vol, s, *salt, *secret, outside);
+    let d = done.drive;
+    let a = done.answer;
+    *image = packed::pack(d);
+    *answer = images::answer_image(a);
+    answers::number(a)
+}
+
+// Format under a version and a cipher. "cipher is 0 until Item 8, else answered 1"
+#[no_mangle]
+pub extern "C" fn ngt_format_as(
+    vol: &mut [u8],
+    n: u32,
+    p: u32,
+    f: u32,
+    version: u16,
+    cipher: u8,
+    salt: &[u8; 16],
+    secret: &[u8; 32],
+    outside: u64,
+    image: &mut [u8; 144],
+    answer: &mut [u8; 16],
+) -> u32
+    ensures { λ r. ⌜ Formatted (shapeUnder n p f version cipher) (now (salt .entry)) (now (secret .entry)) outside (now (vol .entry)) r (now (vol .exit)) (now (image .exit)) (now (answer .exit)) ⌝ }
+{
+    let s = Shape {
+        n,
+        p,
+        f,
+        version,
+        cipher,
     };
     let done = opening::format(vol, s, *salt, *secret, outside);
     let d = done.drive;
@@ -294,11 +327,38 @@ pub extern "C" fn ngt_import(
     answers::number(a)
 }
 
-// Whether drives differ: each write that changes one adds to its counter.
+// Whether drives differ: each call that changes one adds to its counter.
 fn counter_rose(d: Drive, next: Drive) -> bool
     ensures { λ r. ⌜ r ≡ counterRose d next ⌝ }
 {
     d.counter != next.counter
+}
+
+// Discard, of a flake range of one nugget.
+#[no_mangle]
+pub extern "C" fn ngt_discard(
+    image: &mut [u8; 144],
+    vol: &mut [u8],
+    nugget: u32,
+    first: u32,
+    count: u32,
+    answer: &mut [u8; 16],
+) -> u32
+    ensures { λ r. ⌜ Discarded (driveIn (now (image .entry))) (now (vol .entry)) nugget first count
+        (now (image .entry)) r (now (vol .exit)) (now (image .exit)) (now (answer .exit)) ⌝ }
+{
+    let d = opened(*image);
+    let freed = Freed {
+        nugget,
+        first,
+        count,
+    };
+    let done = discarding::discard(d, vol, freed);
+    let a = done.answer;
+    let next = done.drive;
+    keep(image, counter_rose(d, next), next);
+    *answer = images::answer_image(a);
+    answers::number(a)
 }
 
 fn eight(x: u64) -> [u8; 8]

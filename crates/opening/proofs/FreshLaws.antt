@@ -11,16 +11,16 @@ use lib.Seq.{sets, length-sets}
 use lib.Pow.{pow-pos}
 use borrow.Author.Tests.{eqb-true, eqb-false, lt-ltb}
 use Rattle.base.specs.Lists.{part, same}
-use Rattle.base.proofs.PickLaws.{told, both-on, both-left}
+use Rattle.base.proofs.PickLaws.{told, both-on}
 use Rattle.base.proofs.PartLaws.{part-sets, part-sets-above, part-sets-below}
 use Rattle.base.proofs.FoldLaws.{same-refl}
 use Rattle.answers.specs.declared.Answer.the-variants as A
 use Rattle.answers.specs.Numbers.{accepts}
 use Rattle.layout.specs.declared.Shape.{Shape}
-use Rattle.layout.specs.Shape.{shape, sized, known, inLimits, leaves, widthOf}
+use Rattle.layout.specs.Shape.{shapeAs, inLimits, leaves, widthOf}
 use Rattle.layout.specs.Parts.{recordAt, tagAt, nodeAt, lengthOf}
 use Rattle.drive.proofs.OpeningLaws.{opening-by}
-use Rattle.layout.proofs.Limits.{by-numbers}
+use Rattle.layout.proofs.Limits.{known-shape, by-numbers}
 use Rattle.layout.proofs.Places.{record-inside, records-above, parts-inside}
 use Rattle.records.specs.Record.{against, recordBytes, recordIn, Codes}
 use Rattle.records.proofs.BitLaws.{lies-self}
@@ -115,9 +115,9 @@ module _ (s : Shape) (limited : inLimits s ≡ true) where
     pub headed-whole : (counter : ℕ) → wholeOf s (against 1 false counter) (sets (planted s) 0 head) ≡ A.Accepted
     headed-whole counter = good-whole s (against 1 false counter) (sets (planted s) 0 head) headed-lent headed-good (headed-formed counter)
 
-module _ (n p f : ℕ) (salt secret : List ℕ) (outside : ℕ) (salted : length salt ≡ 16) (limited : inLimits (shape n p f) ≡ true) where
+module _ (version n p f : ℕ) (salt secret : List ℕ) (outside : ℕ) (salted : length salt ≡ 16) (limited : inLimits (shapeAs version n p f) ≡ true) where
   abbrev s : Shape
-  s = shape n p f
+  s = shapeAs version n p f
 
   head-long : length (headOf (freshDrive s salt secret outside)) ≡ 104
   unfolding freshDrive
@@ -138,24 +138,22 @@ module _ (n p f : ℕ) (salt secret : List ℕ) (outside : ℕ) (salted : length
   unfolding freshDrive freshVolume
   numbers-whole = headed-whole s limited (headOf (freshDrive s salt secret outside)) head-long (outside + 1)
 
--- a shape in limits is its N, P and F under version 1 and ChaCha20, and only such a one has been formatted
-numbers-limited : (s : Shape) → inLimits s ≡ true → inLimits (shape (s .n) (s .p) (s .f)) ≡ true
-unfolding inLimits sized known
-numbers-limited s e = both-on (both-left (sized s) (known s) e) refl
-
-pub fresh-by : (Q : Shape → Type 0) (s : Shape) → inLimits s ≡ true → ((n p f : ℕ) → inLimits (shape n p f) ≡ true → Q (shape n p f)) → Q s
-fresh-by Q s e x = by-numbers Q s e (x (s .n) (s .p) (s .f) (numbers-limited s e))
+-- a shape in limits is its version, N, P and F under ChaCha20, and only such a one has been formatted
+pub fresh-by : (Q : Shape → Type 0) (s : Shape) → inLimits s ≡ true
+    → ((version n p f : ℕ) → inLimits (shapeAs version n p f) ≡ true → Q (shapeAs version n p f)) → Q s
+fresh-by Q s e x =
+    by-numbers Q s e (x (s .version) (s .n) (s .p) (s .f) (rw (known-shape s e) e))
 
 module _ (s : Shape) (salt secret : List ℕ) (outside : ℕ) (salted : length salt ≡ 16) (limited : inLimits s ≡ true) where
   pub fresh-opens : openingOf (freshDrive s salt secret outside) (freshVolume s salt secret outside) ≡ A.Accepted
   fresh-opens =
       fresh-by (λ (z : Shape). openingOf (freshDrive z salt secret outside) (freshVolume z salt secret outside) ≡ A.Accepted) s limited
-      (λ n p f l. numbers-open n p f salt secret outside salted l)
+      (λ version n p f l. numbers-open version n p f salt secret outside salted l)
 
   pub fresh-whole : wholeIn (freshDrive s salt secret outside) (freshVolume s salt secret outside) ≡ A.Accepted
   fresh-whole =
       fresh-by (λ (z : Shape). wholeIn (freshDrive z salt secret outside) (freshVolume z salt secret outside) ≡ A.Accepted) s limited
-      (λ n p f l. numbers-whole n p f salt secret outside salted l)
+      (λ version n p f l. numbers-whole version n p f salt secret outside salted l)
 
   fresh-handed : (old : List ℕ) → outside < counterTop → Handed (freshDrive s salt secret outside) old
   unfolding freshDrive

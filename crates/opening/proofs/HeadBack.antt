@@ -23,9 +23,9 @@ use Rattle.layout.specs.Shape.{inLimits}
 use Rattle.layout.specs.Parts.{lengthOf}
 use Rattle.keys.specs.Keys.{sealOf}
 use Rattle.drive.specs.declared.Drive.{Drive}
-use Rattle.drive.specs.Head.{mark, version, stateByte, checkIn, frontRow, frontValues, frontIn, headOf}
+use Rattle.drive.specs.Head.{mark, stateByte, checkIn, frontRow, frontValues, frontIn, headOf}
 use Rattle.drive.specs.Opening.{inForm, headStands, openingOf}
-use Rattle.opening.specs.Mount.{shapeIn, stateByteIn, stateIn, epochIn, saltIn, counterIn, markFits, headFits, lengthFits, sealed, checked, wholeIn, openedDrive, formOf, keysOf, restOf, mountAnswer}
+use Rattle.opening.specs.Mount.{shapeIn, versionIn, stateByteIn, stateIn, epochIn, saltIn, counterIn, markFits, headFits, lengthFits, sealed, checked, wholeIn, openedDrive, formOf, keysOf, restOf, mountAnswer}
 use Rattle.answers.proofs.StageLaws.{both-stages, passed, accepted-is}
 
 -- what the tests of an accepted mount tell
@@ -84,10 +84,9 @@ module _ (v present old : List ℕ) (outside : ℕ) (bytes : Bytes v) (e : mount
   unfolding markFits checked openedDrive
   front-values =
       let mark-is : part 0 3 v ≡ mark = same-true (part 0 3 v) mark (both-left (same (part 0 3 v) mark) _ (o .has-mark)) in
-      let version-is : num (part 3 2 v) ≡ version = eqb-true (num (part 3 2 v)) version (both-right (same (part 0 3 v) mark) _ (o .has-mark)) in
       let state-is : stateByteIn v ≡ stateByte (stateIn v) = sym (state-back v low) in
       let check-is : part 40 32 v ≡ checkIn (openedDrive v present old) = same-true (part 40 32 v) (checkIn (openedDrive v present old)) (o .check) in
-      λ i. mark-is i & version-is i & state-is i & epochIn v & num (part 8 4 v) & num (part 12 2 v) & num (part 14 2 v) & saltIn v & counterIn v & check-is i & tt
+      λ i. mark-is i & versionIn v & state-is i & epochIn v & num (part 8 4 v) & num (part 12 2 v) & num (part 14 2 v) & saltIn v & counterIn v & check-is i & tt
 
   front-back : frontIn (openedDrive v present old) ≡ part 0 72 v
   unfolding frontIn

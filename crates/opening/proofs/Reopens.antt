@@ -19,9 +19,9 @@ use Rattle.answers.specs.declared.Answer.the-variants as A
 use Rattle.answers.specs.Numbers.{accepts}
 use Rattle.answers.proofs.StageLaws.{goes-on}
 use Rattle.layout.specs.declared.Shape.{Shape}
-use Rattle.layout.specs.Shape.{shape, inLimits}
+use Rattle.layout.specs.Shape.{shapeAs, knownVersion, inLimits}
 use Rattle.layout.specs.Parts.{lengthOf, nodeAt}
-use Rattle.layout.proofs.Limits.{limits}
+use Rattle.layout.proofs.Limits.{limits, version-le, version-known}
 use Rattle.layout.proofs.Places.{parts-inside}
 use Rattle.keys.specs.Keys.{sealOf}
 use Rattle.keys.proofs.KeyLaws.{length-check as length-of-check, length-seal}
@@ -29,9 +29,9 @@ use Rattle.drive.specs.declared.Drive.{Drive}
 use Rattle.drive.specs.declared.State.{State}
 use Rattle.drive.specs.declared.State.the-variants.{Steady, Changing}
 use Rattle.drive.specs.Drive.{shapeOf, keptOld}
-use Rattle.drive.specs.Head.{mark, version, stateByte, checkFor, checkIn, frontRow, frontValues, frontIn, headOf}
+use Rattle.drive.specs.Head.{mark, stateByte, checkFor, checkIn, frontRow, frontValues, frontIn, headOf}
 use Rattle.drive.specs.Opening.{stateFits, inForm, headStands, openingOf}
-use Rattle.opening.specs.Mount.{shapeIn, stateByteIn, stateIn, epochIn, markFits, headFits, lengthFits, sealed, checked, wholeIn, openedDrive, formOf, keysOf, restOf, mountAnswer, mountDone}
+use Rattle.opening.specs.Mount.{shapeIn, versionIn, stateByteIn, stateIn, epochIn, markFits, headFits, lengthFits, sealed, checked, wholeIn, openedDrive, formOf, keysOf, restOf, mountAnswer, mountDone}
 use Rattle.opening.proofs.MountLaws.{mount-on}
 use Rattle.drive.proofs.OpeningLaws.{Admitted, opening-told}
 
@@ -101,7 +101,7 @@ module _ (d : Drive) (w old : List ℕ) (x : Handed d old) (opens : openingOf d 
   front-fits =
       let l = limits (shapeOf d) in-limits in
       refl
-      & omega arith
+      & omega (arith, version-le (d .version) (version-known (shapeOf d) in-limits))
       & omega (arith, state-low (d .state))
       & x .epoch-lt
       & omega (arith, l .few)
@@ -120,7 +120,7 @@ module _ (d : Drive) (w old : List ℕ) (x : Handed d old) (opens : openingOf d 
   mark-back : part 0 3 w ≡ mark
   mark-back i = has i .0
 
-  version-back : num (part 3 2 w) ≡ version
+  version-back : versionIn w ≡ d .version
   version-back i = has i .1 .0
 
   byte-back : stateByteIn w ≡ stateByte (d .state)
@@ -130,7 +130,7 @@ module _ (d : Drive) (w old : List ℕ) (x : Handed d old) (opens : openingOf d 
   epoch-back i = has i .1 .1 .1 .0
 
   shape-back : shapeIn w ≡ shapeOf d
-  shape-back i = let z = has i .1 .1 .1 .1 in shape (z .0) (z .1 .0) (z .1 .1 .0)
+  shape-back i = let z = has i .1 .1 .1 .1 in shapeAs (has i .1 .0) (z .0) (z .1 .0) (z .1 .1 .0)
 
   check-back : part 40 32 w ≡ checkIn d
   check-back i = has i .1 .1 .1 .1 .1 .1 .1 .1 .1 .0
@@ -150,6 +150,7 @@ module _ (d : Drive) (w old : List ℕ) (x : Handed d old) (opens : openingOf d 
         n = z .0;
         p = z .1 .0;
         f = z .1 .1 .0;
+        version = version-back i;
         salt = z .1 .1 .1 .0;
         state = state-back i;
         epoch = epoch-back i;
@@ -168,7 +169,7 @@ module _ (d : Drive) (w old : List ℕ) (x : Handed d old) (opens : openingOf d 
 
   marked-back : markFits w ≡ true
   unfolding markFits
-  marked-back = both-on (same-of mark-back) (eq-eqb (num (part 3 2 w)) version version-back)
+  marked-back = both-on (same-of mark-back) (ap (λ (x : ℕ). knownVersion x) version-back ∙ version-known (shapeOf d) in-limits)
 
   length-back : lengthFits w ≡ true
   unfolding lengthFits

@@ -13,7 +13,7 @@ use Rattle.answers.specs.declared.Answer.the-variants as A
 use Rattle.answers.specs.Numbers.{accepts}
 use Rattle.answers.specs.Stages.{andThen}
 use Rattle.layout.specs.declared.Shape.{Shape}
-use Rattle.layout.specs.Shape.{shape, inLimits}
+use Rattle.layout.specs.Shape.{shapeAs, knownVersion, inLimits}
 use Rattle.layout.specs.Parts.{lengthOf}
 use Rattle.keys.specs.Keys.{sealOf}
 use Rattle.nodes.specs.Nodes.{nodeIn}
@@ -23,7 +23,7 @@ use Rattle.drive.specs.declared.Done.{Done}
 use Rattle.drive.specs.declared.State.{State}
 use Rattle.drive.specs.declared.State.the-variants.{Steady, Changing}
 use Rattle.drive.specs.Drive.{shapeOf, gaugeOf, blankDrive, keptOld}
-use Rattle.drive.specs.Head.{mark, version, checkIn}
+use Rattle.drive.specs.Head.{mark, checkIn}
 use Rattle.drive.specs.Opening.{stateFits}
 
 -- the head's fields: "0-2 `NGT`; 3-4 version 1; 5 state (0 steady, 1 changing); 6-7 epoch; 8-11 N; 12-13 P; 14-15 F; 16-31
@@ -41,7 +41,7 @@ abbrev pub epochIn : List ℕ → ℕ
 epochIn v = num (part 6 2 v)
 
 abbrev pub shapeIn : List ℕ → Shape
-shapeIn v = shape (num (part 8 4 v)) (num (part 12 2 v)) (num (part 14 2 v))
+shapeIn v = shapeAs (versionIn v) (num (part 8 4 v)) (num (part 12 2 v)) (num (part 14 2 v))
 
 abbrev pub saltIn : List ℕ → List ℕ
 saltIn v = part 16 16 v
@@ -66,6 +66,7 @@ openedDrive v present old =
       n = num (part 8 4 v);
       p = num (part 12 2 v);
       f = num (part 14 2 v);
+      version = versionIn v;
       salt = saltIn v;
       state = stateIn v;
       epoch = epochIn v;
@@ -75,9 +76,9 @@ openedDrive v present old =
       old = keptOld (stateIn v) old;
     }
 
--- 3: "mark or version differs"
+-- 3: "mark or version differs"; the version is one that there is
 unfoldable pub markFits : List ℕ → Bool
-markFits v = both (same (markIn v) mark) (eqb (versionIn v) version)
+markFits v = both (same (markIn v) mark) (knownVersion (versionIn v))
 
 -- 1: "N, P, F, state or epoch out of limits"
 unfoldable pub headFits : List ℕ → Bool

@@ -14,7 +14,8 @@ fn has_mark(vol: &[u8]) -> bool
 {
     let mark = [78u8, 71u8, 84u8];
     if words::equal(&vol[0..3], &mark) {
-        words::load(vol, 3, 2) == 1
+        let version = words::load(vol, 3, 2) as u16;
+        layout::known_version(version)
     } else {
         false
     }
@@ -28,7 +29,7 @@ pub fn shape_in(vol: &[u8]) -> Shape
         n: words::load32(vol, 8),
         p: words::load(vol, 12, 2) as u32,
         f: words::load(vol, 14, 2) as u32,
-        version: 1,
+        version: words::load(vol, 3, 2) as u16,
         cipher: 0,
     }
 }

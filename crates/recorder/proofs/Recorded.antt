@@ -15,7 +15,7 @@ use Rattle.base.proofs.TabLaws.{tab-ext}
 use Rattle.answers.specs.declared.Answer.the-variants as A
 use Rattle.answers.specs.Numbers.{accepts}
 use Rattle.layout.specs.declared.Shape.{Shape}
-use Rattle.layout.specs.Shape.{shape, inLimits, sized, known, widthOf, heightOf, heightFrom}
+use Rattle.layout.specs.Shape.{shape, inLimits, sized, knownVersion, known, widthOf, heightOf, heightFrom}
 use Rattle.layout.proofs.Limits.{limits}
 use Rattle.records.specs.Record.{recordOf}
 use Rattle.drive.specs.Drive.{shapeOf}
@@ -141,7 +141,7 @@ module _ (s : Setup) (salt first second v text buffer : List ℕ) (able : Able s
   ok₁ = write-accepted w₁ x₁ (let c = ap (λ (z : Columns). z .counter) tells₁ in omega (arith, c, able .room)) (s .offset) text (inside w₁ shape₁)
 
   tells₂ : columnsOf w₂ ≡ columns false 1 (s .outside + 1 + pick (eqb (length text) 0) 0 1) first
-  tells₂ = follows w₁ x₁ (write (s .offset) text) ∙ yes _ (ap accepts ok₁) (ap (λ (z : Columns). columnsAfter z (write (s .offset) text)) tells₁)
+  tells₂ = follows w₁ x₁ (write (s .offset) text) ∙ yes _ (ap accepts ok₁) (ap (λ (z : Columns). columnsAfter w₁ z (write (s .offset) text)) tells₁)
 
   ok₂ : answerTo w₂ (begin second) ≡ A.Accepted
   ok₂ =
@@ -149,7 +149,7 @@ module _ (s : Setup) (salt first second v text buffer : List ℕ) (able : Able s
       (ap (same second) (ap (λ (z : Columns). z .secret) tells₂) ∙ unlike second first (able .another)) (let e = ap (λ (z : Columns). z .epoch) tells₂ in omega (arith, e))
 
   tells₃ : columnsOf w₃ ≡ columns true 2 (s .outside + 1 + pick (eqb (length text) 0) 0 1 + 1) second
-  tells₃ = follows w₂ x₂ (begin second) ∙ yes _ (ap accepts ok₂) (ap (λ (z : Columns). columnsAfter z (begin second)) tells₂)
+  tells₃ = follows w₂ x₂ (begin second) ∙ yes _ (ap accepts ok₂) (ap (λ (z : Columns). columnsAfter w₂ z (begin second)) tells₂)
 
   all-left : nuggetsLeft w₃ ≡ s .shape .n
   unfolding run
@@ -261,7 +261,7 @@ pub session-records : SessionRecords
 session-records s salt first second v text buffer able = records s salt first second v text buffer able
 
 sample-accepted : formatAnswer (shape 3 2 64) 0 (replicate 862 0) ≡ A.Accepted
-unfolding formatAnswer inLimits sized known widthOf heightOf heightFrom
+unfolding formatAnswer inLimits sized known knownVersion widthOf heightOf heightFrom
 sample-accepted = refl
 
 pub main-records : MainRecords

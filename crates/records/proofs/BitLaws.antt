@@ -1,18 +1,18 @@
--- Laws of membership: of a union, of sets that share none, of a set that lies in another, of a set bounded by P, and of equal sets.
+-- Laws of membership: of a union, of a set without another, of sets that share none, of a set that lies in another, of a set bounded by P, and of equal sets.
 use mathlib.Core.Path.{_≡_, refl, sym, ap, _∙_}
-use mathlib.Core.Bool.{Bool, true, false}
+use mathlib.Core.Bool.{Bool, true, false, not}
 use Prim.Native.Nat.{ℕ, zero, suc, _/_, _%_, _^_, _<_, _≤_}
 use native.Mathlib.Nat.{pow-succ', div-div-eq-div-mul, div-eq-of-lt, div-one, zero-div, lt-of-lt-of-le}
 use native.Mathlib.Omega.{arith}
 use lib.Arith.{bin-ind}
 use lib.Pow.{pow-mono}
-use lib.Bits.{bitAnd, bitOr, or-shr, or-mod, and-shr, and-mod, and-self, and-le-r}
+use lib.Bits.{bitAnd, bitOr, bitXor, or-shr, or-mod, and-shr, and-mod, xor-shr, xor-mod, xor-lt, and-self, and-zero-r, xor-zero-r, and-le-l, and-le-r}
 use lib.Dec.{eqb, leb}
 use mathlib.Core.Logic.{_⊎_, inl, inr}
 use borrow.Author.Tests.{eqb-true, eq-eqb, leb-true, leb-false}
 use Rattle.base.specs.Pick.{both, either}
 use Rattle.base.proofs.PickLaws.{told, clash, both-right}
-use Rattle.records.specs.Journal.{bit, union, shareNone, liesIn}
+use Rattle.records.specs.Journal.{bit, union, without, shareNone, liesIn}
 
 or-digit : (x y : ℕ) → x < 2 → y < 2 → eqb (bitOr x y) 1 ≡ either (eqb x 1) (eqb y 1)
 or-digit zero y a b = refl
@@ -27,6 +27,13 @@ and-digit (suc zero) zero a b = refl
 and-digit (suc zero) (suc zero) a b = refl
 and-digit (suc zero) (suc (suc y)) a b = absurd (omega arith)
 and-digit (suc (suc x)) y a b = absurd (omega arith)
+
+without-digit : (x y : ℕ) → x < 2 → y < 2 → eqb (bitXor x (bitAnd x y)) 1 ≡ both (eqb x 1) (not (eqb y 1))
+without-digit zero y a b = refl
+without-digit (suc zero) zero a b = refl
+without-digit (suc zero) (suc zero) a b = refl
+without-digit (suc zero) (suc (suc y)) a b = absurd (omega arith)
+without-digit (suc (suc x)) y a b = absurd (omega arith)
 
 same-digit : (x y : ℕ) → x < 2 → y < 2 → eqb x 1 ≡ eqb y 1 → x ≡ y
 same-digit zero zero a b e = refl
@@ -49,6 +56,21 @@ unfolding bit
 bit-and j t f =
     rw (and-shr j t f, and-mod (j / 2 ^ f) (t / 2 ^ f) 1)
     (and-digit (j / 2 ^ f % 2) (t / 2 ^ f % 2) (omega arith) (omega arith))
+
+-- a flake is in J without M if it is in J and not in M
+pub bit-without : (j m f : ℕ) → bit (without j m) f ≡ both (bit j f) (not (bit m f))
+unfolding bit without
+bit-without j m f =
+    rw (xor-shr j (bitAnd j m) f, xor-mod (j / 2 ^ f) (bitAnd j m / 2 ^ f) 1, and-shr j m f, and-mod (j / 2 ^ f) (m / 2 ^ f) 1)
+    (without-digit (j / 2 ^ f % 2) (m / 2 ^ f % 2) (omega arith) (omega arith))
+
+pub without-none : (j : ℕ) → without j 0 ≡ j
+unfolding without
+without-none j = rw (and-zero-r j) (xor-zero-r j)
+
+pub without-lt : (p j m : ℕ) → j < 2 ^ p → without j m < 2 ^ p
+unfolding without
+without-lt p j m h = xor-lt p j (bitAnd j m) h (omega (arith, and-le-l j m, h))
 
 pub bit-empty : (f : ℕ) → bit 0 f ≡ false
 unfolding bit
@@ -125,3 +147,17 @@ lies-union j k t e = eq-eqb (bitAnd (union j t) (union k t)) (union j t) (same-b
 
     same : (f : ℕ) → bit (bitAnd (union j t) (union k t)) f ≡ bit (union j t) f
     same f = bit-and (union j t) (union k t) f ∙ rw (bit-union j t f, bit-union k t f) (go (bit j f) (bit k f) (bit t f) (lies-bits j k e f))
+
+-- and without some of its flakes too
+pub lies-without : (j k m : ℕ) → liesIn j k ≡ true → liesIn (without j m) k ≡ true
+unfolding liesIn
+lies-without j k m e = eq-eqb (bitAnd (without j m) k) (without j m) (same-bits (bitAnd (without j m) k) (without j m) same)
+  where
+    go : (a b d : Bool) → (a ≡ true → b ≡ true) → both (both a (not d)) b ≡ both a (not d)
+    go true true true h = refl
+    go true true false h = refl
+    go true false d h = absurd (clash (h refl) refl)
+    go false b d h = refl
+
+    same : (f : ℕ) → bit (bitAnd (without j m) k) f ≡ bit (without j m) f
+    same f = bit-and (without j m) k f ∙ rw (bit-without j m f) (go (bit j f) (bit k f) (bit m f) (lies-bits j k e f))

@@ -7,7 +7,7 @@ use lib.ListN.{length, length-append}
 use Rattle.base.specs.Pick.{pick}
 use Rattle.records.specs.declared.Record.{Record}
 use Rattle.records.specs.declared.Way.{Way}
-use Rattle.records.specs.declared.Way.the-variants.{Idle}
+use Rattle.records.specs.declared.Way.the-variants.{Idle, Clear}
 use Rattle.records.specs.Journal.{bit, many, flakeCount}
 use Rattle.records.specs.Rule.{enciphered, keycountAfter}
 use Rattle.records.specs.Listing.{entry, padsOf, padsBy}
@@ -38,3 +38,8 @@ pads-none n k s g (suc p) h = rw (h p, pads-none n k s g p h)
 pub pads-idle : (p n : ℕ) (r : Record) (s : List ℕ) → padsBy p Idle n r s ≡ []
 unfolding padsBy enciphered
 pads-idle p n r s = pads-none n (keycountAfter Idle r) s (bit 0) p bit-empty
+
+-- nor one whose held bits are cleared
+pub pads-clear : (p m n : ℕ) (r : Record) (s : List ℕ) → padsBy p (Clear m) n r s ≡ []
+unfolding padsBy enciphered
+pads-clear p m n r s = pads-none n (keycountAfter (Clear m) r) s (bit 0) p bit-empty

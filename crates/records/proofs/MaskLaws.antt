@@ -11,8 +11,8 @@ use lib.Dec.{eqb, ltb, leb, lit≤}
 use borrow.Author.Tests.{ltb-true, ltb-false, leb-true, leb-false, lt-ltb, le-ltb, lt-leb}
 use Rattle.base.specs.Pick.{pick, both}
 use Rattle.base.proofs.PickLaws.{told}
-use Rattle.records.specs.Journal.{bit, flakesWith, flakesFrom, allFlakes}
-use Rattle.records.proofs.BitLaws.{bit-union, bit-empty, bit-half, none-above}
+use Rattle.records.specs.Journal.{bit, flakesWith, flakesFrom, flakeRange, allFlakes}
+use Rattle.records.proofs.BitLaws.{bit-union, bit-empty, bit-half, none-above, same-bits}
 
 abbrev one : Bool → ℕ
 one b = pick b 1 0
@@ -72,6 +72,9 @@ bit-all p f = bit-with 64 (λ g. ltb g p) f
 
 pub bit-from : (first last f : ℕ) → bit (flakesFrom first last) f ≡ both (ltb f 64) (both (leb first f) (leb f last))
 bit-from first last f = bit-with 64 (λ g. both (leb first g) (leb g last)) f
+
+pub bit-range : (first count f : ℕ) → bit (flakeRange first count) f ≡ both (ltb f 64) (both (leb first f) (ltb f (first + count)))
+bit-range first count f = bit-with 64 (λ g. both (leb first g) (ltb g (first + count))) f
 
 with-none : (n : ℕ) (g : ℕ → Bool) → ((f : ℕ) → g f ≡ false) → flakesWith n g ≡ 0
 unfolding flakesWith
@@ -151,3 +154,20 @@ from-all first last e d h = rw (e, d) (run first last h)
 -- there is no flake past 63
 pub from-rest : (first last : ℕ) {a b : ℕ} → a ≡ allFlakes first → b ≡ allFlakes 64 → first ≤ last → 64 ≤ last → flakesFrom first last + a ≡ b
 from-rest first last e d h l = rw (e, d) (run first last h ∙ all-full (last + 1) (omega arith) ∙ sym (all-full 64 (omega arith)))
+
+-- a flake range with no flake, and one with some: its last comes before the next one's first
+pub range-none : (first count : ℕ) → count ≡ 0 → flakeRange first count ≡ 0
+range-none first count z = with-none 64 (λ f. both (leb first f) (ltb f (first + count))) (λ f. go f (told (leb first f)))
+  where
+    go : (f : ℕ) → (leb first f ≡ true) ⊎ (leb first f ≡ false) → both (leb first f) (ltb f (first + count)) ≡ false
+    go f (inl e) = rw (e, le-ltb f (first + count) (omega (arith, leb-true first f e, z)))
+    go f (inr e) = rw e
+
+pub range-some : (first count : ℕ) → (count ≡ 0 → ⊥) → flakesFrom first (first + count - 1) ≡ flakeRange first count
+range-some first count some =
+    same-bits (flakesFrom first (first + count - 1)) (flakeRange first count)
+    (λ f. bit-from first (first + count - 1) f ∙ ap (λ (b : Bool). both (ltb f 64) (both (leb first f) b)) (go f (told (leb f (first + count - 1)))) ∙ sym (bit-range first count f))
+  where
+    go : (f : ℕ) → (leb f (first + count - 1) ≡ true) ⊎ (leb f (first + count - 1) ≡ false) → leb f (first + count - 1) ≡ ltb f (first + count)
+    go f (inl e) = e ∙ sym (lt-ltb f (first + count) (omega (arith, leb-true f (first + count - 1) e, some)))
+    go f (inr e) = e ∙ sym (le-ltb f (first + count) (omega (arith, leb-false f (first + count - 1) e)))

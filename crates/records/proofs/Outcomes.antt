@@ -34,6 +34,9 @@ well-formed κs a x y u v p q = (agree p q, refl)
 pub way-of : OneOutcome fn.way_of.ended fn.way_of.Reads.Post
 way-of κs a x y u v p q = (agree p q, refl)
 
+pub range-of : OneOutcome fn.range_of.ended fn.range_of.Reads.Post
+range-of κs a x y u v p q = (agree p q, refl)
+
 pub is-rekey : OneOutcome fn.is_rekey.ended fn.is_rekey.Reads.Post
 is-rekey κs a x y u v p q = (agree p q, refl)
 

@@ -4,7 +4,7 @@ use mathlib.Core.Bool.{Bool, true, false}
 use Prim.Native.Nat.{ℕ, _+_, _-_, _^_, _<_, _≤_}
 use native.Mathlib.Nat.{le-refl}
 use native.Mathlib.Omega.{arith}
-use lib.Bits.{or-zero-r, or-lt}
+use lib.Bits.{or-lt}
 use lib.Dec.{eqb}
 use borrow.Author.Tests.{eq-eqb, ne-eqb, eqb-true, lt-ltb, ltb-true, le-leb, leb-true}
 use Rattle.base.specs.Pick.{pick, both}
@@ -12,12 +12,12 @@ use Rattle.base.proofs.PickLaws.{clash, both-left, both-right, both-on, either-
 use Rattle.records.specs.declared.Record.{Record}
 use Rattle.records.specs.declared.Gauge.{Gauge}
 use Rattle.records.specs.declared.Way.{Way}
-use Rattle.records.specs.declared.Way.the-variants.{Idle, Add, Rekey}
+use Rattle.records.specs.declared.Way.the-variants.{Idle, Add, Rekey, Clear}
 use Rattle.layout.specs.declared.Shape.{Shape}
-use Rattle.records.specs.Journal.{bit, union, shareNone, liesIn}
+use Rattle.records.specs.Journal.{bit, union, without, shareNone, liesIn}
 use Rattle.records.specs.Record.{against, noneFrom, epochFits, notAbove, wellFormed, Codes}
-use Rattle.records.specs.Rule.{wayOf, touchedBy, rekeys, enciphered, keycountAfter, spentAfter, heldAfter, epochAfter, turned, CanRise}
-use Rattle.records.proofs.BitLaws.{bit-union, bit-empty, lies-lt, lies-self, lies-union}
+use Rattle.records.specs.Rule.{wayOf, touchedBy, clearedBy, rekeys, enciphered, keycountAfter, spentAfter, heldAfter, epochAfter, turned, CanRise, MayClear}
+use Rattle.records.proofs.BitLaws.{bit-union, bit-empty, without-none, without-lt, lies-lt, lies-self, lies-union, lies-without}
 use mathlib.Core.Logic.{_⊎_, inl, inr}
 
 -- the enciphered flakes are held afterwards
@@ -26,6 +26,7 @@ unfolding enciphered heldAfter
 enciphered-stays Idle r f e = let z : false ≡ true = sym (bit-empty f) ∙ e in cc
 enciphered-stays (Add t) r f e = bit-union (r .held) t f ∙ either-right (bit (r .held) f) e
 enciphered-stays (Rekey t) r f e = e
+enciphered-stays (Clear m) r f e = let z : false ≡ true = sym (bit-empty f) ∙ e in cc
 
 -- after a rekey the enciphered flakes are exactly those held, and those spent
 pub rekeyed-all : (way : Way) (r : Record) → rekeys way ≡ true → (heldAfter way r ≡ enciphered way r) × (spentAfter way r ≡ enciphered way r)
@@ -33,6 +34,17 @@ unfolding enciphered heldAfter spentAfter
 rekeyed-all Idle r e = absurd (clash e refl)
 rekeyed-all (Add t) r e = absurd (clash e refl)
 rekeyed-all (Rekey t) r e = (refl, refl)
+rekeyed-all (Clear m) r e = absurd (clash e refl)
+
+-- a discard clears held bits, and keeps all else; an idle nugget keeps all
+pub idle-keeps : (head : ℕ) (r : Record) → (keycountAfter Idle r ≡ r .keycount) × (spentAfter Idle r ≡ r .spent) × (epochAfter Idle head r ≡ r .epoch)
+unfolding keycountAfter spentAfter epochAfter
+idle-keeps head r = (refl, refl, refl)
+
+pub cleared-keeps : (m head : ℕ) (r : Record)
+    → (keycountAfter (Clear m) r ≡ r .keycount) × (spentAfter (Clear m) r ≡ r .spent) × (epochAfter (Clear m) head r ≡ r .epoch)
+unfolding keycountAfter spentAfter epochAfter
+cleared-keeps m head r = (refl, refl, refl)
 
 -- a nugget whose way is to add had none of the touched flakes, and its epoch is the head's
 pub add-fresh : (r : Record) (t head u : ℕ) → wayOf r t head ≡ Add u → (u ≡ t) × (shareNone (r .spent) u ≡ true) × (r .epoch ≡ head)
@@ -56,12 +68,23 @@ way-touched r t head = go (eqb t 0) (both (shareNone (r .spent) t) (eqb (r .epoc
     go false true e = refl
     go false false e = refl
 
+-- and clears nothing
+pub way-clears : (r : Record) (t head : ℕ) → clearedBy (wayOf r t head) ≡ 0
+unfolding wayOf
+way-clears r t head = go (eqb t 0) (both (shareNone (r .spent) t) (eqb (r .epoch) head))
+  where
+    go : (a b : Bool) → clearedBy (pick a Idle (pick b (Add t) (Rekey t))) ≡ 0
+    go true b = refl
+    go false true = refl
+    go false false = refl
+
 -- keycounts never fall
 pub keycount-rises : (way : Way) (r : Record) → r .keycount ≤ keycountAfter way r
 unfolding keycountAfter
 keycount-rises Idle r = le-refl (r .keycount)
 keycount-rises (Add t) r = le-refl (r .keycount)
 keycount-rises (Rekey t) r = omega arith
+keycount-rises (Clear m) r = le-refl (r .keycount)
 
 -- and rise by one at most
 pub keycount-step : (way : Way) (r : Record) → keycountAfter way r ≤ r .keycount + 1
@@ -69,12 +92,14 @@ unfolding keycountAfter
 keycount-step Idle r = omega arith
 keycount-step (Add t) r = omega arith
 keycount-step (Rekey t) r = le-refl (r .keycount + 1)
+keycount-step (Clear m) r = omega arith
 
 epoch-after : (way : Way) (gauge : Gauge) (r : Record) → epochFits gauge (r .epoch) ≡ true → epochFits gauge (epochAfter way (gauge .epoch) r) ≡ true
 unfolding epochAfter
 epoch-after Idle gauge r e = e
 epoch-after (Add t) gauge r e = e
 epoch-after (Rekey t) gauge r e = rw (eq-eqb (gauge .epoch) (gauge .epoch) refl)
+epoch-after (Clear m) gauge r e = e
 
 -- what the tests of a well-formed record say
 pub formed-spent : (p : ℕ) (gauge : Gauge) (r : Record) → wellFormed p gauge r ≡ true → r .spent < 2 ^ p
@@ -120,26 +145,32 @@ formed-by p gauge r none lies fits low = both-on none (both-on lies (both-on fit
 
 -- the masks afterwards
 spent-after : (p : ℕ) (way : Way) (r : Record) → touchedBy way < 2 ^ p → r .spent < 2 ^ p → r .held < 2 ^ p → spentAfter way r < 2 ^ p
-unfolding spentAfter heldAfter
-spent-after p Idle r t s h = or-lt p (r .spent) 0 s t
+unfolding spentAfter
+spent-after p Idle r t s h = s
 spent-after p (Add u) r t s h = or-lt p (r .spent) u s t
 spent-after p (Rekey u) r t s h = or-lt p (r .held) u h t
+spent-after p (Clear m) r t s h = s
 
 held-after : (p : ℕ) (way : Way) (r : Record) → touchedBy way < 2 ^ p → r .held < 2 ^ p → heldAfter way r < 2 ^ p
 unfolding heldAfter
-held-after p way r t h = or-lt p (r .held) (touchedBy way) h t
+held-after p Idle r t h = h
+held-after p (Add u) r t h = or-lt p (r .held) u h t
+held-after p (Rekey u) r t h = or-lt p (r .held) u h t
+held-after p (Clear m) r t h = without-lt p (r .held) m h
 
 pub lies-after : (way : Way) (r : Record) → liesIn (r .held) (r .spent) ≡ true → liesIn (heldAfter way r) (spentAfter way r) ≡ true
 unfolding spentAfter heldAfter
-lies-after Idle r e = lies-union (r .held) (r .spent) 0 e
+lies-after Idle r e = e
 lies-after (Add t) r e = lies-union (r .held) (r .spent) t e
 lies-after (Rekey t) r e = lies-self (union (r .held) t)
+lies-after (Clear m) r e = lies-without (r .held) (r .spent) m e
 
-one-after : (way : Way) (r : Record) → r .spent ≡ r .held → spentAfter way r ≡ heldAfter way r
+one-after : (way : Way) (r : Record) → clearedBy way ≡ 0 → r .spent ≡ r .held → spentAfter way r ≡ heldAfter way r
 unfolding spentAfter heldAfter
-one-after Idle r e = rw e refl
-one-after (Add t) r e = rw e refl
-one-after (Rekey t) r e = refl
+one-after Idle r z e = e
+one-after (Add t) r z e = rw e refl
+one-after (Rekey t) r z e = refl
+one-after (Clear m) r z e = e ∙ sym (rw z (without-none (r .held)))
 
 -- the record afterwards is well formed, under a counter one higher, where the one before was
 pub well-formed-after : (p : ℕ) (way : Way) (gauge : Gauge) (r : Record) → touchedBy way < 2 ^ p
@@ -156,22 +187,25 @@ unfolding keycountAfter
 keycount-width Idle r w e = w
 keycount-width (Add u) r w e = w
 keycount-width (Rekey u) r w e = omega (arith, e refl)
+keycount-width (Clear m) r w e = w
 
 epoch-width : (way : Way) (head : ℕ) (r : Record) → r .epoch < 2 ^ 16 → head < 2 ^ 16 → epochAfter way head r < 2 ^ 16
 unfolding epochAfter
 epoch-width Idle head r w h = w
 epoch-width (Add u) head r w h = w
 epoch-width (Rekey u) head r w h = h
+epoch-width (Clear m) head r w h = w
 
 -- and its bytes tell it, below the keycount's top
-pub codes-after : (s : Shape) (way : Way) (head : ℕ) (r : Record) → Codes s r → touchedBy way < 2 ^ 64 → head < 2 ^ 16 → CanRise way r → Codes s (turned way head r)
-codes-after s way head r w t h e =
+pub codes-after : (s : Shape) (way : Way) (head : ℕ) (r : Record) → Codes s r → touchedBy way < 2 ^ 64 → head < 2 ^ 16 → CanRise way r → MayClear s way
+    → Codes s (turned way head r)
+codes-after s way head r w t h e may =
     record {
       keycountWidth = keycount-width way r (w .keycountWidth) e;
       spentWidth = spent-after 64 way r t (w .spentWidth) (w .heldWidth);
       heldWidth = held-after 64 way r t (w .heldWidth);
       epochWidth = epoch-width way head r (w .epochWidth) h;
-      oneMask = λ one. one-after way r (w .oneMask one);
+      oneMask = λ one. one-after way r (may one) (w .oneMask one);
     }
 
 -- the way, by its tests
@@ -195,8 +229,7 @@ module _ (r : Record) (t head : ℕ) where
 -- the record afterwards, by the way
 pub turned-idle : (way : Way) (head : ℕ) (r : Record) → way ≡ Idle → r ≡ turned way head r
 unfolding keycountAfter spentAfter heldAfter epochAfter
-turned-idle way head r e =
-    rw e (λ i. record { keycount = r .keycount; spent = sym (or-zero-r (r .spent)) i; held = sym (or-zero-r (r .held)) i; epoch = r .epoch })
+turned-idle way head r e = rw e refl
 
 pub turned-add : (way : Way) (head : ℕ) (r : Record) (t : ℕ) {j k : ℕ} → way ≡ Add t → j ≡ union (r .spent) t → k ≡ union (r .held) t
     → _≡_ {A = Record} (record { keycount = r .keycount; spent = j; held = k; epoch = r .epoch }) (turned way head r)
@@ -207,3 +240,8 @@ pub turned-rekey : (way : Way) (head : ℕ) (r : Record) (t : ℕ) {j : ℕ} →
     → _≡_ {A = Record} (record { keycount = r .keycount + 1; spent = j; held = j; epoch = head }) (turned way head r)
 unfolding keycountAfter spentAfter heldAfter epochAfter
 turned-rekey way head r t e d = rw (e, d)
+
+pub turned-clear : (way : Way) (head : ℕ) (r : Record) (m : ℕ) {k : ℕ} → way ≡ Clear m → k ≡ without (r .held) m
+    → _≡_ {A = Record} (record { keycount = r .keycount; spent = r .spent; held = k; epoch = r .epoch }) (turned way head r)
+unfolding keycountAfter spentAfter heldAfter epochAfter
+turned-clear way head r m e q = rw (e, q)

@@ -6,8 +6,10 @@ use lib.Dec.{eqb}
 use Rattle.base.specs.Pick.{pick, both}
 use Rattle.records.specs.declared.Record.{Record}
 use Rattle.records.specs.declared.Way.{Way}
-use Rattle.records.specs.declared.Way.the-variants.{Idle, Add, Rekey}
-use Rattle.records.specs.Journal.{union, shareNone}
+use Rattle.records.specs.declared.Way.the-variants.{Idle, Add, Rekey, Clear}
+use Rattle.layout.specs.declared.Shape.{Shape}
+use Rattle.layout.specs.Shape.{isOne}
+use Rattle.records.specs.Journal.{union, without, shareNone}
 
 -- Write: "For each nugget let T be the flakes touched and J its journal. If J and T share none and its epoch is the
 -- head's, the flakes of T are enciphered under the present keycount. Otherwise the nugget is rekeyed".
@@ -27,30 +29,46 @@ abbrev pub touchedBy : Way → ℕ
 touchedBy Idle = 0
 touchedBy (Add t) = t
 touchedBy (Rekey t) = t
+touchedBy (Clear m) = 0
+
+-- document 02, Item 4: discard "clears held bits only", those of these flakes
+abbrev pub clearedBy : Way → ℕ
+clearedBy Idle = 0
+clearedBy (Add t) = 0
+clearedBy (Rekey t) = 0
+clearedBy (Clear m) = m
 
 -- "the nugget is rekeyed"
 abbrev pub rekeys : Way → Bool
 rekeys Idle = false
 rekeys (Add t) = false
 rekeys (Rekey t) = true
+rekeys (Clear m) = false
 
 -- "the flakes of T are enciphered"; rekeyed: "every flake of J and T enciphered afresh"
 unfoldable pub enciphered : Way → Record → ℕ
 enciphered Idle r = 0
 enciphered (Add t) r = t
 enciphered (Rekey t) r = union (r .held) t
+enciphered (Clear m) r = 0
 
 -- "under the present keycount"; rekeyed: "keycount plus 1"
 unfoldable pub keycountAfter : Way → Record → ℕ
 keycountAfter way r = pick (rekeys way) (r .keycount + 1) (r .keycount)
 
--- "The journal becomes J with T."
+-- "The journal becomes J with T."; a discard "clears held bits only"
 unfoldable pub heldAfter : Way → Record → ℕ
-heldAfter way r = union (r .held) (touchedBy way)
+heldAfter Idle r = r .held
+heldAfter (Add t) r = union (r .held) t
+heldAfter (Rekey t) r = union (r .held) t
+heldAfter (Clear m) r = without (r .held) m
 
--- Document 02, Item 4: "A rekey [..] sets both masks to those; a write without one adds T to both."
+-- Document 02, Item 4: "A rekey [..] sets both masks to those; a write without one adds T to both."; discarded, "the pad stays spent"
 unfoldable pub spentAfter : Way → Record → ℕ
-spentAfter way r = pick (rekeys way) (heldAfter way r) (union (r .spent) (touchedBy way))
+spentAfter Idle r = r .spent
+spentAfter (Add t) r = union (r .spent) t
+spentAfter (Rekey t) r = union (r .held) t
+spentAfter (Clear m) r = r .spent
 
 -- rekeyed: "epoch set to the head's"
 unfoldable pub epochAfter : Way → ℕ → Record → ℕ
@@ -63,3 +81,7 @@ turned way head r = record { keycount = keycountAfter way r; spent = spentAfter 
 -- what "keycount plus 1" asks of eight bytes: a nugget that is rekeyed isn't at its keycount's top
 abbrev pub CanRise : Way → Record → Type 0
 CanRise way r = rekeys way ≡ true → r .keycount < 2 ^ 64 - 1
+
+-- in version 1, with one mask for both, no held bit is cleared
+abbrev pub MayClear : Shape → Way → Type 0
+MayClear s way = isOne s ≡ true → clearedBy way ≡ 0

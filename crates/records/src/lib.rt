@@ -8,7 +8,7 @@ ghost use lib.Seq.{sets};
 ghost use Rattle.layout.specs.Shape.{widthOf};
 ghost use Rattle.layout.specs.Parts.{recordAt};
 ghost use Rattle.layout.specs.Shaped.{Shaped};
-ghost use Rattle.records.specs.Journal.{bit, union, shareNone, liesIn, flakesFrom, allFlakes, flakeCount};
+ghost use Rattle.records.specs.Journal.{bit, union, without, shareNone, liesIn, flakesFrom, flakeRange, allFlakes, flakeCount};
 ghost use Rattle.records.specs.Record.{recordBytes, recordIn, recordOf, noneFrom, epochFits, notAbove, wellFormed};
 ghost use Rattle.records.specs.Rule.{wayOf, rekeys, enciphered, turned, CanRise};
 
@@ -26,11 +26,12 @@ pub struct Gauge {
     pub counter: u64,
 }
 
-// What a change does to one nugget: nothing, add the touched flakes, or rekey it with them.
+// What a change does to one nugget: nothing, add the touched flakes, rekey it with them, or clear held bits.
 pub enum Way {
     Idle,
     Add(u64),
     Rekey(u64),
+    Clear(u64),
 }
 
 // Record n.
@@ -99,6 +100,13 @@ pub fn join(journal: u64, touched: u64) -> u64
     journal | touched
 }
 
+// The first set without the flakes of the second.
+fn leave(held: u64, cleared: u64) -> u64
+    ensures { λ r. ⌜ r ≡ without held cleared ⌝ }
+{
+    held ^ (held & cleared)
+}
+
 // "J and T share none"
 pub fn share_none(journal: u64, touched: u64) -> bool
     ensures { λ r. ⌜ r ≡ shareNone journal touched ⌝ }
@@ -129,6 +137,17 @@ pub fn range(first: u32, last: u32) -> u64
     } else {
         all(64) - all(first)
     }
+}
+
+// "a flake range", of flakes that there may be.
+pub fn range_of(first: u32, count: u32) -> u64
+    requires { ⌜ first + count ≤ 64 ⌝ }
+    ensures { λ r. ⌜ r ≡ flakeRange first count ⌝ }
+{
+    if count == 0 {
+        return 0;
+    }
+    range(first, first + count - 1)
 }
 
 // "counts of ones of each journal give flakes present and retired"
@@ -209,6 +228,7 @@ pub fn is_rekey(way: Way) -> bool
         Way::Idle => false,
         Way::Add(_) => false,
         Way::Rekey(_) => true,
+        Way::Clear(_) => false,
     }
 }
 
@@ -220,6 +240,7 @@ pub fn enciphers(way: Way, r: Record) -> u64
         Way::Idle => 0,
         Way::Add(touched) => touched,
         Way::Rekey(touched) => join(r.held, touched),
+        Way::Clear(_) => 0,
     }
 }
 
@@ -253,5 +274,11 @@ pub fn turn(way: Way, epoch: u16, r: Record) -> Record
                 epoch: epoch,
             }
         }
+        Way::Clear(cleared) => Record {
+            keycount: r.keycount,
+            spent: r.spent,
+            held: leave(r.held, cleared),
+            epoch: r.epoch,
+        },
     }
 }

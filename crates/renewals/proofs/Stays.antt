@@ -11,7 +11,10 @@ use Rattle.base.specs.Pick.{pick, both}
 use Rattle.base.proofs.PickLaws.{yes, no, told, clash, both-left, both-right, either-off}
 use Rattle.answers.specs.Numbers.{accepts}
 use Rattle.layout.specs.declared.Shape.{Shape}
+use Rattle.records.specs.declared.Way.the-variants.{Clear}
+use Rattle.records.specs.Journal.{flakeRange}
 use Rattle.records.specs.Record.{recordOf}
+use Rattle.records.specs.Rule.{sweepWay}
 use Rattle.records.proofs.RuleLaws.{way-idle, turned-idle}
 use Rattle.drive.specs.declared.Drive.{Drive}
 use Rattle.drive.specs.Drive.{shapeOf}
@@ -20,14 +23,16 @@ use Rattle.opening.proofs.Reopens.{length-head}
 use Rattle.changes.specs.Change.{advanced, settled}
 use Rattle.changes.specs.Write.{writes, writeAnswer, writeWay, writeWork, writtenDrive, writeDone, writeVolume}
 use Rattle.changes.specs.Rekey.{beginAnswer, beginDone, beginVolume, sweepAnswer, sweepWays, sweepWork, sweptDrive, sweepDone, sweepVolume, finishAnswer, finishedDrive, finishDone, finishVolume}
+use Rattle.changes.specs.Discard.{discardAnswer, clears, discardWays, discardWork, discardedDrive, discardDone, discardVolume}
 use Rattle.changes.proofs.AnswerLaws.{sweep-told, write-told}
 use Rattle.changes.proofs.SettleLaws.{settled-record}
 use Rattle.changes.proofs.SweepLaws.{way-other}
-use Rattle.history.specs.World.{World, Call, mount, write, begin, sweep, finish, asks}
+use Rattle.history.specs.World.{World, Call, mount, write, begin, sweep, finish, discard, asks}
 use Rattle.history.specs.Step.{answerTo, contentsAfter, worldAfter, step, changesBy}
 use Rattle.history.specs.History.{run, among}
 use Rattle.history.proofs.Sound.{Sound}
 use Rattle.history.proofs.Ways.{written-turns, swept-turns}
+use Rattle.history.proofs.Freed.{cleared-turns}
 use Rattle.history.proofs.Steps.{mount-same, step-sound}
 use Rattle.renewals.specs.Renewals.{names, begins, changedBy, begunBy}
 
@@ -124,8 +129,36 @@ module _ (w : World) (x : Sound w) where
           (by-drive ∙ yes _ e refl) (by-vol ∙ yes _ e refl) shape epoch
           (λ n h off.
           swept-turns w x m (sweep-told (w .drive) (w .vol) m e) n h
-          ∙ sym (turned-idle (sweepWays m n) (w .drive .epoch) (recordOf (shapeOf (w .drive)) (w .vol) n) (way-other m n (eqb-false n m (unmet _ _ e off)))))
+          ∙ sym (turned-idle (sweepWays m n) (w .drive .epoch) (recordOf (shapeOf (w .drive)) (w .vol) n) (way-other m sweepWay n (eqb-false n m (unmet _ _ e off)))))
       go (inr e) = stays-same w (step w (sweep m)) _ (by-drive ∙ no _ e refl) (by-vol ∙ no _ e refl)
+
+  discard-stays : (m first count : ℕ) → Stays w (step w (discard m first count)) (λ n. both (changesBy w (discard m first count)) (names w (discard m first count) n))
+  unfolding step worldAfter discardDone discardVolume advanced
+  discard-stays m first count = go (told (clears (w .drive) (w .vol) m first count))
+    where
+      new : Drive
+      new = discardedDrive (w .drive) (w .vol) m first count
+
+      by-drive : step w (discard m first count) .drive ≡ pick (clears (w .drive) (w .vol) m first count) new (w .drive)
+      by-drive = refl
+
+      by-vol : step w (discard m first count) .vol ≡ pick (clears (w .drive) (w .vol) m first count) (settled new (discardWork (w .drive) (w .vol) m first count)) (w .vol)
+      by-vol = refl
+
+      shape : shapeOf new ≡ shapeOf (w .drive)
+      shape = refl
+
+      epoch : new .epoch ≡ w .drive .epoch
+      epoch = refl
+
+      go : (clears (w .drive) (w .vol) m first count ≡ true) ⊎ (clears (w .drive) (w .vol) m first count ≡ false)
+          → Stays w (step w (discard m first count)) (λ n. both (changesBy w (discard m first count)) (names w (discard m first count) n))
+      go (inl e) =
+          stays-by w (step w (discard m first count)) _ new (settled new (discardWork (w .drive) (w .vol) m first count)) (by-drive ∙ yes _ e refl) (by-vol ∙ yes _ e refl) shape epoch
+          (λ n h off.
+          cleared-turns w x m first count e n h
+          ∙ sym (turned-idle (discardWays m first count n) (w .drive .epoch) (recordOf (shapeOf (w .drive)) (w .vol) n) (way-other m (Clear (flakeRange first count)) n (eqb-false n m (unmet _ _ e off)))))
+      go (inr e) = stays-same w (step w (discard m first count)) _ (by-drive ∙ no _ e refl) (by-vol ∙ no _ e refl)
 
   finish-stays : Stays w (step w finish) (λ n. both (changesBy w finish) (names w finish n))
   unfolding step worldAfter finishDone finishVolume finishedDrive
@@ -160,6 +193,7 @@ step-stays w x (write o bytes) e = write-stays w x o bytes
 step-stays w x (begin secret) e = begin-stays w x secret e
 step-stays w x (sweep m) e = sweep-stays w x m
 step-stays w x finish e = finish-stays w x
+step-stays w x (discard m first count) e = discard-stays w x m first count
 step-stays w x (asks q) e = stays-same w (step w (asks q)) _ drive vol
   where
     drive : step w (asks q) .drive ≡ w .drive

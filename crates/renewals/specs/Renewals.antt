@@ -14,7 +14,7 @@ use Rattle.drive.specs.Drive.{shapeOf}
 use Rattle.nuggets.specs.Touched.{touchedOf}
 use Rattle.summaries.specs.Entries.{summaryLength, entryIn, listed}
 use Rattle.summaries.specs.Calls.{topAnswer, topReport, buildAnswer, buildSummary, renewAnswer, renewEach, BelongsTo}
-use Rattle.history.specs.World.{World, Call, mount, write, begin, sweep, finish, asks}
+use Rattle.history.specs.World.{World, Call, mount, write, begin, sweep, finish, discard, asks}
 use Rattle.history.specs.Step.{answerTo, step, changesBy}
 use Rattle.history.specs.History.{Start, run, history, among}
 use Rattle.history.specs.Answers.{_unless_else_, reportOn}
@@ -23,13 +23,14 @@ use Rattle.history.specs.Answers.{_unless_else_, reportOn}
 abbrev pub Belonging : World → List ℕ → Type 0
 Belonging w b = BelongsTo (w .drive) (w .vol) b
 
--- the nuggets that a call names: those of which a write touches a flake, the one that a sweep moves
+-- the nuggets that a call names: those of which a write touches a flake, the one that a sweep moves or a discard clears
 abbrev pub names : World → Call → ℕ → Bool
 names w (mount any) n = false
 names w (write o bytes) n = not (eqb (touchedOf (shapeOf (w .drive)) o (length bytes) n) 0)
 names w (begin secret) n = false
 names w (sweep m) n = eqb n m
 names w finish n = false
+names w (discard m first count) n = eqb n m
 names w (asks q) n = false
 
 -- nugget n is changed by one of the calls: an accepted change that names it
@@ -43,6 +44,7 @@ begins w (write o bytes) = false
 begins w (begin secret) = accepts (answerTo w (begin secret))
 begins w (sweep n) = false
 begins w finish = false
+begins w (discard n first count) = false
 begins w (asks q) = false
 
 abbrev pub begunBy : World → List Call → Bool

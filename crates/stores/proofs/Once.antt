@@ -14,7 +14,10 @@ use Rattle.layout.specs.Parts.{tagsAt, tagAt, treeAt, flakesAt, flakeAt}
 use Rattle.layout.proofs.Places.{parts-inside}
 use Rattle.answers.specs.Numbers.{accepts}
 use Rattle.records.specs.declared.Way.{Way}
+use Rattle.records.specs.declared.Way.the-variants.{Clear}
+use Rattle.records.specs.Journal.{flakeRange}
 use Rattle.records.specs.Record.{recordOf}
+use Rattle.records.specs.Rule.{sweepWay}
 use Rattle.drive.specs.declared.Drive.{Drive}
 use Rattle.drive.specs.Drive.{shapeOf}
 use Rattle.drive.specs.Head.{headOf}
@@ -24,17 +27,19 @@ use Rattle.changes.specs.Laid.{laid}
 use Rattle.changes.specs.Change.{idles, padsFor, markedTo, advanced}
 use Rattle.changes.specs.Write.{writeWay, writeAnswer, writes, newContents, writtenDrive}
 use Rattle.changes.specs.Rekey.{beginAnswer, begunDrive, sweepAnswer, sweepWays, sweptDrive, finishAnswer, finishedDrive}
+use Rattle.changes.specs.Discard.{discardAnswer, clears, discardWays, discardedDrive}
 use Rattle.changes.proofs.LaidLaws.{Long}
 use Rattle.changes.proofs.SweepLaws.{way-other}
 use Rattle.changes.proofs.AnswerLaws.{sweep-told, write-told}
+use Rattle.changes.proofs.DiscardLaws.{discard-told}
 use Rattle.changes.proofs.Relaid.{long-new, long-same}
-use Rattle.history.specs.World.{Call, mount, write, begin, sweep, finish, asks}
+use Rattle.history.specs.World.{Call, mount, write, begin, sweep, finish, discard, asks}
 use Rattle.history.specs.History.{Start, history}
 use Rattle.history.proofs.Steps.{sound}
 use Rattle.stores.specs.Store.{Store}
 use Rattle.stores.specs.Work.{laidStores, markStores, tendStores, workStores, headStores}
-use Rattle.stores.specs.Calls.{writeStores, beginStores, sweepStores, finishStores, storesOf}
-use Rattle.stores.specs.Once.{hits, storedTimes, StoredOnce, SweepOnce, WriteOnce}
+use Rattle.stores.specs.Calls.{writeStores, beginStores, sweepStores, finishStores, discardStores, storesOf}
+use Rattle.stores.specs.Once.{hits, storedTimes, StoredOnce, SweepOnce, DiscardOnce, WriteOnce}
 use Rattle.stores.proofs.OnceLaws.{hits-le, hits-join, times-append, times-one, times-none, times-to, times-marks, times-outside, times-alone}
 
 -- a list that is there only if a test holds
@@ -81,7 +86,18 @@ sweep-once start calls n a =
     times-pick (accepts (sweepAnswer d v n)) _ a (λ ok.
     let t = sweep-told d v n ok in
     times-change d (sweptDrive d v n) v (sweepWays n) (contentsOf d v) (sound start calls .handed .salt-long) (t .lent) (long-same d v (t .lent)) a
-    (λ u. times-alone (shapeOf d) a v (t .lent) (sweepWays n) n (d .n) u (omega arith) (λ m q. ap idles (way-other n m q)) .0))
+    (λ u. times-alone (shapeOf d) a v (t .lent) (sweepWays n) n (d .n) u (omega arith) (λ m q. ap idles (way-other n sweepWay m q)) .0))
+
+pub discard-once : DiscardOnce
+unfolding storesOf discardStores advanced
+discard-once start calls n first count a =
+    let w = history start calls in
+    let d = w .drive in
+    let v = w .vol in
+    times-pick (clears d v n first count) _ a (λ ok.
+    let t = discard-told d v n first count (both-left (accepts (discardAnswer d v n first count)) _ ok) in
+    times-change d (discardedDrive d v n first count) v (discardWays n first count) (contentsOf d v) (sound start calls .handed .salt-long) (t .lent) (long-same d v (t .lent)) a
+    (λ u. times-alone (shapeOf d) a v (t .lent) (discardWays n first count) n (d .n) u (omega arith) (λ m q. ap idles (way-other n (Clear (flakeRange first count)) m q)) .0))
 
 -- a write of a history, by the stores that it makes in the tree
 times-write : (start : Start) (calls : List Call) (o : ℕ) (bytes : List ℕ) (a : ℕ) → let w = history start calls in let s = shapeOf (w .drive) in
@@ -120,4 +136,5 @@ stored-once start calls (sweep n) a out = sweep-once start calls n a
 stored-once start calls finish a out =
     let w = history start calls in
     times-pick (accepts (finishAnswer (w .drive) (w .vol))) _ a (λ ok. rw (times-head (finishedDrive (w .drive)) a (sound start calls .handed .salt-long)) (hits-le 0 104 a))
+stored-once start calls (discard n first count) a out = discard-once start calls n first count a
 stored-once start calls (asks q) a out = omega (arith, times-none a)

@@ -11,7 +11,7 @@ use Rattle.layout.specs.Parts.{treeAt, flakesAt}
 use Rattle.drive.specs.Drive.{shapeOf}
 use Rattle.changes.specs.Change.{idles}
 use Rattle.changes.specs.Write.{writeWay}
-use Rattle.history.specs.World.{Call, write, sweep}
+use Rattle.history.specs.World.{Call, write, sweep, discard}
 use Rattle.history.specs.History.{Start, history}
 use Rattle.stores.specs.Store.{Store}
 use Rattle.stores.specs.Calls.{storesOf}
@@ -35,6 +35,10 @@ StoredOnce =
 -- A sweep stores no byte twice.
 abbrev pub SweepOnce : Type 0
 SweepOnce = (start : Start) (calls : List Call) (n a : ℕ) → storedTimes (storesOf (history start calls) (sweep n)) a ≤ 1
+
+-- Nor does a discard.
+abbrev pub DiscardOnce : Type 0
+DiscardOnce = (start : Start) (calls : List Call) (n first count a : ℕ) → storedTimes (storesOf (history start calls) (discard n first count)) a ≤ 1
 
 -- Nor does a write that changes one nugget.
 abbrev pub WriteOnce : Type 0

@@ -19,7 +19,7 @@ use Rattle.answers.specs.Numbers.{accepts}
 use Rattle.answers.proofs.StageLaws.{goes-on, stops, first-answers}
 use Rattle.records.specs.declared.Record.{Record}
 use Rattle.records.specs.declared.Way.{Way}
-use Rattle.records.specs.declared.Way.the-variants.{Idle, Add, Rekey}
+use Rattle.records.specs.declared.Way.the-variants.{Idle, Add, Rekey, Clear}
 use Rattle.records.specs.Rule.{wayOf, sweepWay}
 use Rattle.drive.specs.declared.Drive.{Drive}
 use Rattle.drive.specs.Drive.{shapeOf, counterTop}
@@ -62,6 +62,11 @@ module _ (d : Drive) (v : List ℕ) (n : ℕ) where
   pub change-add : (t : ℕ) {way : Way} {r : Answer} → way ≡ Add t → r ≡ pathFor d v n → r ≡ nuggetChange d v n way
   unfolding nuggetChange
   change-add t e h = rw e (h ∙ sym (first-answers (pathFor d v n) A.Accepted refl))
+
+  -- no write clears; the path alone too
+  pub change-clear : (m : ℕ) {way : Way} {r : Answer} → way ≡ Clear m → r ≡ pathFor d v n → r ≡ nuggetChange d v n way
+  unfolding nuggetChange
+  change-clear m e h = rw e (h ∙ sym (first-answers (pathFor d v n) A.Accepted refl))
 
   -- a rekey's tests don't ask what it touches
   pub change-rekey : (t : ℕ) {way : Way} {r : Answer} → way ≡ Rekey t → r ≡ nuggetChange d v n sweepWay → r ≡ nuggetChange d v n way

@@ -50,6 +50,7 @@ fn test_nugget(d: Drive, vol: &[u8], n: u32, way: Way) -> Answer
         Way::Idle => Answer::Accepted,
         Way::Add(_) => nuggets::test_path(d, vol, n),
         Way::Rekey(_) => test_rekey(d, vol, n),
+        Way::Clear(_) => nuggets::test_path(d, vol, n),
     }
 }
 

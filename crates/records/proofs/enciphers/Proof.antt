@@ -27,7 +27,14 @@ returns-3 : tie.Need-returns-3
 unfolding enciphered
 returns-3 c = rw (c .before .before .way2 .given .1) (c .join .ensures)
 
+enum-told-2 : tie.Need-enum-told-2
+enum-told-2 c = search needs
+
+returns-4 : tie.Need-returns-4
+unfolding enciphered
+returns-4 c = rw (c .enum-told2 .given .1)
+
 pub enciphers-spec : {M : Type 1} → statement M
 enciphers-spec =
     tie.close
-    (tie.spec enum-told enum-known-way enum-known-way-2 join-requires returns returns-2 returns-3)
+    (tie.spec enum-told enum-known-way enum-known-way-2 join-requires enum-told-2 returns returns-2 returns-3 returns-4)

@@ -2,7 +2,7 @@ use mathlib.Core.Path.{ap}
 use native.Mathlib.Omega.{arith}
 use borrow.Author.Needs.{needs}
 use Rattle.records.specs.Rule.{rekeys}
-use Rattle.records.proofs.RuleLaws.{turned-idle, turned-add, turned-rekey}
+use Rattle.records.proofs.RuleLaws.{turned-idle, turned-add, turned-rekey, turned-clear}
 use Rattle.records.proofs.turn.Statement.{statement}
 use Rattle.records.proofs.turn.Tie as tie
 
@@ -29,6 +29,12 @@ next-requires c κs =
     let s = c .before .before .before .before in
     omega (arith, s .pre (ap rekeys (c .before .before .way2 .given .1)))
 
+enum-known-way-3 : tie.Need-enum-known-way-3
+enum-known-way-3 c = search needs
+
+leave-requires : tie.Need-leave-requires
+leave-requires c κs = search needs
+
 returns : tie.Need-returns
 returns c = let a = c .before .before .args in turned-idle (a .way) (a .epoch) (a .r) (c .enum-told .given .1)
 
@@ -42,6 +48,11 @@ returns-3 c =
     let a = c .before .before .before .before .before .args in
     rw (c .next .ensures) (turned-rekey (a .way) (a .epoch) (a .r) _ (c .before .before .before .way2 .given .1) (c .before .join3 .ensures))
 
+returns-4 : tie.Need-returns-4
+returns-4 c =
+    let a = c .before .before .before .before .args in
+    turned-clear (a .way) (a .epoch) (a .r) _ (c .before .before .way3 .given .1) (c .leave .ensures)
+
 pub turn-spec : {M : Type 1} → statement M
 turn-spec =
     tie.close
@@ -53,6 +64,9 @@ turn-spec =
     enum-known-way-2
     join-requires-3
     next-requires
+    enum-known-way-3
+    leave-requires
     returns
     returns-2
-    returns-3)
+    returns-3
+    returns-4)

@@ -22,7 +22,9 @@ slice-aggregate-equal : tie.Need-slice-aggregate-equal
 slice-aggregate-equal c = search needs
 
 slice-aggregate-equal-2 : tie.Need-slice-aggregate-equal-2
-slice-aggregate-equal-2 c = search needs
+slice-aggregate-equal-2 c =
+    let drive = c .before .before .before .before .before .before .before .before .before .before .good .0 in
+    search (needs, drive .1 .1 .1 .1 .1 .1 .1 .1 .1 .1 .1 .1)
 
 equal-requires : tie.Need-equal-requires
 equal-requires c κs = search needs

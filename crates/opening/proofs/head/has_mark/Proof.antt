@@ -1,5 +1,5 @@
 use Rattle.opening.specs.Mount.{markFits}
-use lib.Dec.{eqb}
+use Rattle.layout.specs.Shape.{knownVersion}
 use Rattle.base.proofs.PickLaws.{both-on, both-off}
 use Prim.Native.Nat.{ℕ}
 use mathlib.Core.Path.{refl, sym, _∙_, ap}
@@ -25,9 +25,15 @@ equal-requires c κs = search needs
 load-requires : tie.Need-load-requires
 load-requires c κs = search needs
 
+cast-version : tie.Need-cast-version
+cast-version c = search needs
+
+known-version-requires : tie.Need-known-version-requires
+known-version-requires c κs = search needs
+
 returns : tie.Need-returns
 unfolding markFits
-returns c = ap (λ (x : ℕ). eqb x 1) (c .load .ensures .0) ∙ sym (both-on (sym (c .before .before .equal .ensures) ∙ c .before .if1 .taken) refl)
+returns c = c .known-version .ensures ∙ ap (λ (x : ℕ). knownVersion x) (c .before .load .ensures .0) ∙ sym (both-on (sym (c .before .before .before .equal .ensures) ∙ c .before .before .if1 .taken) refl)
 
 returns-2 : tie.Need-returns-2
 unfolding markFits
@@ -43,5 +49,7 @@ has-mark-spec =
     slice-aggregate-equal
     equal-requires
     load-requires
+    cast-version
+    known-version-requires
     returns
     returns-2)

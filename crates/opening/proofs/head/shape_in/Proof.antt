@@ -17,9 +17,15 @@ load-requires-2 c κs = search needs
 cast-t6 : tie.Need-cast-t6
 cast-t6 c = search needs
 
+load-requires-3 : tie.Need-load-requires-3
+load-requires-3 c κs = search needs
+
+cast-t8 : tie.Need-cast-t8
+cast-t8 c = search needs
+
 returns : tie.Need-returns
-returns c = rw (c .before .before .load32 .ensures, c .before .load .ensures .0, c .load2 .ensures .0)
+returns c = rw (c .before .before .before .load32 .ensures, c .before .before .load .ensures .0, c .before .load2 .ensures .0, c .load3 .ensures .0)
 
 pub shape-in-spec : {M : Type 1} → statement M
 shape-in-spec =
-    tie.close (tie.spec load32-requires load-requires cast-t4 load-requires-2 cast-t6 returns)
+    tie.close (tie.spec load32-requires load-requires cast-t4 load-requires-2 cast-t6 load-requires-3 cast-t8 returns)

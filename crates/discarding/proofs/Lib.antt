@@ -1,0 +1,3 @@
+pub mod Outcomes
+pub mod DoneLaws
+pub mod Refusals
