@@ -17,7 +17,7 @@ use Rattle.words.specs.Word.{add32}
 use Rattle.words.specs.Le.{wordsOf, serialised}
 use Rattle.words.proofs.LeLaws.{length-serialised}
 use Rattle.chacha20.specs.ChaCha20.{start, added, doubleRound, doubleRounds, twentyRounds, blockFrom, blockOf, keystream}
-use Rattle.chacha20.specs.Lanes.{lane, later, LanesPut, Each, repeated, counters, Spread, laneBlocks, blocksFrom}
+use Rattle.chacha20.specs.Lanes.{lane, later, LanesPut, Each, repeated, counters, Spread, wideAdded, laneBlocks, blocksFrom}
 use Rattle.chacha20.proofs.RoundLaws.{listed}
 
 -- the first i words of s and t are laid into lanes l and 4 + l
@@ -124,43 +124,41 @@ module _ (s : List ℕ) (long : length s ≡ 16) where
             ∙ sym (listed (later s j) (length-set s 12 (add32 first j) ∙ long)));
       }
 
--- word k of the sum of lane l
-abbrev pub sums : List ℕ → List ℕ → ℕ → ℕ → ℕ
-sums w s l k = add32 (getD w (8 * k + l) 0) (getD s (8 * k + l) 0)
+-- the sums of all words are lane by lane the sums of the states
+added-lanes : (w s : List ℕ) (l : ℕ) → l < 8 → lane (wideAdded w s) l ≡ added (lane w l) (lane s l)
+unfolding added lane wideAdded
+added-lanes w s l b =
+    tab-ext 16 _ _ (λ k h. getD-tab 128 (λ n. add32 (getD w n 0) (getD s n 0)) (8 * k + l) 0 (omega arith)
+    ∙ sym (rw (getD-tab 16 (λ i. getD w (8 * i + l) 0) k 0 h, getD-tab 16 (λ i. getD s (8 * i + l) 0) k 0 h)))
 
-pub added-lanes : (w s : List ℕ) (l : ℕ) → tab 16 (sums w s l) ≡ added (lane w l) (lane s l)
-unfolding added lane
-added-lanes w s l =
-    tab-ext 16 _ _ (λ k h. sym (rw (getD-tab 16 (λ i. getD w (8 * i + l) 0) k 0 h, getD-tab 16 (λ i. getD s (8 * i + l) 0) k 0 h)))
+length-lane-block : (x : List ℕ) (l : ℕ) → length (serialised (lane x l)) ≡ 64
+unfolding lane
+length-lane-block x l = length-serialised (lane x l) ∙ ap (λ (n : ℕ). 4 * n) (length-tab 16 _)
 
-length-lane-block : (w s : List ℕ) (l : ℕ) → length (serialised (added (lane w l) (lane s l))) ≡ 64
-unfolding added
-length-lane-block w s l = length-serialised (added (lane w l) (lane s l)) ∙ ap (λ (n : ℕ). 4 * n) (length-tab 16 _)
-
-length-lane-blocks : (w s : List ℕ) (n : ℕ) → length (laneBlocks w s n) ≡ 64 * n
+length-lane-blocks : (x : List ℕ) (n : ℕ) → length (laneBlocks x n) ≡ 64 * n
 unfolding laneBlocks
-length-lane-blocks w s zero = refl
-length-lane-blocks w s (suc n) =
-    length-append (laneBlocks w s n) (serialised (added (lane w n) (lane s n))) ∙ rw (length-lane-blocks w s n, length-lane-block w s n) (omega arith)
+length-lane-blocks x zero = refl
+length-lane-blocks x (suc n) =
+    length-append (laneBlocks x n) (serialised (lane x n)) ∙ rw (length-lane-blocks x n, length-lane-block x n) (omega arith)
 
 -- a turn that stores the block of lane l
-pub blocks-more : (w s d : List ℕ) (l : ℕ) {r : List ℕ} → r ≡ laneBlocks w s l ++ drop (64 * l) d → 64 * (l + 1) ≤ length d
-    → sets r (64 * l) (serialised (added (lane w l) (lane s l))) ≡ laneBlocks w s (l + 1) ++ drop (64 * (l + 1)) d
+pub blocks-more : (x d : List ℕ) (l : ℕ) {r : List ℕ} → r ≡ laneBlocks x l ++ drop (64 * l) d → 64 * (l + 1) ≤ length d
+    → sets r (64 * l) (serialised (lane x l)) ≡ laneBlocks x (l + 1) ++ drop (64 * (l + 1)) d
 unfolding laneBlocks
-blocks-more w s d l e h =
-    let next : 64 * l + length (serialised (added (lane w l) (lane s l))) ≡ 64 * (l + 1) = rw (length-lane-block w s l) (omega arith) in
-    grows (laneBlocks w s l) d (serialised (added (lane w l) (lane s l))) (64 * l) (64 * (l + 1)) e (length-lane-blocks w s l) next h ∙ rw (add-one l)
+blocks-more x d l e h =
+    let next : 64 * l + length (serialised (lane x l)) ≡ 64 * (l + 1) = rw (length-lane-block x l) (omega arith) in
+    grows (laneBlocks x l) d (serialised (lane x l)) (64 * l) (64 * (l + 1)) e (length-lane-blocks x l) next h ∙ rw (add-one l)
 
-pub blocks-all : (w s d : List ℕ) (n m : ℕ) {r : List ℕ} → r ≡ laneBlocks w s n ++ drop (64 * n) d → n ≡ m → length d ≤ 64 * m → r ≡ laneBlocks w s m
-blocks-all w s d n m e q h = e ∙ rw (q, drop-of-length-le d h) (append-nil (laneBlocks w s m))
+pub blocks-all : (x d : List ℕ) (n m : ℕ) {r : List ℕ} → r ≡ laneBlocks x n ++ drop (64 * n) d → n ≡ m → length d ≤ 64 * m → r ≡ laneBlocks x m
+blocks-all x d n m e q h = e ∙ rw (q, drop-of-length-le d h) (append-nil (laneBlocks x m))
 
 -- twenty rounds in every lane, and the sums: the blocks of eight counters
-pub lanes-blocks : (s w x : List ℕ) → Spread s w → Each twentyRounds w x → (n : ℕ) → n ≤ 8 → laneBlocks x w n ≡ blocksFrom s n
+pub lanes-blocks : (s w x : List ℕ) → Spread s w → Each twentyRounds w x → (n : ℕ) → n ≤ 8 → laneBlocks (wideAdded x w) n ≡ blocksFrom s n
 unfolding laneBlocks blocksFrom blockFrom
 lanes-blocks s w x from each zero h = refl
 lanes-blocks s w x from each (suc n) h =
     let less : n < 8 = omega arith in
-    rw (lanes-blocks s w x from each n (omega arith), each .at n less, from .at n less)
+    rw (lanes-blocks s w x from each n (omega arith), added-lanes x w n less, each .at n less, from .at n less)
 
 later-start : (key nonce : List ℕ) (c n : ℕ) → later (start key nonce c) n ≡ start key nonce (add32 c n)
 unfolding later start wordsOf tab

@@ -11,10 +11,10 @@ pub block : OneOutcome fn.block.ended fn.block.Reads.Post
 block κs a x y u v p q = (agree p q, refl)
 
 pub eight : OneOutcome fn.eight.ended fn.eight.Reads.Post
-eight κs a x y u v p q = (agree p q, refl)
+eight κs a x y u v p q = (refl, agree p q ∥ refl)
 
 pub lay : OneOutcome fn.lay.ended fn.lay.Reads.Post
 lay κs a x y u v p q = (refl, agree p q ∥ refl)
 
 pub lanes-eight-blocks : OneOutcome fn.lanes.eight_blocks.ended fn.lanes.eight_blocks.Reads.Post
-lanes-eight-blocks κs a x y u v p q = (agree p q, refl)
+lanes-eight-blocks κs a x y u v p q = (refl, agree p q ∥ refl)

@@ -6,7 +6,7 @@ use lib.ListN.{length, getD, set}
 use Rattle.base.specs.Lists.{tab}
 use Rattle.words.specs.Word.{add32}
 use Rattle.words.specs.Le.{serialised}
-use Rattle.chacha20.specs.ChaCha20.{added, blockFrom}
+use Rattle.chacha20.specs.ChaCha20.{blockFrom}
 
 -- the state in lane j
 unfoldable pub lane : List ℕ → ℕ → List ℕ
@@ -40,10 +40,14 @@ counters c = tab 8 (λ j. add32 c j)
 pub record Spread (s w : List ℕ) : Type 0 where
   pub at : (j : ℕ) → j < 8 → lane w j ≡ later s j
 
--- the blocks of lanes 0 to n - 1: the sums of what stands in w and in s
-unfoldable pub laneBlocks : List ℕ → List ℕ → ℕ → List ℕ
-laneBlocks w s zero = []
-laneBlocks w s (suc n) = laneBlocks w s n ++ serialised (added (lane w n) (lane s n))
+-- the sums of the words of both
+unfoldable pub wideAdded : List ℕ → List ℕ → List ℕ
+wideAdded w s = tab 128 (λ n. add32 (getD w n 0) (getD s n 0))
+
+-- lanes 0 to n - 1 as bytes, one after the other
+unfoldable pub laneBlocks : List ℕ → ℕ → List ℕ
+laneBlocks x zero = []
+laneBlocks x (suc n) = laneBlocks x n ++ serialised (lane x n)
 
 -- n blocks from the counter of s on
 unfoldable pub blocksFrom : List ℕ → ℕ → List ℕ

@@ -6,8 +6,8 @@ ghost use Prim.Native.Nat.{_+_, _*_, _<_};
 ghost use lib.ListN.{length};
 ghost use lib.Seq.{sets};
 ghost use Rattle.words.specs.Le.{serialised};
-ghost use Rattle.chacha20.specs.ChaCha20.{doubleRound, twentyRounds, added};
-ghost use Rattle.chacha20.specs.Lanes.{lane, LanesPut, Each, repeated, counters, Spread, laneBlocks, blocksFrom};
+ghost use Rattle.chacha20.specs.ChaCha20.{doubleRound, twentyRounds};
+ghost use Rattle.chacha20.specs.Lanes.{lane, LanesPut, Each, repeated, counters, Spread, wideAdded, laneBlocks, blocksFrom};
 
 // Two states.
 struct Two {
@@ -133,36 +133,49 @@ fn spread(s: [u32; 16]) -> [u32; 128]
     count(w, s[12])
 }
 
+// The sums of all words, before any of them is stored: so they are vectors too, and the stores are exchanges of whole vectors.
+fn wide_added(w: [u32; 128], s: [u32; 128]) -> [u32; 128]
+    ensures { λ r. ⌜ r ≡ wideAdded w s ⌝ }
+{
+    let mut x = [0u32; 128];
+    let mut i = 0;
+    while i < 128 {
+        x[i] = std::num::wrapping_add_u32(w[i], s[i]);
+        i += 1;
+    }
+    x
+}
+
 // The block of lane l, where it comes among the eight.
-fn store_lane(r: &mut [u8], w: &[u32; 128], s: &[u32; 128], l: usize)
+fn store_lane(r: &mut [u8], x: &[u32; 128], l: usize)
     requires { ⌜ (l < 8) × (length (now r) ≡ 512) ⌝ }
-    ensures { λ _. ⌜ now (r .exit) ≡ sets (now (r .entry)) (64 * l) (serialised (added (lane (now (w .entry)) l) (lane (now (s .entry)) l))) ⌝ }
+    ensures { λ _. ⌜ now (r .exit) ≡ sets (now (r .entry)) (64 * l) (serialised (lane (now (x .entry)) l)) ⌝ }
 {
     let mut i = 0;
     while i < 16 {
-        let x = std::num::wrapping_add_u32(w[8 * i + l], s[8 * i + l]);
-        words::store32(&mut *r, 64 * l + 4 * i, x);
+        words::store32(&mut *r, 64 * l + 4 * i, x[8 * i + l]);
         i += 1;
     }
 }
 
-fn wide_summed(w: [u32; 128], s: [u32; 128]) -> [u8; 512]
-    ensures { λ r. ⌜ r ≡ laneBlocks w s 8 ⌝ }
+fn store_lanes(r: &mut [u8], x: [u32; 128])
+    requires { ⌜ length (now r) ≡ 512 ⌝ }
+    ensures { λ _. ⌜ now (r .exit) ≡ laneBlocks x 8 ⌝ }
 {
-    let mut r = [0u8; 512];
     let mut l = 0;
     while l < 8 {
-        store_lane(&mut r, &w, &s, l);
+        store_lane(&mut *r, &x, l);
         l += 1;
     }
-    r
 }
 
-// Eight blocks from the state's counter on.
-pub fn eight_blocks(s: [u32; 16]) -> [u8; 512]
-    ensures { λ r. ⌜ r ≡ blocksFrom s 8 ⌝ }
+// Eight blocks from the state's counter on, in the place of r.
+pub fn eight_blocks(r: &mut [u8], s: [u32; 16])
+    requires { ⌜ length (now r) ≡ 512 ⌝ }
+    ensures { λ _. ⌜ now (r .exit) ≡ blocksFrom s 8 ⌝ }
 {
     let w = spread(s);
     let x = wide_rounds(w);
-    wide_summed(x, w)
+    let y = wide_added(x, w);
+    store_lanes(r, y);
 }

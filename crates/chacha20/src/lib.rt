@@ -158,12 +158,13 @@ pub fn block(key: [u8; 32], nonce: [u8; 12], counter: u32) -> [u8; 64]
     block_from(s)
 }
 
-// Eight blocks one after the other, from block `counter` on.
-pub fn eight(key: [u8; 32], nonce: [u8; 12], counter: u32) -> [u8; 512]
-    ensures { λ r. ⌜ r ≡ keystream key nonce counter 8 ⌝ }
+// Eight blocks one after the other, from block `counter` on, in the place of r: lent, since 512 bytes given back are copied.
+pub fn eight(r: &mut [u8], key: [u8; 32], nonce: [u8; 12], counter: u32)
+    requires { ⌜ length (now r) ≡ 512 ⌝ }
+    ensures { λ _. ⌜ now (r .exit) ≡ keystream key nonce counter 8 ⌝ }
 {
     let s = start_state(key, nonce, counter);
-    lanes::eight_blocks(s)
+    lanes::eight_blocks(r, s);
 }
 
 // How many bytes the block at `at` is laid over: 64, or what is left.
@@ -198,9 +199,10 @@ pub fn lay(d: &mut [u8], key: [u8; 32], nonce: [u8; 12], counter: u32)
 {
     let mut s = start_state(key, nonce, counter);
     let mut c = counter;
+    let mut k = [0u8; 512];
     let mut at = 0;
     while 512 <= d.len() - at {
-        let k = lanes::eight_blocks(s);
+        lanes::eight_blocks(&mut k, s);
         let e = at + 512;
         words::xor(&mut d[at..e], &k);
         c = std::num::wrapping_add_u32(c, 8);

@@ -20,7 +20,7 @@ pub lay-from : OneOutcome fn.lay_from.ended fn.lay_from.Reads.Post
 lay-from κs a x y u v p q = (refl, agree p q ∥ refl)
 
 pub pad-from : OneOutcome fn.pad_from.ended fn.pad_from.Reads.Post
-pad-from κs a x y u v p q = (agree p q, refl)
+pad-from κs a x y u v p q = (refl, agree p q ∥ refl)
 
 pub tag-of : OneOutcome fn.tag_of.ended fn.tag_of.Reads.Post
 tag-of κs a x y u v p q = (agree p q, refl)

@@ -119,20 +119,20 @@ pub fn lay_from(d: &mut [u8], lock: Lock, size: usize, f: u32, b: usize)
 }
 
 // 512 bytes of scratch: the pad of flake f from its byte b on, and zeros behind its end. Eight blocks at once where it reaches so far.
-pub fn pad_from(lock: Lock, size: usize, f: u32, b: usize) -> [u8; 512]
-    requires { ⌜ (size ≤ 4096) × (f < 64) × (b ≤ size) × (b % 64 ≡ 0) ⌝ }
-    ensures { λ r. ⌜ r ≡ padFrom lock f size b ⌝ }
+pub fn pad_from(r: &mut [u8], lock: Lock, size: usize, f: u32, b: usize)
+    requires { ⌜ (length (now r) ≡ 512) × (size ≤ 4096) × (f < 64) × (b ≤ size) × (b % 64 ≡ 0) ⌝ }
+    ensures { λ _. ⌜ now (r .exit) ≡ padFrom lock f size b ⌝ }
 {
     let n = size - b;
     if 512 <= n {
         let key = lock.key;
         let nonce = nonce_of(lock.keycount);
         let block = block_of(size, f, b);
-        return chacha20::eight(key, nonce, block);
+        chacha20::eight(&mut *r, key, nonce, block);
+        return;
     }
-    let mut r = [0u8; 512];
+    words::clear(&mut *r);
     lay_from(&mut r[0..n], lock, size, f, b);
-    r
 }
 
 pub fn tag_of(stored: &[u8], lock: Lock, f: u32) -> [u8; 16]

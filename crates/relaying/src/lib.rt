@@ -79,7 +79,8 @@ fn relay(
     if records::has(g.held, f) {
         if m.n < k.len() {
             let lock = g.lock;
-            let old = keys::pad_from(lock, size, f, at);
+            let mut old = [0u8; 512];
+            keys::pad_from(&mut old, lock, size, f, at);
             lay_beside(&mut *k, &old, here, end);
             lay_beside(&mut *k, stored, here, end);
         }
@@ -103,7 +104,8 @@ fn lay_piece(
     ensures { λ _. ⌜ now (piece .exit) ≡ relaid g lock f size start o (now (bytes .entry)) at (now (piece .entry)) ⌝ }
 {
     let n = piece.len();
-    let mut k = keys::pad_from(lock, size, f, at);
+    let mut k = [0u8; 512];
+    keys::pad_from(&mut k, lock, size, f, at);
     relay(&mut k[0..n], piece, g, f, size, at, start + at, o, bytes);
     words::copy(&mut *piece, 0, &k[0..n]);
 }

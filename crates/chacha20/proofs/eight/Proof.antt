@@ -10,10 +10,11 @@ start-state-requires c κs = search needs
 eight-blocks-requires : tie.Need-eight-blocks-requires
 eight-blocks-requires c κs = search needs
 
+same-length : tie.Need-same-length
+same-length c = search needs
+
 returns : tie.Need-returns
-returns c =
-    let a = c .before .before .args in
-    c .eight-blocks .ensures ∙ rw (c .before .start-state .ensures) (blocks-keystream (a .key) (a .nonce) (a .counter) 8)
+returns c = c .before .before .eight-blocks .ensures ∙ rw (c .before .before .before .before .start-state .ensures) (blocks-keystream _ _ _ 8)
 
 pub eight-spec : {M : Type 1} → statement M
-eight-spec = tie.close (tie.spec start-state-requires eight-blocks-requires returns)
+eight-spec = tie.close (tie.spec start-state-requires eight-blocks-requires same-length returns)

@@ -11,20 +11,23 @@ use Rattle.chacha20.proofs.lay.Statement.{statement}
 use Rattle.chacha20.proofs.lay.Tie as tie
 
 abbrev Inv-loop : tie.InvT-loop
-Inv-loop d₀ key nonce counter s₀ c₀ at₀ d s c at =
-    (length d ≡ length d₀) × (at ≤ length d) × (s ≡ start key nonce c) × (take at d ++ encrypted key nonce c (drop at d) ≡ encrypted key nonce counter d₀)
+Inv-loop d₀ key nonce counter s₀ c₀ k₀ at₀ d s c k at =
+    (length d ≡ length d₀) × (at ≤ length d) × (s ≡ start key nonce c) × (take at d ++ encrypted key nonce c (drop at d) ≡ encrypted key nonce counter d₀) × (length k ≡ 512)
 
 abbrev μ-loop : tie.MeasureT-loop
-μ-loop d₀ key nonce counter s₀ c₀ at₀ d s c at = length d₀ - at
+μ-loop d₀ key nonce counter s₀ c₀ k₀ at₀ d s c k at = length d₀ - at
 
 start-state-requires : tie.Need-start-state-requires Inv-loop μ-loop
 start-state-requires c κs = search needs
 
 loop-holds : tie.Need-loop-holds Inv-loop μ-loop
-loop-holds c = (refl, omega arith, c .start-state .ensures, refl)
+loop-holds c = (refl, omega arith, c .start-state .ensures, refl, refl)
 
 sub-loop : tie.Need-sub-loop Inv-loop μ-loop
 sub-loop c = search needs
+
+slice-aggregate-eight-blocks : tie.Need-slice-aggregate-eight-blocks Inv-loop μ-loop
+slice-aggregate-eight-blocks c = search needs
 
 eight-blocks-requires : tie.Need-eight-blocks-requires Inv-loop μ-loop
 eight-blocks-requires c κs = search needs
@@ -58,13 +61,14 @@ loop-less c = search needs
 
 loop-again : tie.Need-loop-again Inv-loop μ-loop
 loop-again c =
-    let s = c .before .before .before .before .before .before .before .before .loop in
+    let s = c .before .before .before .before .before .before .before .before .before .before .loop in
     let long = same-len-mid (s .at) (s .at + 512 - s .at) (s .d) (c .before .before .before .xor .last .0) (c .before .before .before .xor .kept .0) in (
       long ∙ s .inv .0,
       omega arith,
       next-start _ _ _ _ (s .inv .2),
-      eight-more _ _ (s .c) (s .d) (s .at) (s .at + 512 - s .at) (s .inv .2) (omega arith) (omega arith) (c .before .before .before .before .before .before .eight-blocks .ensures) (c .before .before .before .xor .ensures) (c .wrapping-add-u32 .ensures)
+      eight-more _ _ (s .c) (s .d) (s .at) (s .at + 512 - s .at) (s .inv .2) (omega arith) (omega arith) (c .before .before .before .before .before .before .before .eight-blocks .ensures) (c .before .before .before .xor .ensures) (c .wrapping-add-u32 .ensures)
           ∙ s .inv .3,
+      c .before .before .before .before .before .before .before .eight-blocks .kept .0 ∙ s .inv .4,
     )
 
 sub-lay-rest : tie.Need-sub-lay-rest Inv-loop μ-loop
@@ -96,6 +100,7 @@ lay-spec =
     start-state-requires
     loop-holds
     sub-loop
+    slice-aggregate-eight-blocks
     eight-blocks-requires
     add-e
     sub-xor

@@ -3,6 +3,7 @@ use Rattle.keys.proofs.StreamLaws.{pad-eight, pad-rest}
 use Prim.Native.Nat.{_+_, _-_, _/_, _<_, _^_}
 use native.Mathlib.Omega.{arith}
 use mathlib.Core.Path.{_≡_, refl, _∙_}
+use lib.ListN.{replicate}
 use borrow.Author.Needs.{needs}
 use Rattle.keys.proofs.pad_from.Statement.{statement}
 use Rattle.keys.proofs.pad_from.Tie as tie
@@ -19,33 +20,44 @@ block-of-requires c κs = search needs
 eight-requires : tie.Need-eight-requires
 eight-requires c κs = search needs
 
+same-length : tie.Need-same-length
+same-length c = search needs
+
 returns : tie.Need-returns
 returns c =
-    let a = c .before .before .before .before .before .args in
-    let pre = c .before .before .before .before .before .pre in
-    let b = c .before .block-of .ensures in
+    let a = c .before .before .before .before .before .before .before .before .before .args in
+    let pre = c .before .before .before .before .before .before .before .before .before .pre in
+    let b = c .before .before .before .before .block-of .ensures in
     let low : firstBlock (a .size) (a .f) + a .b / 64 < 2 ^ 20 = rw (← (b .0)) (b .1) in
-    c .eight .ensures ∙ rw (c .before .before .nonce-of .ensures, b .0) (pad-eight (a .lock) (a .f) (a .size) (a .b) (pre .3) (omega arith) low)
+    c .before .before .eight .ensures
+    ∙ rw (c .before .before .before .before .before .nonce-of .ensures, b .0) (pad-eight (a .lock) (a .f) (a .size) (a .b) (pre .4) (omega arith) low)
+
+clear-requires : tie.Need-clear-requires
+clear-requires c κs = search needs
 
 sub-lay-from : tie.Need-sub-lay-from
 sub-lay-from c = search needs
 
-part-r-start : tie.Need-part-r-start
-part-r-start c = search needs
+part-lay-from-start : tie.Need-part-lay-from-start
+part-lay-from-start c = search needs
 
-part-r-end : tie.Need-part-r-end
-part-r-end c = search needs
+part-lay-from-end : tie.Need-part-lay-from-end
+part-lay-from-end c = search needs
 
 lay-from-requires : tie.Need-lay-from-requires
 lay-from-requires c κs = search needs
 
+same-length-2 : tie.Need-same-length-2
+same-length-2 c = search needs
+
 returns-2 : tie.Need-returns-2
 returns-2 c =
-    let a = c .before .before .before .before .args in
-    let pre = c .before .before .before .before .pre in
+    let a = c .before .before .before .before .before .before .before .before .before .before .args in
+    let pre = c .before .before .before .before .before .before .before .before .before .before .pre in
     let n = a .size - a .b in
     let none : n - 0 ≡ n = omega arith in
-    rw none (pad-rest (a .lock) (a .f) (a .size) (a .b) (pre .3) n refl (pre .2) (omega arith) (rw none at (c .before .lay-from .ensures)))
+    let zeros : c .before .before .before .before .before .before .clear .last .0 ≡ replicate 512 0 = rw (pre .0) at (c .before .before .before .before .before .before .clear .ensures) in
+    rw (none, zeros) (pad-rest (a .lock) (a .f) (a .size) (a .b) (pre .4) n refl (pre .3) (omega arith) (rw (none, zeros) at (c .before .before .lay-from .ensures)))
 
 pub pad-from-spec : {M : Type 1} → statement M
 pad-from-spec =
@@ -55,9 +67,12 @@ pad-from-spec =
     nonce-of-requires
     block-of-requires
     eight-requires
+    same-length
     returns
+    clear-requires
     sub-lay-from
-    part-r-start
-    part-r-end
+    part-lay-from-start
+    part-lay-from-end
     lay-from-requires
+    same-length-2
     returns-2)

@@ -43,6 +43,9 @@ xor-requires c κs = search needs
 has-requires : tie.Need-has-requires
 has-requires c κs = search needs
 
+slice-aggregate-pad-from : tie.Need-slice-aggregate-pad-from
+slice-aggregate-pad-from c = search needs
+
 pad-from-requires : tie.Need-pad-from-requires
 pad-from-requires c κs = search needs
 
@@ -60,13 +63,13 @@ same-length c = search needs
 
 returns : tie.Need-returns
 returns c =
-    let a = c .before .before .before .before .before .before .before .before .before .before .before .before .before .before .before .before .before .before .before .before .before .before .before .before .before .before .args in
-    let pre = c .before .before .before .before .before .before .before .before .before .before .before .before .before .before .before .before .before .before .before .before .before .before .before .before .before .before .pre in
-    let r = c .before .before .before .before .before .before .before .before .before .before .before .before .before .before .before .before .before .before .before .before .before .before .meet .result in
+    let a = c .before .before .before .before .before .before .before .before .before .before .before .before .before .before .before .before .before .before .before .before .before .before .before .before .before .before .before .before .args in
+    let pre = c .before .before .before .before .before .before .before .before .before .before .before .before .before .before .before .before .before .before .before .before .before .before .before .before .before .before .before .before .pre in
+    let r = c .before .before .before .before .before .before .before .before .before .before .before .before .before .before .before .before .before .before .before .before .before .before .before .before .meet .result in
     let n : r .at + r .n - r .at ≡ r .n = omega arith in
     let m : r .from + r .n - r .from ≡ r .n = omega arith in
-    let ey : c .before .before .before .before .before .before .before .before .before .before .before .before .before .before .before .before .before .xor .last .0 ≡ xorl (part (r .at) (r .n) (a .k .now)) (part (r .from) (r .n) (a .bytes .now)) = rw (n, m) at (c .before .before .before .before .before .before .before .before .before .before .before .before .before .before .before .before .before .xor .ensures) in
-    relay-held (a .g) (a .f) (a .size) (a .at) (a .start) (a .o) (a .bytes .now) (a .stored .now) (a .k .now) (r .at) (r .n) (r .from) (c .before .before .before .before .before .before .before .before .before .before .before .before .before .before .before .before .before .before .before .before .before .before .meet .ensures) ey (sym (c .before .before .before .before .before .before .before .before .before .before .before .before .before .before .has .ensures) ∙ c .before .before .before .before .before .before .before .before .before .before .before .before .before .if1 .taken) (pre .3) (rw n refl) (c .before .before .before .before .before .before .before .before .before .pad-from .ensures) (c .before .before .before .before .before .before .lay-beside .ensures) (c .before .before .lay-beside2 .ensures)
+    let ey : c .before .before .before .before .before .before .before .before .before .before .before .before .before .before .before .before .before .before .before .xor .last .0 ≡ xorl (part (r .at) (r .n) (a .k .now)) (part (r .from) (r .n) (a .bytes .now)) = rw (n, m) at (c .before .before .before .before .before .before .before .before .before .before .before .before .before .before .before .before .before .before .before .xor .ensures) in
+    relay-held (a .g) (a .f) (a .size) (a .at) (a .start) (a .o) (a .bytes .now) (a .stored .now) (a .k .now) (r .at) (r .n) (r .from) (c .before .before .before .before .before .before .before .before .before .before .before .before .before .before .before .before .before .before .before .before .before .before .before .before .meet .ensures) ey (sym (c .before .before .before .before .before .before .before .before .before .before .before .before .before .before .before .before .has .ensures) ∙ c .before .before .before .before .before .before .before .before .before .before .before .before .before .before .before .if1 .taken) (pre .3) (rw n refl) (c .before .before .before .before .before .before .before .before .before .before .pad-from .ensures) (c .before .before .before .before .before .before .lay-beside .ensures) (c .before .before .lay-beside2 .ensures)
 
 same-length-2 : tie.Need-same-length-2
 same-length-2 c = search needs
@@ -110,6 +113,7 @@ relay-spec =
     part-xor-end-2
     xor-requires
     has-requires
+    slice-aggregate-pad-from
     pad-from-requires
     slice-aggregate-lay-beside
     lay-beside-requires

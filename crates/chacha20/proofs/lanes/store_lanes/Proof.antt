@@ -6,21 +6,18 @@ use native.Mathlib.Omega.{arith}
 use lib.ListN.{length, drop}
 use Rattle.chacha20.specs.Lanes.{laneBlocks}
 use Rattle.chacha20.proofs.LaneLaws.{blocks-more, blocks-all}
-use Rattle.chacha20.proofs.lanes.wide_summed.Statement.{statement}
-use Rattle.chacha20.proofs.lanes.wide_summed.Tie as tie
+use Rattle.chacha20.proofs.lanes.store_lanes.Statement.{statement}
+use Rattle.chacha20.proofs.lanes.store_lanes.Tie as tie
 
 abbrev Inv-loop : tie.InvT-loop
-Inv-loop w s r₀ l₀ r l = (l ≤ 8) × (length r ≡ 512) × (r ≡ laneBlocks w s l ++ drop (64 * l) r₀)
+Inv-loop r₀ x l₀ r l = (l ≤ 8) × (length r ≡ length r₀) × (r ≡ laneBlocks x l ++ drop (64 * l) r₀)
 
 abbrev μ-loop : tie.MeasureT-loop
-μ-loop w s r₀ l₀ r l = 8 - l
+μ-loop r₀ x l₀ r l = 8 - l
 
 loop-holds : tie.Need-loop-holds Inv-loop μ-loop
 unfolding laneBlocks
 loop-holds c = (omega arith, refl, refl)
-
-slice-aggregate-store-lane : tie.Need-slice-aggregate-store-lane Inv-loop μ-loop
-slice-aggregate-store-lane c = search needs
 
 store-lane-requires : tie.Need-store-lane-requires Inv-loop μ-loop
 store-lane-requires c κs = search needs
@@ -33,21 +30,25 @@ loop-less c = search needs
 
 loop-again : tie.Need-loop-again Inv-loop μ-loop
 loop-again c =
-    (omega arith, c .before .store-lane .kept .0 ∙ c .before .before .before .before .before .before .loop .inv .1, c .before .store-lane .ensures ∙ blocks-more _ _ _ _ (c .before .before .before .before .before .before .loop .inv .2) (omega arith))
+    let s = c .before .before .before .before .before .before .loop in
+    (omega arith, c .before .before .store-lane .kept .0 ∙ s .inv .1, c .before .before .store-lane .ensures ∙ blocks-more _ _ _ (s .inv .2) (omega arith))
+
+same-length : tie.Need-same-length Inv-loop μ-loop
+same-length c = search needs
 
 returns : tie.Need-returns Inv-loop μ-loop
-returns c = blocks-all _ _ _ _ 8 (c .before .loop .inv .2) (omega arith) (omega arith)
+returns c = blocks-all _ _ _ 8 (c .before .loop .inv .2) (omega arith) (omega arith)
 
-pub wide-summed-spec : {M : Type 1} → statement M
-wide-summed-spec =
+pub store-lanes-spec : {M : Type 1} → statement M
+store-lanes-spec =
     tie.close
     (tie.spec
     Inv-loop
     μ-loop
     loop-holds
-    slice-aggregate-store-lane
     store-lane-requires
     add-l
     loop-less
     loop-again
+    same-length
     returns)
