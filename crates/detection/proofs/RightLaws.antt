@@ -1,5 +1,5 @@
 -- From the tests to the bytes: an accepted path, an accepted test of flakes, an accepted whole and an accepted opening.
-use mathlib.Core.Path.{_≡_, refl, sym, _∙_}
+use mathlib.Core.Path.{_≡_, refl, sym, ap, _∙_}
 use mathlib.Core.Bool.{true, false}
 use mathlib.Core.Logic.{_⊎_, inl, inr}
 use mathlib.Core.List.{List}
@@ -9,10 +9,10 @@ use native.Mathlib.Omega.{arith}
 use lib.Dec.{eqb}
 use borrow.Author.Tests.{eqb-true, eqb-false, eq-eqb}
 use Rattle.base.specs.Lists.{part, same}
-use Rattle.base.proofs.PickLaws.{told, either-left, either-right, both-left, both-right}
+use Rattle.base.proofs.PickLaws.{yes, no, told, either-left, either-right, both-left, both-right}
 use Rattle.base.proofs.FoldLaws.{same-true}
 use Rattle.layout.specs.declared.Shape.{Shape}
-use Rattle.layout.specs.Shape.{heightOf, leaves}
+use Rattle.layout.specs.Shape.{isOne, heightOf, leaves}
 use Rattle.layout.specs.Parts.{nodeAt}
 use Rattle.layout.specs.Shaped.{Shaped}
 use Rattle.layout.proofs.Limits.{lent-small}
@@ -24,7 +24,9 @@ use Rattle.records.specs.Journal.{bit}
 use Rattle.records.specs.Record.{wellFormed, recordOf}
 use Rattle.records.proofs.BitLaws.{none-above, lies-bits}
 use Rattle.records.proofs.RuleLaws.{formed-spent, formed-lies, formed-epoch, formed-keycount}
-use Rattle.keys.specs.Tags.{covered, tagOf}
+use Rattle.poly1305.specs.Poly1305.{poly1305}
+use Rattle.keys.specs.Keys.{tagKey}
+use Rattle.keys.specs.Tags.{laidOut, named, covered, tagOf}
 use Rattle.nodes.specs.Nodes.{leafOf, innerOf, zeroLeaf}
 use Rattle.nodes.proofs.MadeLaws.{made-leaf, made-inner, made-bottom, bottom-zero}
 use Rattle.tree.specs.Good.{upward}
@@ -37,9 +39,9 @@ use Rattle.drive.specs.Head.{headOf}
 use Rattle.drive.specs.Opening.{headStands, openingOf}
 use Rattle.drive.proofs.OpeningLaws.{opening-told}
 use Rattle.nuggets.specs.declared.Nugget.{Nugget}
-use Rattle.nuggets.specs.Nugget.{nuggetOf}
+use Rattle.nuggets.specs.Nugget.{lockFor, nuggetOf}
 use Rattle.nuggets.specs.Tests.{goodFlake, passes, flakesUp, flakesTested, flakesOf, pathFor}
-use Rattle.detection.specs.Right.{HeadRight, Formed, stepsUp, PathGood, TagRight, WholeGood}
+use Rattle.detection.specs.Right.{HeadRight, Formed, stepsUp, PathGood, tagFor, TagRight, WholeGood}
 
 pub head-right : (d : Drive) (v : List ℕ) → openingOf d v ≡ A.Accepted → HeadRight d v
 unfolding headStands
@@ -113,7 +115,17 @@ flakes-each s v g mask (suc k) f e i a b on =
     go (inl q) here later = rw on at (rw (eqb-true f i q) at here)
     go (inr q) here later = later (omega (arith, eqb-false f i q))
 
+-- what a tag is over, by the shape's version
+pub tag-first : (d : Drive) (v : List ℕ) (n f : ℕ) (stored : List ℕ) → isOne (shapeOf d) ≡ true → tagFor d v n f stored ≡ poly1305 (tagKey (lockFor d v n) f) stored
+unfolding covered
+tag-first d v n f stored e = ap (poly1305 (tagKey (lockFor d v n) f)) (yes _ e refl)
+
+pub tag-later : (d : Drive) (v : List ℕ) (n f : ℕ) (stored : List ℕ) → isOne (shapeOf d) ≡ false
+    → tagFor d v n f stored ≡ poly1305 (tagKey (lockFor d v n) f) (laidOut (named (lockFor d v n) f) stored)
+unfolding covered
+tag-later d v n f stored e = ap (poly1305 (tagKey (lockFor d v n) f)) (no _ e refl)
+
 -- the tag of each flake of the set
 pub tag-right : (d : Drive) (v : List ℕ) (n mask f : ℕ) → flakesOf d v n mask ≡ A.Accepted → f < d .p → bit mask f ≡ true → TagRight d v n f
-unfolding flakesTested goodFlake tagOf covered
+unfolding flakesTested goodFlake tagOf
 tag-right d v n mask f e h on = same-true _ _ (flakes-each (shapeOf d) v (nuggetOf d v n) mask (d .p) 0 e f (omega arith) (omega (arith, h)) on)

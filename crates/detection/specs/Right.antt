@@ -15,6 +15,7 @@ use Rattle.layout.specs.Parts.{lengthOf, tagAt}
 use Rattle.records.specs.declared.Record.{Record}
 use Rattle.records.specs.Journal.{bit}
 use Rattle.keys.specs.Keys.{tagKey}
+use Rattle.keys.specs.Tags.{covered}
 use Rattle.nodes.specs.Nodes.{nodeIn, recordPart, tagsPart}
 use Rattle.records.specs.Record.{recordOf}
 use Rattle.drive.specs.declared.Drive.{Drive}
@@ -59,9 +60,9 @@ pub record PathGood (d : Drive) (v : List ℕ) (n : ℕ) : Type 0 where
 abbrev pub SaysPresent : Drive → List ℕ → ℕ → ℕ → Type 0
 SaysPresent d v n f = bit (recordOf (shapeOf d) v n .held) f ≡ true
 
--- "Tag = Poly1305 under the tag key over the stored flake.": the tag of these bytes as flake f of nugget n
+-- "Tag = Poly1305 under the tag key over the stored flake.", which in version 2 is named first: the tag of these bytes as flake f of nugget n
 abbrev pub tagFor : Drive → List ℕ → ℕ → ℕ → List ℕ → List ℕ
-tagFor d v n f stored = poly1305 (tagKey (lockFor d v n) f) stored
+tagFor d v n f stored = poly1305 (tagKey (lockFor d v n) f) (covered (lockFor d v n) f stored)
 
 abbrev pub TagRight : Drive → List ℕ → ℕ → ℕ → Type 0
 TagRight d v n f = part (tagAt (shapeOf d) n f) 16 v ≡ tagFor d v n f (storedIn (shapeOf d) v n f)

@@ -113,8 +113,8 @@ entries-listed x calls = sound x calls .inv .tally
 -- a present flake's tag, under the key of its nugget
 flake-tag : (w : World) → Sound w → (n f : ℕ) → n < w .drive .n → f < w .drive .p → bit (recordOf (shapeOf (w .drive)) (w .vol) n .held) f ≡ true
     → part (tagAt (shapeOf (w .drive)) n f) 16 (w .vol)
-    ≡ poly1305 (tagKey (lockOf (shapeOf (w .drive)) (w .drive .salt) (entryAt (ledgerOf w) n f)) f) (storedIn (shapeOf (w .drive)) (w .vol) n f)
-unfolding goodFlake tagOf covered secretAt secretFor
+    ≡ (let lock = lockOf (shapeOf (w .drive)) (w .drive .salt) (entryAt (ledgerOf w) n f) in poly1305 (tagKey lock f) (covered lock f (storedIn (shapeOf (w .drive)) (w .vol) n f)))
+unfolding goodFlake tagOf secretAt secretFor
 flake-tag w x n f a b on = same-true _ _ (x .untouched .tags n f a b on)
 
 pub under-last-pad : UnderLastPad

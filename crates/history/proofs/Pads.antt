@@ -119,7 +119,7 @@ module _ (x : Start) where
 
   same-tag-key : (e g : Entry) → Within e → Within g → tagSource x e ≡ tagSource x g → SameEntry e g
   same-tag-key e g l m same =
-      let told = tag-told (e .flake) (g .flake) (e .keycount) (g .keycount) (omega (arith, l .flake)) (omega (arith, m .flake)) (l .count) (m .count)
+      let told = tag-told (x .shape .version) (e .flake) (g .flake) (e .keycount) (g .keycount) (omega (arith, l .flake)) (omega (arith, m .flake)) (l .count) (m .count)
       (ap (λ (s : TagSource). s .message) same) in
       record { nuggets = nuggets e g l m (ap (λ (s : TagSource). s .nugget) same); keycounts = told .1; flakes = told .0 }
 

@@ -28,6 +28,7 @@ use Rattle.records.specs.Journal.{bit}
 use Rattle.records.specs.Listing.{Entry}
 use Rattle.poly1305.specs.Poly1305.{poly1305}
 use Rattle.keys.specs.Keys.{tagKey}
+use Rattle.keys.specs.Tags.{covered}
 use Rattle.keys.specs.Pads.{padOf}
 use Rattle.drive.specs.Drive.{shapeOf}
 use Rattle.opening.specs.Mount.{mountAnswer, mountDone}
@@ -129,7 +130,7 @@ unfoldable pub plainIn : Shape → (ℕ → ℕ) → ℕ → ℕ → List ℕ
 plainIn s contents n f = tab (s .f) (λ b. contents (offsetAt s n f b))
 
 -- a flake is its contents xor the pad last listed for it, that pad is of the secret of its nugget's epoch and of its nugget's
--- keycount, and the flake's tag is Poly1305 under that pad's tag key over the stored bytes; what pads and keys are made of: Pads.antt
+-- keycount, and the flake's tag is Poly1305 under that pad's tag key over the stored bytes, in version 2 with their names; what pads and keys are made of: Pads.antt
 pub record LastPad (w : World) (n f : ℕ) : Type 0 where
   pub pad : Entry
   pub last : lastOf n f (w .listing) ≡ some pad
@@ -138,7 +139,7 @@ pub record LastPad (w : World) (n f : ℕ) : Type 0 where
   pub secret : pad .secret ≡ secretFor (w .drive) (recordOf (shapeOf (w .drive)) (w .vol) n .epoch)
   pub keycount : pad .keycount ≡ recordOf (shapeOf (w .drive)) (w .vol) n .keycount
   pub tagged : part (tagAt (shapeOf (w .drive)) n f) 16 (w .vol)
-      ≡ poly1305 (tagKey (lockOf (shapeOf (w .drive)) (w .drive .salt) pad) f) (storedIn (shapeOf (w .drive)) (w .vol) n f)
+      ≡ (let lock = lockOf (shapeOf (w .drive)) (w .drive .salt) pad in poly1305 (tagKey lock f) (covered lock f (storedIn (shapeOf (w .drive)) (w .vol) n f)))
 
 -- 4. "Each present flake is its contents under the pad last listed for it."
 abbrev pub UnderLastPad : Type 0

@@ -10,7 +10,7 @@ use mathlib.Core.List.{List, [], _++_}
 use mathlib.Core.Option.{some}
 use lib.ListN.{getElem?}
 use Rattle.base.specs.Lists.{part}
-use Rattle.messages.specs.Messages.{nuggetMessage, tagMessage}
+use Rattle.messages.specs.Messages.{nuggetMessage, tagMessage, tagLetter}
 use Rattle.messages.specs.OneMessage.{Message, forCheck, forSeal, forLeaf, forInner, bytesOf, Wide}
 use Rattle.layout.specs.declared.Shape.{Shape}
 use Rattle.layout.specs.Shape.{leaves}
@@ -79,7 +79,9 @@ pub record TagSource : Type 0 where
   pub message : List ℕ
 
 abbrev pub tagSource : Start → Entry → TagSource
-tagSource start e = record { secret = e .secret; nugget = nuggetMessage (start .salt) (e .nugget); message = tagMessage (e .flake) (e .keycount) }
+tagSource start e =
+    let message = tagMessage (tagLetter (start .shape .version)) (e .flake) (e .keycount) in
+    record { secret = e .secret; nugget = nuggetMessage (start .salt) (e .nugget); message = message }
 
 -- An entry's tag key is made of nothing else.
 abbrev pub TagKeyMade : Type 0

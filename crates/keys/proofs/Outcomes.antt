@@ -22,5 +22,11 @@ lay-from κs a x y u v p q = (refl, agree p q ∥ refl)
 pub pad-from : OneOutcome fn.pad_from.ended fn.pad_from.Reads.Post
 pad-from κs a x y u v p q = (refl, agree p q ∥ refl)
 
+pub tag-laid-out : OneOutcome fn.tag_laid_out.ended fn.tag_laid_out.Reads.Post
+tag-laid-out κs a x y u v p q = (agree p q, refl)
+
+pub name-of : OneOutcome fn.name_of.ended fn.name_of.Reads.Post
+name-of κs a x y u v p q = (agree p q, refl)
+
 pub tag-of : OneOutcome fn.tag_of.ended fn.tag_of.Reads.Post
 tag-of κs a x y u v p q = (agree p q, refl)

@@ -1,7 +1,7 @@
 -- Document 01, "Keys, pads and hashes": "All hashes are BLAKE2s with 32 bytes out." Their messages are those of crate `messages`.
 use mathlib.Core.List.{List}
 use Prim.Native.Nat.{ℕ}
-use Rattle.messages.specs.Messages.{nuggetMessage, tagMessage, checkMessage, sealMessage}
+use Rattle.messages.specs.Messages.{nuggetMessage, tagMessage, tagLetter, checkMessage, sealMessage}
 use Rattle.blake2s.specs.Hash.{blake2s}
 use Rattle.keys.specs.declared.Lock.{Lock}
 
@@ -9,9 +9,9 @@ use Rattle.keys.specs.declared.Lock.{Lock}
 unfoldable pub nuggetKey : List ℕ → List ℕ → ℕ → List ℕ
 nuggetKey secret salt n = blake2s secret (nuggetMessage salt n)
 
--- "Tag key: keyed with the nugget key, `F`, flake (2), keycount (8)."
+-- "Tag key: keyed with the nugget key, `F`, flake (2), keycount (8)."; in version 2 `G`
 unfoldable pub tagKey : Lock → ℕ → List ℕ
-tagKey lock f = blake2s (lock .key) (tagMessage f (lock .keycount))
+tagKey lock f = blake2s (lock .key) (tagMessage (tagLetter (lock .version)) f (lock .keycount))
 
 -- "Old-secret check: keyed with the old secret, `O`, salt, head epoch (2)."
 unfoldable pub checkOf : List ℕ → List ℕ → ℕ → List ℕ

@@ -3,19 +3,23 @@
 ghost use mathlib.Core.Path.{_≡_};
 ghost use mathlib.Core.List.{_∷_, _++_};
 ghost use Prim.Native.Nat.{_+_, _/_, _%_, _^_, _<_, _≤_};
-ghost use lib.ListN.{length, drop};
+ghost use lib.ListN.{length, drop, replicate};
+ghost use Rattle.words.specs.Le.{le};
 ghost use Rattle.words.specs.Xor.{xorl};
 ghost use Rattle.chacha20.specs.ChaCha20.{keystream, blocks};
+ghost use Rattle.messages.specs.Messages.{tagLetter};
+ghost use Rattle.poly1305.specs.Poly1305.{poly1305};
 ghost use Rattle.blake2s.specs.Hash.{blake2s};
 ghost use Rattle.keys.specs.Keys.{nuggetKey, tagKey, checkOf, sealOf};
 ghost use Rattle.keys.specs.Pads.{nonceOf, firstBlock, padOf, padFrom};
-ghost use Rattle.keys.specs.Tags.{tagOf};
+ghost use Rattle.keys.specs.Tags.{pad16, laidOut, named, tagOf};
 
-// Under what a nugget's flakes lie: the nugget, its key, its keycount. Pads and tags are functions of it.
+// Under what a nugget's flakes lie: the nugget, its key, its keycount, and the volume's version. Pads and tags are functions of it.
 pub struct Lock {
     pub number: u32,
     pub key: [u8; 32],
     pub keycount: u64,
+    pub version: u16,
 }
 
 // The hash of a letter and two parts, keyed.
@@ -38,6 +42,16 @@ pub fn nugget_key(secret: [u8; 32], salt: [u8; 16], n: u32) -> [u8; 32]
     lettered(secret, b'N', &salt, &number)
 }
 
+// "The tag key's letter becomes `G`."
+fn letter_of(version: u16) -> u8
+    ensures { λ r. ⌜ r ≡ tagLetter version ⌝ }
+{
+    if version == 1 {
+        return b'F';
+    }
+    b'G'
+}
+
 pub fn tag_key(lock: Lock, f: u32) -> [u8; 32]
     ensures { λ r. ⌜ r ≡ tagKey lock f ⌝ }
 {
@@ -46,7 +60,8 @@ pub fn tag_key(lock: Lock, f: u32) -> [u8; 32]
     let mut count = [0u8; 8];
     words::store(&mut flake, 0, 2, f as u64);
     words::store(&mut count, 0, 8, lock.keycount);
-    lettered(key, b'F', &flake, &count)
+    let letter = letter_of(lock.version);
+    lettered(key, letter, &flake, &count)
 }
 
 pub fn check_of(old: [u8; 32], salt: [u8; 16], epoch: u16) -> [u8; 32]
@@ -135,11 +150,67 @@ pub fn pad_from(r: &mut [u8], lock: Lock, size: usize, f: u32, b: usize)
     lay_from(&mut r[0..n], lock, size, f, b);
 }
 
+// Poly1305 over three pieces, one behind the other: what the tags of both versions come to.
+fn over(key: [u8; 32], front: &[u8], text: &[u8], back: &[u8]) -> [u8; 16]
+    ensures { λ r. ⌜ r ≡ poly1305 key (now (front .entry) ++ (now (text .entry) ++ now (back .entry))) ⌝ }
+{
+    let s0 = poly1305::start(key);
+    let s1 = poly1305::absorb(s0, front);
+    let s2 = poly1305::absorb(s1, text);
+    let s3 = poly1305::absorb(s2, back);
+    poly1305::finish(s3)
+}
+
+// Associated data of one block at most, with its padding.
+fn front_of(ad: &[u8]) -> [u8; 16]
+    requires { ⌜ (0 < length (now ad)) × (length (now ad) ≤ 16) ⌝ }
+    ensures { λ r. ⌜ r ≡ now (ad .entry) ++ pad16 (now (ad .entry)) ⌝ }
+{
+    let mut r = [0u8; 16];
+    words::copy(&mut r, 0, ad);
+    r
+}
+
+// A block of zeros, of which the text's padding is the end, and the two lengths.
+fn back_of(ad: usize, text: usize) -> [u8; 32]
+    ensures { λ r. ⌜ r ≡ replicate 16 0 ++ (le 8 ad ++ le 8 text) ⌝ }
+{
+    let mut r = [0u8; 32];
+    words::store(&mut r, 16, 8, ad as u64);
+    words::store(&mut r, 24, 8, text as u64);
+    r
+}
+
+// Poly1305 over associated data and text as RFC 8439 2.8 lays them out.
+pub fn tag_laid_out(key: [u8; 32], ad: &[u8], text: &[u8]) -> [u8; 16]
+    requires { ⌜ (0 < length (now ad)) × (length (now ad) ≤ 16) ⌝ }
+    ensures { λ r. ⌜ r ≡ poly1305 key (laidOut (now (ad .entry)) (now (text .entry))) ⌝ }
+{
+    let front = front_of(ad);
+    let back = back_of(ad.len(), text.len());
+    let at = (text.len() % 16 + 15) % 16 + 1;
+    over(key, &front, text, &back[at..32])
+}
+
+// What a tag of version 2 names.
+pub fn name_of(lock: Lock, f: u32) -> [u8; 14]
+    ensures { λ r. ⌜ r ≡ named lock f ⌝ }
+{
+    let mut r = [0u8; 14];
+    words::store(&mut r, 0, 4, lock.number as u64);
+    words::store(&mut r, 4, 2, f as u64);
+    words::store(&mut r, 6, 8, lock.keycount);
+    r
+}
+
 pub fn tag_of(stored: &[u8], lock: Lock, f: u32) -> [u8; 16]
     ensures { λ r. ⌜ r ≡ tagOf lock f (now (stored .entry)) ⌝ }
 {
     let t = tag_key(lock, f);
-    let s = poly1305::start(t);
-    let a = poly1305::absorb(s, stored);
-    poly1305::finish(a)
+    if lock.version == 1 {
+        let none = [0u8; 0];
+        return over(t, &none, stored, &none);
+    }
+    let name = name_of(lock, f);
+    tag_laid_out(t, &name, stored)
 }

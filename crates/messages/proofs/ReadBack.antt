@@ -1,17 +1,19 @@
 -- A message is read back from its bytes, so no two have the same.
 use mathlib.Core.Path.{_≡_, refl, sym, ap, ap₂, _∙_}
+use mathlib.Core.Bool.{Bool, true, false}
 use mathlib.Core.Logic.{_⊎_, inl, inr}
 use mathlib.Core.List.{List, [], _∷_, _++_}
 use Prim.Native.Nat.{ℕ, _+_, _%_, _^_, _<_}
 use native.Mathlib.Omega.{arith}
 use lib.Dec.{eqb}
-use lib.ListN.{length, length-append, take, drop}
+use lib.ListN.{length, length-append, getD, take, drop}
 use lib.Seq.{take-append-seam, drop-append-seam}
-use Rattle.base.specs.Pick.{pick}
+use Rattle.base.specs.Pick.{pick, either}
+use Rattle.base.proofs.PickLaws.{yes, no}
 use Rattle.words.specs.Le.{num, le}
 use Rattle.words.proofs.LeLaws.{num-le, length-le}
-use Rattle.messages.specs.Messages.{letterN, letterF, letterO, letterH, letterL, nuggetMessage, tagMessage}
-use Rattle.messages.specs.OneMessage.{Message, forNugget, forTag, forCheck, forSeal, forLeaf, forInner, bytesOf, Wide, OneMessage}
+use Rattle.messages.specs.Messages.{letterN, letterF, letterG, letterO, letterH, letterL, nuggetMessage, tagMessage, isFirst, tagLetter}
+use Rattle.messages.specs.OneMessage.{Message, forNugget, forTag, forCheck, forSeal, forLeaf, forInner, bytesOf, Wide, OneMessage, VersionsApart}
 
 -- the first k bytes, and those behind them
 front : (k : ℕ) (a b : List ℕ) → length a ≡ k → take k (a ++ b) ≡ a
@@ -33,11 +35,16 @@ width-told bytes tags (inr e) h = let q : (4 + (26 + length tags)) % 16 ≡ 14 =
 told : ℕ → List ℕ → Message
 told letter l =
     pick (eqb letter letterN) (forNugget (take 16 l) (num (drop 16 l)))
-    (pick (eqb letter letterF) (forTag (num (take 2 l)) (num (drop 2 l)))
+    (pick (either (eqb letter letterF) (eqb letter letterG)) (forTag letter (num (take 2 l)) (num (drop 2 l)))
     (pick (eqb letter letterO) (forCheck (take 16 l) (num (drop 16 l)))
     (pick (eqb letter letterH) (forSeal (take 72 l) (drop 72 l))
     (pick (eqb letter letterL) (forLeaf (num (take 4 l)) (take (recordWidth (length l)) (drop 4 l)) (drop (recordWidth (length l)) (drop 4 l)))
     (forInner (take 32 l) (drop 32 l))))))
+
+tag-key-told : (letter : ℕ) (l : List ℕ) → (letter ≡ letterF) ⊎ (letter ≡ letterG) → told letter l ≡ forTag letter (num (take 2 l)) (num (drop 2 l))
+unfolding told
+tag-key-told letter l (inl e) = rw e refl
+tag-key-told letter l (inr e) = rw e refl
 
 readBack : List ℕ → Message
 readBack [] = forInner [] []
@@ -46,8 +53,10 @@ readBack (letter ∷ l) = told letter l
 read-back : (m : Message) → Wide m → readBack (bytesOf m) ≡ m
 unfolding Wide bytesOf readBack told
 read-back (forNugget salt n) w = ap₂ forNugget (front 16 salt (le 4 n) (w .0)) (ap num (rest 16 salt (le 4 n) (w .0)) ∙ num-le 4 n (w .1))
-read-back (forTag f k) w =
-    ap₂ forTag (ap num (front 2 (le 2 f) (le 8 k) (length-le 2 f)) ∙ num-le 2 f (w .0)) (ap num (rest 2 (le 2 f) (le 8 k) (length-le 2 f)) ∙ num-le 8 k (w .1))
+read-back (forTag letter f k) w =
+    let flake = ap num (front 2 (le 2 f) (le 8 k) (length-le 2 f)) ∙ num-le 2 f (w .1) in
+    let keycount = ap num (rest 2 (le 2 f) (le 8 k) (length-le 2 f)) ∙ num-le 8 k (w .2) in
+    tag-key-told letter (le 2 f ++ le 8 k) (w .0) ∙ ap₂ (forTag letter) flake keycount
 read-back (forCheck salt epoch) w = ap₂ forCheck (front 16 salt (le 2 epoch) (w .0)) (ap num (rest 16 salt (le 2 epoch) (w .0)) ∙ num-le 2 epoch (w .1))
 read-back (forSeal head node) w = ap₂ forSeal (front 72 head node w) (rest 72 head node w)
 read-back (forLeaf n bytes tags) w =
@@ -69,7 +78,25 @@ unfolding Wide bytesOf
 nugget-told salt n m long a b e =
     let one : forNugget salt n ≡ forNugget salt m = one-message (forNugget salt n) (forNugget salt m) (long, a) (long, b) e in cc
 
-pub tag-told : (f g k l : ℕ) → f < 2 ^ 16 → g < 2 ^ 16 → k < 2 ^ 64 → l < 2 ^ 64 → tagMessage f k ≡ tagMessage g l → (f ≡ g) × (k ≡ l)
+-- in either version
+tag-letter : (version : ℕ) → (tagLetter version ≡ letterF) ⊎ (tagLetter version ≡ letterG)
+unfolding tagLetter
+tag-letter version = go (isFirst version)
+  where
+    go : (b : Bool) → (pick b letterF letterG ≡ letterF) ⊎ (pick b letterF letterG ≡ letterG)
+    go true = inl refl
+    go false = inr refl
+
+pub tag-told : (version f g k l : ℕ) → f < 2 ^ 16 → g < 2 ^ 16 → k < 2 ^ 64 → l < 2 ^ 64
+    → tagMessage (tagLetter version) f k ≡ tagMessage (tagLetter version) g l → (f ≡ g) × (k ≡ l)
 unfolding Wide bytesOf
-tag-told f g k l a b c d e =
-    let one : forTag f k ≡ forTag g l = one-message (forTag f k) (forTag g l) (a, c) (b, d) e in (cc, cc)
+tag-told version f g k l a b c d e =
+    let letter = tagLetter version in
+    let known = tag-letter version in
+    let one : forTag letter f k ≡ forTag letter g l = one-message (forTag letter f k) (forTag letter g l) (known, a, c) (known, b, d) e in (cc, cc)
+
+pub versions-apart : VersionsApart
+unfolding tagLetter
+versions-apart first later f g k l a b e =
+    let letters : letterF ≡ letterG =
+    sym (yes letterG a refl) ∙ ap (λ (m : List ℕ). getD m 0 0) e ∙ no letterF b refl in omega (arith, letters)

@@ -2,14 +2,20 @@
 -- byte for byte; the key stands beside it.
 use mathlib.Core.List.{List, _∷_, _++_}
 use Prim.Native.Nat.{ℕ}
+use mathlib.Core.Bool.{Bool}
+use lib.Dec.{eqb}
+use Rattle.base.specs.Pick.{pick}
 use Rattle.words.specs.Le.{le}
 
--- the letters N, F, O, H, L and T as bytes
+-- the letters N, F, G, O, H, L and T as bytes
 abbrev pub letterN : ℕ
 letterN = 78
 
 abbrev pub letterF : ℕ
 letterF = 70
+
+abbrev pub letterG : ℕ
+letterG = 71
 
 abbrev pub letterO : ℕ
 letterO = 79
@@ -27,9 +33,16 @@ letterT = 84
 abbrev pub nuggetMessage : List ℕ → ℕ → List ℕ
 nuggetMessage salt n = letterN ∷ (salt ++ le 4 n)
 
--- "`F`, flake (2), keycount (8)"
-abbrev pub tagMessage : ℕ → ℕ → List ℕ
-tagMessage f k = letterF ∷ (le 2 f ++ le 8 k)
+-- "`F`, flake (2), keycount (8)"; in version 2 "The tag key's letter becomes `G`."
+abbrev pub tagMessage : ℕ → ℕ → ℕ → List ℕ
+tagMessage letter f k = letter ∷ (le 2 f ++ le 8 k)
+
+-- "version 1", by its number
+abbrev pub isFirst : ℕ → Bool
+isFirst version = eqb version 1
+
+unfoldable pub tagLetter : ℕ → ℕ
+tagLetter version = pick (isFirst version) letterF letterG
 
 -- "`O`, salt, head epoch (2)"
 abbrev pub checkMessage : List ℕ → ℕ → List ℕ

@@ -1,17 +1,18 @@
--- What is hashed, as data, and the theorem that its bytes tell all of it. Proved, as `one-message`, in proofs/ReadBack.antt.
+-- What is hashed, as data, and the theorem that its bytes tell all of it. Proved, as `one-message` (and `versions-apart`), in proofs/ReadBack.antt.
 use mathlib.Core.Path.{_≡_}
+use mathlib.Core.Bool.{true, false}
 use mathlib.Core.Logic.{_⊎_}
 use mathlib.Core.List.{List}
 use Prim.Native.Nat.{ℕ, _%_, _^_, _<_}
 use lib.ListN.{length}
-use Rattle.messages.specs.Messages.{nuggetMessage, tagMessage, checkMessage, sealMessage, leafMessage, innerMessage}
+use Rattle.messages.specs.Messages.{letterF, letterG, nuggetMessage, tagMessage, isFirst, tagLetter, checkMessage, sealMessage, leafMessage, innerMessage}
 
 -- what goes into each hash, beside its key
 pub data Message : Type 0 where
   -- of a nugget key: salt and nugget
   forNugget : List ℕ → ℕ → Message
-  -- of a tag key: flake and keycount
-  forTag : ℕ → ℕ → Message
+  -- of a tag key: its version's letter, flake and keycount
+  forTag : ℕ → ℕ → ℕ → Message
   -- of the old-secret check: salt and epoch
   forCheck : List ℕ → ℕ → Message
   -- of the seal: head bytes 0 to 71 and node 1
@@ -23,7 +24,7 @@ pub data Message : Type 0 where
 
 unfoldable pub bytesOf : Message → List ℕ
 bytesOf (forNugget salt n) = nuggetMessage salt n
-bytesOf (forTag f k) = tagMessage f k
+bytesOf (forTag letter f k) = tagMessage letter f k
 bytesOf (forCheck salt epoch) = checkMessage salt epoch
 bytesOf (forSeal front node) = sealMessage front node
 bytesOf (forLeaf n bytes tags) = leafMessage n bytes tags
@@ -33,7 +34,7 @@ bytesOf (forInner left right) = innerMessage left right
 -- message tells by its length which version it is of
 unfoldable pub Wide : Message → Type 0
 Wide (forNugget salt n) = (length salt ≡ 16) × (n < 2 ^ 32)
-Wide (forTag f k) = (f < 2 ^ 16) × (k < 2 ^ 64)
+Wide (forTag letter f k) = ((letter ≡ letterF) ⊎ (letter ≡ letterG)) × (f < 2 ^ 16) × (k < 2 ^ 64)
 Wide (forCheck salt epoch) = (length salt ≡ 16) × (epoch < 2 ^ 16)
 Wide (forSeal front node) = length front ≡ 72
 Wide (forLeaf n bytes tags) = (n < 2 ^ 32) × ((length bytes ≡ 18) ⊎ (length bytes ≡ 26)) × (length tags % 16 ≡ 0)
@@ -43,3 +44,9 @@ Wide (forInner left right) = length left ≡ 32
 -- BLAKE2s gives different messages different values.
 abbrev pub OneMessage : Type 0
 OneMessage = (a b : Message) → Wide a → Wide b → bytesOf a ≡ bytesOf b → a ≡ b
+
+-- No tag key of version 1 has the message of one of a later version: a nugget key, a flake and a keycount that a volume of each has alike
+-- give two tag keys, so neither is used for two messages.
+abbrev pub VersionsApart : Type 0
+VersionsApart =
+    (first later f g k l : ℕ) → isFirst first ≡ true → isFirst later ≡ false → tagMessage (tagLetter first) f k ≡ tagMessage (tagLetter later) g l → ⊥

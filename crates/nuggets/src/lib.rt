@@ -51,6 +51,7 @@ pub fn lock_by(s: Shape, salt: [u8; 16], secret: [u8; 32], n: u32, k: u64) -> Lo
         number: n,
         key: key,
         keycount: k,
+        version: s.version,
     }
 }
 
@@ -70,7 +71,7 @@ pub fn nugget_of(d: Drive, vol: &[u8], n: u32) -> Nugget
     }
 }
 
-// "Tag = Poly1305 under the tag key over the stored flake."
+// The tag that the stored flake has under its nugget's lock is the one beside it.
 fn good_flake(vol: &[u8], s: Shape, g: Nugget, f: u32) -> bool
     requires { ⌜ Shaped s (now vol) × (g .lock .number < s .n) × (f < s .p) ⌝ }
     ensures { λ r. ⌜ r ≡ goodFlake s (now (vol .entry)) g f ⌝ }

@@ -16,6 +16,9 @@ slice-aggregate-store-2 c = search needs
 store-requires-2 : tie.Need-store-requires-2
 store-requires-2 c κs = search needs
 
+letter-of-requires : tie.Need-letter-of-requires
+letter-of-requires c κs = search needs
+
 slice-aggregate-lettered : tie.Need-slice-aggregate-lettered
 slice-aggregate-lettered c = search needs
 
@@ -27,7 +30,13 @@ lettered-requires c κs = search needs
 
 returns : tie.Need-returns
 unfolding tagKey le
-returns c = rw (c .lettered .ensures, c .before .before .before .before .store2 .ensures, c .before .before .before .before .before .before .before .store .ensures)
+returns c =
+    rw (
+      c .lettered .ensures,
+      c .before .before .before .letter-of .ensures,
+      c .before .before .before .before .before .store2 .ensures,
+      c .before .before .before .before .before .before .before .before .store .ensures,
+    )
 
 pub tag-key-spec : {M : Type 1} → statement M
 tag-key-spec =
@@ -37,6 +46,7 @@ tag-key-spec =
     store-requires
     slice-aggregate-store-2
     store-requires-2
+    letter-of-requires
     slice-aggregate-lettered
     slice-aggregate-lettered-2
     lettered-requires
