@@ -121,7 +121,8 @@ def by_itself(checks, copies, good):
 
 
 def main():
-    subprocess.run(["make", "-s", "hosts"], cwd=ROOT, check=True, stdout=subprocess.DEVNULL)
+    (ROOT / "target").mkdir(exist_ok=True)
+    subprocess.run(["flock", "target/hosts.lock", "make", "-s", "hosts"], cwd=ROOT, check=True, stdout=subprocess.DEVNULL)
     checks, met = Checks(), set()
     with tempfile.TemporaryDirectory() as name:
         copies, given = Copies(pathlib.Path(name)), list(cases(random.Random(f"{inputs.SEED} compare")))
