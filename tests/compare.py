@@ -125,7 +125,8 @@ def by_itself(checks, copies, good):
 
 
 def main():
-    subprocess.run(["make", "-s", "hosts"], cwd=ROOT, check=True, stdout=subprocess.DEVNULL)
+    (ROOT / "target").mkdir(exist_ok=True)
+    subprocess.run(["flock", "target/hosts.lock", "make", "-s", "hosts"], cwd=ROOT, check=True, stdout=subprocess.DEVNULL)
     checks, met = Checks(), set()
     source, data, other = random.Random(f"{inputs.SEED} compare"), (ROOT / "crates" / "sheet" / "stdin").read_bytes(), sample.sample(2)
     with tempfile.TemporaryDirectory() as name:

@@ -15,7 +15,8 @@ if [ ${#missing[@]} -gt 0 ]; then
     "${as_root[@]}" apt-get update -qq
     "${as_root[@]}" apt-get install -y -qq --no-install-recommends "${missing[@]}" >/dev/null
 fi
-make -s hosts
+mkdir -p target
+flock target/hosts.lock make -s hosts # two that make them at once wait for each other
 passed=0
 for part in install tool sequences pages device; do
     started=$SECONDS

@@ -6,6 +6,7 @@ import subprocess
 import time
 
 from rig import PLUGIN, Checks, Rig
+from layout import TOP
 
 SHAPE = 192, 16, 4096
 CAPACITY = SHAPE[0] * SHAPE[1] * SHAPE[2]
@@ -159,12 +160,30 @@ def swept_and_ended(checks, rig):
     checks.same(rig.tool("report", rig.image, *rig.keys()).returncode, 0, "under the new secret alone")
 
 
+def spent(checks):
+    """A counter at its top: a write is ENOSPC, and what is there can be read."""
+    with Rig("spent") as rig:
+        rig.counter.write_text(f"{TOP - 1}\n")
+        rig.present, rig.old = rig.secret(), None
+        made = rig.tool("format", rig.image, *rig.keys(), "--nuggets", 2, "--flakes", 4, "--size", 64)
+        checks.same((made.returncode, rig.counter.read_text()), (0, f"{TOP}\n"), f"a last format: {made.stderr}")
+        plain, back = rig.folder / "plain", rig.folder / "back"
+        plain.write_bytes(bytes(range(256)) * 2)
+        with Device(rig) as device:
+            copied = ran("nbdcopy", plain, device.uri)
+            checks.that(copied.returncode != 0 and "No space left on device" in copied.stderr, f"a counter at its top: {copied.stderr}")
+            checks.that(device.said("refused=13 class=spent"), "the refusal's line is in the log")
+            copied = ran("nbdcopy", device.uri, back)
+            checks.same((copied.returncode, back.read_bytes()), (0, bytes(512)), f"it is read: {copied.stderr}")
+
+
 def main():
     checks = Checks()
     with Rig("device") as rig:
         rig.format(*SHAPE)
         for part in (filesystem, changing, damaged, ended, swept_and_ended):
             part(checks, rig)
+    spent(checks)
     checks.close()
 
 

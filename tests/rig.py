@@ -15,7 +15,7 @@ import calls  # noqa: E402
 from layout import layout  # noqa: E402
 
 SEED = int(os.environ.get("NGT_SEED", "1"))
-# NGT_FOR names a processor that the hosts were made for; a tool for another one than this runs under an emulator
+# NGT_FOR=aarch64 takes what was made for that processor; a tool for another one than this runs under an emulator
 FOR = os.environ.get("NGT_FOR", platform.machine())
 RUN = [] if FOR == platform.machine() else [f"qemu-{FOR}", "-L", f"/usr/{FOR}-linux-gnu"]
 MADE = ROOT / "target" / "hosts" / FOR
