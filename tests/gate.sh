@@ -54,6 +54,7 @@ counts "every edit is refused by a fact" python3 tests/first_errors.py
 counts "the second program holds against the documents" python3 second/check.py
 counts "the primitives agree with independent ones" python3 tests/primitives.py
 counts "AES-256 agrees with Debian's library" python3 tests/aes.py
+counts "tags of version 2 agree with Debian's library" python3 tests/tags.py
 counts "keys, pads, tags, leaves, nodes, path and whole agree with the second program" python3 tests/parts.py
 counts "the calls agree with the second program through the C interface" python3 tests/calls.py
 counts "two volumes compared agree with the second program through the C interface" python3 tests/twins.py
