@@ -9,8 +9,12 @@ def nugget_key(secret, salt, nugget):
     return blake2s(secret, b"N" + salt + le(nugget, 4))
 
 
-def tag_key(key, flake, keycount):
-    return blake2s(key, b"F" + le(flake, 2) + le(keycount, 8))
+# The tag key's letter, by version.
+LETTER = {1: b"F", 2: b"G"}
+
+
+def tag_key(version, key, flake, keycount):
+    return blake2s(key, LETTER[version] + le(flake, 2) + le(keycount, 8))
 
 
 def old_check(old, salt, epoch):
@@ -27,6 +31,18 @@ def pad(key, keycount, flake, size):
     return keystream(key, bytes(4) + le(keycount, 8), flake * size // 64, size // 64)
 
 
-def tag(key, keycount, flake, stored):
-    """Poly1305 over the stored bytes, never over the contents."""
-    return poly1305(tag_key(key, flake, keycount), stored)
+def padded(data):
+    """RFC 8439 2.8: zeros behind it, up to a multiple of 16."""
+    return data + bytes(-len(data) % 16)
+
+
+def laid_out(named, text):
+    """RFC 8439 2.8: what Poly1305 is given of associated data and text."""
+    return padded(named) + padded(text) + le(len(named), 8) + le(len(text), 8)
+
+
+def tag(version, key, nugget, keycount, flake, stored):
+    """Poly1305 over the stored bytes, never over the contents; from version 2 on it names what it covers."""
+    if version != 1:
+        stored = laid_out(le(nugget, 4) + le(flake, 2) + le(keycount, 8), stored)
+    return poly1305(tag_key(version, key, flake, keycount), stored)

@@ -73,7 +73,7 @@ def flakes_test(volume, drive, n, flakes):
     key = key_of(drive, record, n)
     for f in flakes:
         at = lay.tag_at(n, f)
-        made = keys.tag(key, record.keycount, f, stored_bytes(volume, lay, n, f))
+        made = keys.tag(lay.version, key, n, record.keycount, f, stored_bytes(volume, lay, n, f))
         if made != volume[at:at + TAG]:
             return Place(FLAKE, n, f)
     return None
@@ -115,7 +115,7 @@ def encipher(work, drive, n, keycount, texts):
         stored = xor(texts[f], keys.pad(key, keycount, f, lay.f))
         at, tag_at = lay.flake_at(n, f), lay.tag_at(n, f)
         work[at:at + lay.f] = stored
-        work[tag_at:tag_at + TAG] = keys.tag(key, keycount, f, stored)
+        work[tag_at:tag_at + TAG] = keys.tag(lay.version, key, n, keycount, f, stored)
         listed.append(Pad(n, keycount, f, drive.present))
     return listed
 

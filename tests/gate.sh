@@ -106,6 +106,7 @@ beside "a host in C links the archive and runs" bash tests/host.sh
 beside "the second program holds against the documents" python3 second/check.py
 beside "the primitives agree with independent ones" python3 tests/primitives.py
 beside "AES-256 agrees with Debian's library" python3 tests/aes.py
+beside "tags of version 2 agree with Debian's library" python3 tests/tags.py
 beside "keys, pads, tags, leaves, nodes, path and whole agree with the second program" python3 tests/parts.py
 beside "the sheet agrees with the second program" python3 tests/sheet.py
 beside "the auditor's page agrees with the second program" python3 tests/audit.py

@@ -37,7 +37,9 @@ def compare_keys(tally, proved, source, case):
     n, f, k = source.randrange(2**32), source.randrange(2**16), source.choice([0, 2**64 - 1, source.randrange(2**64)])
     epoch, front, node = source.randrange(2**16), source.randbytes(72), source.randbytes(32)
     tally.same("nugget key", case, out(proved.ngt_nugget_key, 32, a, salt, U32(n)), keys.nugget_key(a, salt, n))
-    tally.same("tag key", case, out(proved.ngt_tag_key, 32, a, U32(f), U64(k)), keys.tag_key(a, f, k))
+    for version in keys.LETTER:
+        said = out(proved.ngt_tag_key, 32, U16(version), a, U32(f), U64(k))
+        tally.same("tag key", (case, version), said, keys.tag_key(version, a, f, k))
     tally.same("check", case, out(proved.ngt_check, 32, a, salt, U16(epoch)), keys.old_check(a, salt, epoch))
     tally.same("seal", case, out(proved.ngt_seal, 32, a, *slice_of(front), *slice_of(node)), keys.seal(a, front, node))
     size, f = 64 * source.randrange(1, 65), source.randrange(64)
@@ -45,7 +47,10 @@ def compare_keys(tally, proved, source, case):
     laid = room(stored)
     proved.ngt_lay_pad(laid, ctypes.c_size_t(size), b, U64(k), U32(f))
     tally.same("pad", case, left(laid), xor(stored, keys.pad(b, k, f, size)))
-    tally.same("tag", case, out(proved.ngt_tag, 16, *slice_of(stored), b, U64(k), U32(f)), keys.tag(b, k, f, stored))
+    for version in keys.LETTER:
+        for data in stored, stored[:source.randrange(size)]:
+            said = out(proved.ngt_tag, 16, *slice_of(data), U16(version), b, U32(n), U64(k), U32(f))
+            tally.same("tag", (case, version, len(data)), said, keys.tag(version, b, n, k, f, data))
 
 
 def volume_of(source, lay, epoch, changing, counter):

@@ -26,9 +26,13 @@ def pad_of(secret, salt, nugget, keycount, flake, f):
 
 
 @lru_cache(maxsize=65536)
-def tag_of(secret, salt, nugget, keycount, flake, stored):
+def tag_of(version, secret, salt, nugget, keycount, flake, stored):
     key = h(b"N" + salt + struct.pack("<I", nugget), secret)
-    return poly1305(h(b"F" + struct.pack("<HQ", flake, keycount), key), stored)
+    parts = struct.pack("<HQ", flake, keycount)
+    if version == 1:
+        return poly1305(h(b"F" + parts, key), stored)
+    whole = struct.pack("<IHQ2x", nugget, flake, keycount) + stored + struct.pack("<QQ", 14, len(stored))
+    return poly1305(h(b"G" + parts, key), whole)
 
 
 def mixed(text, pad):
@@ -119,7 +123,7 @@ def made(spec):
             if lies:
                 pad = pad_of(lies[0], spec.salt, n, lies[1], f, spec.f)
                 stored = mixed(lies[2], pad)
-                tag = tag_of(lies[0], spec.salt, n, lies[1], f, stored)
+                tag = tag_of(spec.version, lies[0], spec.salt, n, lies[1], f, stored)
             flakes.append(stored)
             tags.append(tag)
     nodes = tree_of(spec, records, b"".join(tags))

@@ -3,6 +3,7 @@
 import random
 import struct
 
+from keys import laid_out
 from primitives import blake2s, chacha20_block, keystream, poly1305, xor
 
 KEY = bytes(range(32))
@@ -74,6 +75,14 @@ def run(tally):
     for name, key, message, want in TAGS:
         got = poly1305(bytes.fromhex(key), bytes.fromhex(message))
         tally.same(f"RFC 8439 {name}", got.hex(), want)
+    key, nonce = bytes(range(0x80, 0xa0)), bytes.fromhex("070000004041424344454647")
+    text = xor(SUNSCREEN, keystream(key, nonce, 1, 2)[:len(SUNSCREEN)])
+    whole = laid_out(bytes.fromhex("50515253c0c1c2c3c4c5c6c7"), text)
+    tally.same("RFC 8439 2.8.2, the end of the layout", whole[96:].hex(),
+               "fab324e4fad675945585808b4831d7bc3ff4def08e4b7a9de576d26586cec64b"
+               "6116" + "00" * 14 + "0c00000000000000" + "7200000000000000")
+    got = poly1305(chacha20_block(key, 0, nonce)[:32], whole)
+    tally.same("RFC 8439 2.8.2", got.hex(), "1ae10b594f09e26a7e902ecbd0600691")
     tally.same("RFC 7693 abc", blake2s(b"", b"abc").hex(),
                "508c5e8c327c14e2e1a72ba34eeb452f37458b209ed63a294d999b4c86675982")
     many = b"".join(plain_block(KEY, 7 + i, nonce) for i in range(64))

@@ -8,7 +8,7 @@ pub ngt-nugget-key : OneOutcome fn.ngt_nugget_key.ended fn.ngt_nugget_key.Reads.
 ngt-nugget-key κs a x y u v p q = (refl, refl ∥ refl ∥ refl ∥ agree p q ∥ refl)
 
 pub ngt-tag-key : OneOutcome fn.ngt_tag_key.ended fn.ngt_tag_key.Reads.Post
-ngt-tag-key κs a x y u v p q = (refl, refl ∥ refl ∥ refl ∥ agree p q ∥ refl)
+ngt-tag-key κs a x y u v p q = (refl, refl ∥ refl ∥ refl ∥ refl ∥ agree p q ∥ refl)
 
 pub ngt-check : OneOutcome fn.ngt_check.ended fn.ngt_check.Reads.Post
 ngt-check κs a x y u v p q = (refl, refl ∥ refl ∥ refl ∥ agree p q ∥ refl)
@@ -17,7 +17,10 @@ pub ngt-seal : OneOutcome fn.ngt_seal.ended fn.ngt_seal.Reads.Post
 ngt-seal κs a x y u v p q = (refl, refl ∥ refl ∥ refl ∥ agree p q ∥ refl)
 
 pub ngt-tag : OneOutcome fn.ngt_tag.ended fn.ngt_tag.Reads.Post
-ngt-tag κs a x y u v p q = (refl, refl ∥ refl ∥ refl ∥ refl ∥ agree p q ∥ refl)
+ngt-tag κs a x y u v p q = (refl, refl ∥ refl ∥ refl ∥ refl ∥ refl ∥ refl ∥ agree p q ∥ refl)
+
+pub ngt-named-tag : OneOutcome fn.ngt_named_tag.ended fn.ngt_named_tag.Reads.Post
+ngt-named-tag κs a x y u v p q = (refl, refl ∥ refl ∥ refl ∥ refl ∥ refl ∥ agree p q ∥ refl)
 
 pub ngt-lay-pad : OneOutcome fn.ngt_lay_pad.ended fn.ngt_lay_pad.Reads.Post
 ngt-lay-pad κs a x y u v p q = (refl, agree p q ∥ refl)

@@ -18,13 +18,13 @@ use Rattle.tree.specs.Path.{pathOf}
 use Rattle.tree.specs.Whole.{wholeOf}
 use Rattle.tree.specs.Renewed.{renewed, built}
 
--- a lock by its key and keycount: a pad or a tag of version 1 doesn't look at the nugget's number
-abbrev pub lockWith : List ℕ → ℕ → Lock
-lockWith key k = record { number = 0; key = key; keycount = k }
+-- a lock by version, key, nugget and keycount
+abbrev pub lockWith : ℕ → List ℕ → ℕ → ℕ → Lock
+lockWith version key n k = record { number = n; key = key; keycount = k; version = version }
 
--- the pad over a flake of at most 4,096 bytes, of the 64 flakes that a nugget can have
+-- the pad over a flake of at most 4,096 bytes, of the 64 flakes that a nugget can have; it doesn't look at version or nugget
 unfoldable pub laidBytes : List ℕ → ℕ → ℕ → List ℕ → List ℕ
-laidBytes key k f d = pick (leb (length d) 4096) (pick (ltb f 64) (xorl d (padOf (lockWith key k) f (length d))) d) d
+laidBytes key k f d = pick (leb (length d) 4096) (pick (ltb f 64) (xorl d (padOf (lockWith 1 key 0 k) f (length d))) d) d
 
 -- 1, 2
 unfoldable pub shapedAnswer : Shape → List ℕ → Answer

@@ -6,7 +6,8 @@ use layout::Shape;
 use records::Gauge;
 ghost use mathlib.Core.Path.{_≡_};
 ghost use Rattle.keys.specs.Keys.{nuggetKey, tagKey, checkOf, sealOf};
-ghost use Rattle.keys.specs.Tags.{tagOf};
+ghost use Rattle.keys.specs.Tags.{laidOut, named, tagOf};
+ghost use Rattle.poly1305.specs.Poly1305.{poly1305};
 ghost use Rattle.layout.specs.Shape.{shape};
 ghost use Rattle.records.specs.Record.{against};
 ghost use Rattle.images.specs.Answers.{answerImage};
@@ -20,13 +21,14 @@ pub extern "C" fn ngt_nugget_key(secret: &[u8; 32], salt: &[u8; 16], n: u32, out
 }
 
 #[no_mangle]
-pub extern "C" fn ngt_tag_key(key: &[u8; 32], f: u32, k: u64, out: &mut [u8; 32])
-    ensures { λ _. ⌜ now (out .exit) ≡ tagKey (lockWith (now (key .entry)) k) f ⌝ }
+pub extern "C" fn ngt_tag_key(version: u16, key: &[u8; 32], f: u32, k: u64, out: &mut [u8; 32])
+    ensures { λ _. ⌜ now (out .exit) ≡ tagKey (lockWith version (now (key .entry)) 0 k) f ⌝ }
 {
     let lock = Lock {
         number: 0,
         key: *key,
         keycount: k,
+        version,
     };
     *out = keys::tag_key(lock, f);
 }
@@ -46,15 +48,47 @@ pub extern "C" fn ngt_seal(secret: &[u8; 32], front: &[u8], node: &[u8], out: &m
 }
 
 #[no_mangle]
-pub extern "C" fn ngt_tag(stored: &[u8], key: &[u8; 32], k: u64, f: u32, out: &mut [u8; 16])
-    ensures { λ _. ⌜ now (out .exit) ≡ tagOf (lockWith (now (key .entry)) k) f (now (stored .entry)) ⌝ }
+pub extern "C" fn ngt_tag(
+    stored: &[u8],
+    version: u16,
+    key: &[u8; 32],
+    n: u32,
+    k: u64,
+    f: u32,
+    out: &mut [u8; 16],
+)
+    ensures { λ _. ⌜ now (out .exit) ≡ tagOf (lockWith version (now (key .entry)) n k) f (now (stored .entry)) ⌝ }
 {
     let lock = Lock {
-        number: 0,
+        number: n,
         key: *key,
         keycount: k,
+        version,
     };
     *out = keys::tag_of(stored, lock, f);
+}
+
+// Poly1305 under any key over what a tag of version 2 is over.
+#[no_mangle]
+pub extern "C" fn ngt_named_tag(
+    stored: &[u8],
+    key: &[u8; 32],
+    n: u32,
+    k: u64,
+    f: u32,
+    out: &mut [u8; 16],
+)
+    ensures { λ _. ⌜ now (out .exit)
+        ≡ poly1305 (now (key .entry)) (laidOut (named (lockWith 2 (now (key .entry)) n k) f) (now (stored .entry))) ⌝ }
+{
+    let lock = Lock {
+        number: n,
+        key: *key,
+        keycount: k,
+        version: 2,
+    };
+    let name = keys::name_of(lock, f);
+    *out = keys::tag_laid_out(*key, &name, stored);
 }
 
 // The pad of flake f laid over a flake; a slice over 4,096 bytes or a flake past 63 is left as it is.
@@ -68,6 +102,7 @@ pub extern "C" fn ngt_lay_pad(flake: &mut [u8], key: &[u8; 32], k: u64, f: u32)
                 number: 0,
                 key: *key,
                 keycount: k,
+                version: 1,
             };
             let size = flake.len();
             keys::lay_from(flake, lock, size, f, 0);

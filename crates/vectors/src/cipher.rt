@@ -30,8 +30,7 @@ pub fn sections() {
     );
     let nonce = *b"\x00\x00\x00\x09\x00\x00\x00\x4a\x00\x00\x00\x00";
     block(b"RFC 8439 2.3.2", inputs::COUNTED, nonce, 1);
-    let mut d = *b"Ladies and Gentlemen of the class of '99: If I could offer you only one tip for \
-        the future, sunscreen would be it.";
+    let mut d = inputs::SUNSCREEN;
     let other = *b"\x00\x00\x00\x00\x00\x00\x00\x4a\x00\x00\x00\x00";
     chacha20::lay(&mut d, inputs::COUNTED, other, 1);
     show::line(b"RFC 8439 2.4.2", &d);

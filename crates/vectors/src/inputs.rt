@@ -1,5 +1,10 @@
 // The inputs that several vectors of RFC 8439 share.
 
+// 2.4.2 and 2.8.2
+pub const SUNSCREEN: [u8; 114] =
+    *b"Ladies and Gentlemen of the class of '99: If I could offer you only one tip for \
+    the future, sunscreen would be it.";
+
 // A.2 #2 and A.3 #2, #3
 pub const CONTRIBUTION: [u8; 375] =
     *b"Any submission to the IETF intended by the Contributor for publication as all or part of \

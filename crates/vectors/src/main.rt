@@ -1,5 +1,5 @@
 // A program: the published vectors of RFC 8439 and RFC 7693, run through the proved crates.
-// It touches `chacha20`, `poly1305`, `blake2s` and `words`, and the toolchain's `io` to print.
+// It touches `chacha20`, `poly1305`, `blake2s`, `keys` and `words`, and the toolchain's `io` to print.
 mod cipher;
 mod hashes;
 mod inputs;

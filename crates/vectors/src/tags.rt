@@ -1,4 +1,4 @@
-// RFC 8439 2.5, 2.6, A.3 and A.4.
+// RFC 8439 2.5, 2.6, 2.8, A.3 and A.4.
 ghost use Prim.Native.Nat.{_<_};
 use crate::inputs;
 use crate::pieces;
@@ -54,6 +54,22 @@ pub fn sections() {
         \x90\x91\x92\x93\x94\x95\x96\x97\x98\x99\x9a\x9b\x9c\x9d\x9e\x9f";
     let nonce = *b"\x00\x00\x00\x00\x00\x01\x02\x03\x04\x05\x06\x07";
     one_time_key(b"RFC 8439 2.6.2", other, nonce);
+    laid_out(other);
+}
+
+// 2.8: the tag of associated data and ciphertext, under the front of block 0.
+fn laid_out(key: [u8; 32]) {
+    let nonce = *b"\x07\x00\x00\x00\x40\x41\x42\x43\x44\x45\x46\x47";
+    let ad = *b"\x50\x51\x52\x53\xc0\xc1\xc2\xc3\xc4\xc5\xc6\xc7";
+    let mut text = inputs::SUNSCREEN;
+    chacha20::lay(&mut text, key, nonce, 1);
+    let b = chacha20::block(key, nonce, 0);
+    let mut once = [0u8; 32];
+    words::copy(&mut once, 0, &b[0..32]);
+    show::line(b"RFC 8439 2.8.2, one-time key", &once);
+    show::line(b"RFC 8439 2.8.2, ciphertext", &text);
+    let t = keys::tag_laid_out(once, &ad, &text);
+    show::line(b"RFC 8439 2.8.2", &t);
 }
 
 // The key of r and s.
