@@ -51,6 +51,7 @@ pub fn lock_by(s: Shape, salt: [u8; 16], secret: [u8; 32], n: u32, k: u64) -> Lo
         number: n,
         key: key,
         keycount: k,
+        cipher: s.cipher,
     }
 }
 
