@@ -35,6 +35,7 @@ static gregset_t before, after;
 static ucontext_t host, guest;
 static uint32_t (*watched)(void), number;
 static uint64_t state = 88172645463325252u;
+static uint8_t cipher;
 
 static uint8_t any(void) {
     state ^= state << 13, state ^= state >> 7, state ^= state << 17;
@@ -211,7 +212,7 @@ static void prepare(uint32_t f, int changing) {
     memset(kept, 0, ROOM), memset(known, 0, sizeof known);
     for (size_t i = 0; i < (size_t)P * f; i++)
         text[i] = any(), bytes[i] = any(), buffer[i] = 0;
-    uint32_t refused = ngt_format(vol, length, N, P, f, salt, first, 0, drive, answer);
+    uint32_t refused = ngt_format_as(vol, length, N, P, f, 1, cipher, salt, first, 0, drive, answer);
     refused |= ngt_write(drive, vol, length, 0, text, f, answer);
     refused |= ngt_write(drive, vol, length, 2 * (size_t)f, text + 2 * (size_t)f, f, answer);
     if (changing)
@@ -257,8 +258,10 @@ int main(void) {
     prepare(LARGEST, 0);
     controls();
     static const uint32_t sizes[] = {64, 576, LARGEST};
-    for (size_t i = 0; i < sizeof sizes / sizeof *sizes; i++) {
-        uint32_t f = sizes[i];
+    size_t all = sizeof sizes / sizeof *sizes;
+    for (size_t i = 0; i < 2 * all; i++) {
+        uint32_t f = sizes[i % all];
+        cipher = i < all ? 0 : 16;
         tries("sweep", sweeps, f, 1, 0, 0, 5);
         tries("write beside, changing", writes, f, 1, f + f / 4, f / 2, 7);
         tries("write inside a flake", writes, f, 0, f / 3, f / 2, 5);
