@@ -18,9 +18,9 @@ use Rattle.tree.specs.Path.{pathOf}
 use Rattle.tree.specs.Whole.{wholeOf}
 use Rattle.tree.specs.Renewed.{renewed, built}
 
--- a lock by its key and keycount: a pad or a tag of version 1 doesn't look at the nugget's number
+-- a lock by its key and keycount, under ChaCha20: a pad or a tag of version 1 doesn't look at the nugget's number
 abbrev pub lockWith : List ℕ → ℕ → Lock
-lockWith key k = record { number = 0; key = key; keycount = k }
+lockWith key k = record { number = 0; key = key; keycount = k; cipher = 0 }
 
 -- the pad over a flake of at most 4,096 bytes, of the 64 flakes that a nugget can have
 unfoldable pub laidBytes : List ℕ → ℕ → ℕ → List ℕ → List ℕ

@@ -27,6 +27,7 @@ pub extern "C" fn ngt_tag_key(key: &[u8; 32], f: u32, k: u64, out: &mut [u8; 32]
         number: 0,
         key: *key,
         keycount: k,
+        cipher: 0,
     };
     *out = keys::tag_key(lock, f);
 }
@@ -53,6 +54,7 @@ pub extern "C" fn ngt_tag(stored: &[u8], key: &[u8; 32], k: u64, f: u32, out: &m
         number: 0,
         key: *key,
         keycount: k,
+        cipher: 0,
     };
     *out = keys::tag_of(stored, lock, f);
 }
@@ -68,6 +70,7 @@ pub extern "C" fn ngt_lay_pad(flake: &mut [u8], key: &[u8; 32], k: u64, f: u32)
                 number: 0,
                 key: *key,
                 keycount: k,
+                cipher: 0,
             };
             let size = flake.len();
             keys::lay_from(flake, lock, size, f, 0);
