@@ -8,7 +8,8 @@
  * The drive's image, 144 bytes: 0-3 N; 4-7 P; 8-11 F; 12 state (0 steady, 1 changing); 13 cipher (0 ChaCha20, 16 AES-256); 14-15
  * epoch; 16-17 the epoch being left; 18-19 version; 20-23 zero; 24-39 salt; 40-47 counter; 48-79 node 1; 80-111 present secret;
  * 112-143 old secret. Bytes 20-23 aren't looked at, nor are 16-17 and the old secret of a steady one. Another state than 0 or 1 is
- * answered 1, and so is another cipher than 0 or 16 and another version than 1 or 2.
+ * answered 1, and so is another cipher than 0 or 16 and another version than 1 or 2. Version and cipher are chosen at the format and
+ * stay; every call works on both, but for discard.
  * The answer's image, 16 bytes: 0-3 number; 4-7 kind of place (0 none, 1 head, 2 record, 3 node, 4 flake); 8-11 first value
  * (record, node, nugget of a flake; for answer 11 how many are left); 12-15 second value (the flake). What isn't carried is
  * zero. After each accepted change the outside counter to keep is bytes 40-47 of the drive's image.
@@ -37,17 +38,17 @@ uint32_t ngt_mount(const uint8_t *vol, size_t vol_len, const uint8_t present[32]
 uint32_t ngt_read(const uint8_t drive[144], const uint8_t *vol, size_t vol_len, uint64_t offset,
                   uint8_t *buf, size_t buf_len, uint8_t answer[16]);
 
-/* Write, begin, sweep, finish and discard change volume and drive where they stand, if the call is accepted. A refusal stores no byte of
- * either, and neither does an accepted write of no bytes or a discard that clears nothing: both may then lie on pages that can't be written. A change stores the
- * whole image anew, so bytes of it that mean nothing are zeros then. */
+/* Write, begin, sweep, finish and discard change volume and drive where they stand, if the call is accepted. A refusal stores no byte
+ * of either, and neither does an accepted write of no bytes or a discard that clears nothing: both may then lie on pages that can't
+ * be written. A change stores the whole image anew, so bytes of it that mean nothing are zeros then. */
 uint32_t ngt_write(uint8_t drive[144], uint8_t *vol, size_t vol_len, uint64_t offset, const uint8_t *bytes, size_t bytes_len,
                    uint8_t answer[16]);
 uint32_t ngt_begin(uint8_t drive[144], uint8_t *vol, size_t vol_len, const uint8_t secret[32], uint8_t answer[16]);
 uint32_t ngt_sweep(uint8_t drive[144], uint8_t *vol, size_t vol_len, uint32_t nugget, uint8_t answer[16]);
-/* Frees count flakes of a nugget from the first on, in version 2 alone: they read as zero, and count as never written. Their stored
- * bytes stay where they are, and so do those of their tags; the next write there rekeys the nugget. 9 on version 1; 8 if the
- * nugget or the range lies past the end (first + count is compared whole, and first P with count 0 is allowed); 7 path; 13
- * unless nothing is cleared. */
+/* Frees count flakes of a nugget from the first on, in version 2 alone, while a change runs too: they read as zero, and count as
+ * never written. Their stored bytes and tags stay as they are (it is no erasure); the next write there rekeys the nugget. 1, 2, 7
+ * head; 9 on version 1; 8 if the nugget or the range lies past the end (first + count is compared whole, and first P with count 0
+ * is allowed); 7 path; 13 unless nothing is cleared. */
 uint32_t ngt_discard(uint8_t drive[144], uint8_t *vol, size_t vol_len, uint32_t nugget, uint32_t first, uint32_t count,
                      uint8_t answer[16]);
 
@@ -76,9 +77,10 @@ uint32_t ngt_import(uint8_t drive[144], uint8_t *vol, size_t vol_len, const uint
 /* Only an accepted finish is leave to destroy the old secret. Until then every mount asks for it, even with no nugget left. */
 uint32_t ngt_finish(uint8_t drive[144], uint8_t *vol, size_t vol_len, uint8_t answer[16]);
 
-/* report: N, moved, left, flakes, share in hundredths of a percent, 4 bytes each; all zero if refused. The share is by present
- * flakes (with none present by nuggets), rounded down, and at most 9,999 while any nugget is left. A share of 10000, which
- * is 100.00, is not leave to destroy the old secret: only an accepted ngt_finish is. */
+/* report: N, moved, left, flakes, share in hundredths of a percent, 4 bytes each; all zero if refused. Here and below a
+ * flake that was discarded isn't present. The share is by present flakes (with none present by nuggets), rounded down, and at most
+ * 9,999 while any nugget is left. A share of 10000, which is 100.00, is not leave to destroy the old secret: only an accepted
+ * ngt_finish is. */
 uint32_t ngt_report(const uint8_t drive[144], const uint8_t *vol, size_t vol_len, uint8_t report[20], uint8_t answer[16]);
 
 /* span: where the part begins in the volume and its length, 8 bytes each; both zero if refused. It tests the image, the
@@ -86,12 +88,13 @@ uint32_t ngt_report(const uint8_t drive[144], const uint8_t *vol, size_t vol_len
 uint32_t ngt_stored_flake(const uint8_t drive[144], const uint8_t *vol, size_t vol_len, uint32_t nugget, uint32_t flake,
                           uint8_t span[16], uint8_t answer[16]);
 
-/* Two volumes against one drive. Accepted where both pass the path of this nugget, judged by the drive, up to the drive's node 1.
- * Refused, in this order: 1; 2 for the first, then the second; 8; 7 path of the first, which ends with node 1 against the
- * drive's (place node 1), then of the second. No head is tested. length: 4 bytes, always stored: 0 if the call is refused or the
- * nugget's record bytes and tags agree in both volumes. Else the two messages of the lowest node of the path that both volumes
- * have alike, different and with the same BLAKE2s value, stand in the first length bytes of one and two; every other byte of
- * these stays as it is. first and second may be one or overlap: both are only read. */
+/* Two volumes against one drive. Accepted where both pass the path of this nugget, judged by the drive, up to the drive's node
+ * 1. Refused, in this order: 1; 2 for the first, then the second; 8; 7 path of the first, which ends with node 1 against the
+ * drive's (place node 1), then of the second. No head is tested. length: 4 bytes, always stored: 0 if the call is refused or
+ * the nugget's record bytes and tags agree in both volumes. Else the two messages of the lowest node of the path that both
+ * volumes have alike, different and with the same BLAKE2s value, stand in the first length bytes of one and two; every other
+ * byte of these stays as it is. The drive's version is both volumes': one of the other has another length. first and second may
+ * be one or overlap: both are only read. */
 uint32_t ngt_twins(const uint8_t drive[144], const uint8_t *first, size_t first_len, const uint8_t *second, size_t second_len,
                    uint32_t nugget, uint8_t one[1055], uint8_t two[1055], uint8_t length[4], uint8_t answer[16]);
 
@@ -102,11 +105,12 @@ uint32_t ngt_tally(const uint8_t drive[144], const uint8_t *vol, size_t vol_len,
 /* A summary beside the tree, for a report that reads no record. sum: 12 (2L - 1) bytes, L the smallest power of two not below N;
  * node i at 12 (i - 1): the moved nuggets and the present flakes beneath it, and the present flakes in moved nuggets, 4 bytes
  * each. Tests: 1, 2, 2 if sum_len is another, 7 head; then building 7 whole, renewing 8 and 7 path. A refusal stores no byte of
- * sum. Build once, then renew the path of each nugget that a write, a queue or a sweep changed, in any order: that gives what
- * building gives. After a begin build again. A finish, a mount, whatever asks and whatever is refused leave the summary as it has
- * to be. ngt_summary_report is ngt_tally's report, of a summary kept so and a volume that ngt_tally wouldn't call altered; it looks
- * at head and node 1 of the volume and at the entry of node 1 alone. Over bytes that are no summary all three are exact too: sums
- * roll over at 32 bits, left is 0 where moved is above N, the share is at most 10,000, and at most 9,999 where moved is below N. */
+ * sum. Build once, then renew the path of each nugget that a write, a queue, an import, a sweep or a discard changed, in any order:
+ * that gives what building gives. After a begin build again. A finish, a mount, whatever asks and whatever is refused leave the
+ * summary as it has to be. ngt_summary_report is ngt_tally's report, of a summary kept so and a volume that ngt_tally wouldn't call
+ * altered; it looks at head and node 1 of the volume and at the entry of node 1 alone. Over bytes that are no summary all three are
+ * exact too: sums roll over at 32 bits, left is 0 where moved is above N, the share is at most 10,000, and at most 9,999 where moved
+ * is below N. */
 uint32_t ngt_summary_build(const uint8_t drive[144], const uint8_t *vol, size_t vol_len, uint8_t *sum, size_t sum_len,
                            uint8_t answer[16]);
 uint32_t ngt_summary_renew(const uint8_t drive[144], const uint8_t *vol, size_t vol_len, uint8_t *sum, size_t sum_len,

@@ -1,4 +1,5 @@
-"""The nine calls, and document 02's queue of writes, discard, export and import. Each takes a volume as bytes, changes nothing in place and gives a Result.
+"""The nine calls, and document 02's queue of writes, discard, export and import. Each takes a volume as bytes, changes nothing in
+place and gives a Result.
 
 A refused call gives everything back as it came; a refused format or mount, the blank drive; a
 queue what the writes before the refused one left.

@@ -12,10 +12,10 @@ from primitives import le
 OLD, NEW, SALT = bytes(range(32)), bytes(range(32, 64)), bytes(range(64, 80))
 
 
-def sample():
+def sample(version=1):
     """The sheet's standard input: present secret, old secret, outside counter, volume."""
-    lay = layout(3, 2, 64)
-    now = calls.format(bytes(lay.length), 3, 2, 64, SALT, OLD, 0)
+    lay = layout(3, 2, 64, version)
+    now = calls.format(bytes(lay.length), 3, 2, 64, SALT, OLD, 0, version)
     now = calls.write(now.drive, now.volume, lay.f, b"the first of two flakes")
     now = calls.write(now.drive, now.volume, 4 * lay.f, b"the second of two flakes")
     now = calls.begin(now.drive, now.volume, NEW)

@@ -10,7 +10,7 @@ from typing import NamedTuple
 import tree
 from answers import ACCEPTED, NODE, Answer, Place
 from drive import shape_and_length_test
-from layout import RECORD, TAG
+from layout import TAG
 from nuggets import path_answer
 from primitives import le
 
@@ -41,7 +41,7 @@ def tests(drive, first, second, n):
 def kept(volume, lay, n):
     """Record bytes and tags of a nugget."""
     at, tags = lay.record_at(n), lay.tag_at(n, 0)
-    return bytes(volume[at:at + RECORD] + volume[tags:tags + TAG * lay.p])
+    return bytes(volume[at:at + lay.record] + volume[tags:tags + TAG * lay.p])
 
 
 def message(volume, lay, i):

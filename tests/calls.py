@@ -2,7 +2,8 @@
 
 Each call that is made of the second program here is made of the proved library too: random volumes with a history, garbage,
 and all that the second program's own checks make (each refusal alone and in pairs, one flipped bit in every byte, the tree's
-places, queues beside their writes, exports and imports). NGT_SEED sets the seed; a failure prints it with the smallest case. `histories.py` has the histories.
+places, queues beside their writes, discards, exports and imports), in both versions. NGT_SEED sets the seed; a failure prints it
+with the smallest case. `histories.py` has the histories.
 """
 import random
 import sys
@@ -42,9 +43,9 @@ def every(source, drive, volume):
     calls.queue(drive, volume, image, source.choice((data, data, data, data + b"!", data[1:])))
     calls.queue(drive, volume, image + source.randbytes(source.randrange(1, 16)), data)
     whole = min(capacity, 1024)
-    key, other = source.randbytes(32), source.randbytes(32)
+    data, tweak = source.randbytes(32), source.randbytes(32)
     for call in (calls.export, calls.take_in):
-        call(drive, volume, key, source.choice((other, other, other, key)), source.randbytes(source.choice((whole, whole, whole, 0, 512))))
+        call(drive, volume, data, source.choice((tweak, tweak, tweak, data)), source.randbytes(source.choice((whole, whole, whole, 0, 512))))
     calls.begin(drive, volume, source.choice((drive.present, drive.old, source.randbytes(32))))
     calls.sweep(drive, volume, source.choice((0, drive.n - 1, drive.n, number)) % 2**32)
     calls.finish(drive, volume)

@@ -11,6 +11,7 @@ import sys
 
 import inputs
 import calls
+import sample
 import sheet
 from checks.make import flipped
 from primitives import le
@@ -54,19 +55,22 @@ def wanted(keys, first, second):
     return (sheet.refusal_line(bad) + "\n", REFUSED) if bad else ("same\n", SAME)
 
 
-def cases(source):
-    data = (ROOT / "crates" / "sheet" / "stdin").read_bytes()
+def cases(source, data, other):
+    """The sheet's input of one version, with copies of its volume; and a volume of the other version."""
     keys, volume = data[:72], data[72:]
     drive = calls.mount(volume, keys[:32], keys[32:64], int.from_bytes(keys[64:72], "little")).drive
-    after = calls.write(drive, volume, 0, b"later")
+    wrote = calls.write(drive, volume, 0, b"later")
+    after = calls.discard(wrote.drive, wrote.volume, 0, 0, 1) if drive.version == 2 else wrote
     later = keys[:64] + le(after.drive.counter, 8)
     yield keys, volume, volume
     yield keys + b"!", volume, volume
     yield later, after.volume, after.volume
     yield later, after.volume, volume
+    yield later, after.volume, wrote.volume
     for wrong in (keys[32:64] + keys[:32] + keys[64:], keys[:32] * 2 + keys[64:], keys[:64] + bytes(8), later):
         yield wrong, volume, volume
-    for bad in (b"", volume[:-1], volume + b"!", b"?" + volume[1:], volume[:8] + bytes(4) + volume[12:]):
+    for bad in (b"", volume[:-1], volume + b"!", b"?" + volume[1:], volume[:8] + bytes(4) + volume[12:], volume[:3] + b"\3" + volume[4:],
+                other[72:]):
         yield keys, volume, bad
         yield keys, bad, volume
     for _ in range(60):
@@ -79,7 +83,8 @@ def main():
     build("compare")
     (MADE / "pretends.c").write_text(PRETENDS)
     build("pretends", str(MADE / "pretends.c"))
-    given = list(cases(random.Random(f"{inputs.SEED} compare")))
+    source, data, other = random.Random(f"{inputs.SEED} compare"), (ROOT / "crates" / "sheet" / "stdin").read_bytes(), sample.sample(2)
+    given = [*cases(source, data, other), *cases(source, other, data)]
     checks = [(said("compare", *case), wanted(*case)) for case in given]
     checks.append((said("pretends", bytes(72), b"", b""), ("collision\n", COLLISION)))
     checks.append((said("pretends", bytes(72), b"", b"!"), ("refused=7 class=altered\n", REFUSED)))

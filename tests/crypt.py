@@ -1,7 +1,8 @@
 """A drive handed to a reader that nobody here wrote, and taken from a writer that nobody here wrote.
 
 mke2fs makes a filesystem with files in it; an independent XTS encrypts it; the proved `ngt_import` takes it in, `ngt_export` hands it
-out, and the independent reader opens what was handed out: debugfs then finds the files, equal to the byte. The reader is dm-crypt itself
+out, and the independent reader opens what was handed out: debugfs then finds the files, equal to the byte. Then flakes are discarded,
+and python3-cryptography reads zeros there. The volumes take turns between the two versions and the two ciphers. The reader is dm-crypt itself
 (cryptsetup's plain mode, aes-xts-plain64, 512-bit key) where the kernel lets this program make a device-mapper target, and else
 Debian's python3-cryptography, sector by sector. It prints which one ran.
 """
@@ -19,7 +20,7 @@ from cryptography.hazmat.primitives.ciphers import Cipher, algorithms, modes
 from proved import SEED, Tally, left, library, room
 
 SECTOR = 512
-SIZE, U32, U64 = ctypes.c_size_t, ctypes.c_uint32, ctypes.c_uint64
+U8, U16, U32, U64, SIZE = ctypes.c_uint8, ctypes.c_uint16, ctypes.c_uint32, ctypes.c_uint64, ctypes.c_size_t
 # 1 MiB each: flakes of several sectors, of one, within one, and over several that begin within one.
 SHAPES = [(16, 16, 4096), (32, 64, 512), (256, 64, 64), (1024, 16, 64), (128, 64, 128)]
 CROSSED = (16, 8, 4096 - 64)
@@ -73,22 +74,40 @@ def found(folder, image, names):
     return {name: (folder / f"got-{name}").read_bytes() for name in names}
 
 
-def volume_length(n, p, f):
+def volume_length(n, p, f, version):
     leaves = 1
     while leaves < n:
         leaves *= 2
-    return 104 + 18 * n + 16 * n * p + 32 * (2 * leaves - 1) + n * p * f
+    return 104 + (18 if version == 1 else 26) * n + 16 * n * p + 32 * (2 * leaves - 1) + n * p * f
 
 
-def one(proved, tally, shape, folder, readers):
+def freed(proved, tally, shape, source, drive, vol, keys, image):
+    """What the reader reads after some discards: zeros there, in version 2; version 1 refuses each with 9."""
+    (n, p, f), (version, size), answer = shape, (drive[18], len(left(vol))), room(size=16)
+    image = bytearray(image)
+    for _ in range(20):
+        nugget, first = source.randrange(n), source.randrange(p)
+        count = source.randint(0, p - first)
+        said = proved.ngt_discard(drive, vol, SIZE(size), U32(nugget), U32(first), U32(count), answer)
+        tally.same("discard", shape, said, 9 if version == b"\1" else 0)
+        if said == 0:
+            at = (nugget * p + first) * f
+            image[at:at + count * f] = bytes(count * f)
+    out = room(size=len(image))
+    tally.same("export", shape, proved.ngt_export(drive, vol, SIZE(size), keys[:32], keys[32:], out, SIZE(len(image)), answer), 0)
+    tally.same("discarded places read as zero", shape, sectors(keys, left(out), False), bytes(image))
+
+
+def one(proved, tally, shape, version, cipher, folder, readers):
     source = random.Random(f"{SEED} crypt {shape}")
     n, p, f = shape
     image, files = filesystem(folder, source, n * p * f)
     data, tweak = source.randbytes(32), source.randbytes(32)
     given = sectors(data + tweak, image, True)
-    size = volume_length(n, p, f)
+    size = volume_length(n, p, f, version)
     vol, drive, answer, out = room(size=size), room(size=144), room(size=16), room(size=len(image))
-    tally.same("format", shape, proved.ngt_format(vol, SIZE(size), U32(n), U32(p), U32(f), bytes(16), bytes(32), U64(0), drive, answer), 0)
+    numbers = SIZE(size), U32(n), U32(p), U32(f), U16(version), U8(cipher)
+    tally.same("format", shape, proved.ngt_format_as(vol, *numbers, bytes(16), bytes(32), U64(0), drive, answer), 0)
     tally.same("import", shape, proved.ngt_import(drive, vol, SIZE(size), data, tweak, given, SIZE(len(given)), answer), 0)
     plain = room(size=len(image))
     proved.ngt_read(drive, vol, SIZE(size), U64(0), plain, SIZE(len(image)), answer)
@@ -101,14 +120,15 @@ def one(proved, tally, shape, folder, readers):
     read = sectors(data + tweak, handed, False) if read is None else read
     tally.same("what the reader reads", shape, read, image)
     tally.same("the files", shape, found(folder, read, files), files)
+    freed(proved, tally, shape, source, drive, vol, data + tweak, image)
 
 
 def main():
     tally, readers = Tally(), set()
     proved = library("ngt")
     with tempfile.TemporaryDirectory() as folder:
-        for shape in SHAPES + [CROSSED]:
-            one(proved, tally, shape, pathlib.Path(folder), readers)
+        for i, shape in enumerate(SHAPES + [CROSSED]):
+            one(proved, tally, shape, 1 + (i + SEED) % 2, (i + SEED) // 2 % 2 * 16, pathlib.Path(folder), readers)
     print("read by " + " and ".join(sorted(readers)))
     return tally.close()
 

@@ -38,11 +38,13 @@ def some_counts(source):
 
 
 def real_report(source):
-    """The line of a drive with a history."""
-    n, p = source.randint(1, 9), source.choice((1, 2, 64))
-    now = calls.format(bytes(layout(n, p, 64).length), n, p, 64, SALT, source.randbytes(32), 0)
+    """The line of a drive with a history, of either version."""
+    n, p, version = source.randint(1, 9), source.choice((1, 2, 64)), source.choice((1, 2))
+    now = calls.format(bytes(layout(n, p, 64, version).length), n, p, 64, SALT, source.randbytes(32), 0, version)
     for _ in range(source.randrange(6)):
         now = calls.write(now.drive, now.volume, source.randrange(n * p * 64), b"x")
+        if source.randrange(4) == 0:
+            now = calls.discard(now.drive, now.volume, source.randrange(n), 0, p)
     if source.randrange(4):
         now = calls.begin(now.drive, now.volume, source.randbytes(32))
         for nugget in source.sample(range(n), source.randint(0, n)):

@@ -1,7 +1,8 @@
 """Histories of 40 calls, each call made of the proved library and of the second program, all equal to the byte.
 
 They are the second program's own: clean ones, held against demands 2 and 3 after every call; ones that begin near the tops
-of the numbers; hostile ones. At the end every answer that a call can give, with every kind of place, must have been met.
+of the numbers; hostile ones; of either version. At the end every answer that a call can give, with every kind of place, must have
+been met, and every kind of discard.
 NGT_SEED sets the seed.
 """
 import collections
@@ -15,6 +16,7 @@ from proved import SEED, Tally, library
 import checks.tally
 from answers import NOWHERE, Place
 from checks import garbage, histories
+from checks.model import FREEING
 
 HISTORIES, PIECE, LEAST = 1600, 40, 5
 COMPARED = {}
@@ -25,11 +27,11 @@ def start(path):
 
 
 def piece(first):
-    """Some histories: what was compared, what differs, and where the second program misses its own demands."""
+    """Some histories: what was compared, what was met, and where the second program misses its own demands."""
     beside, own = COMPARED["with"], checks.tally.Tally(str(SEED))
     beside.tally, beside.met = Tally(), collections.Counter()
     for i in range(first, first + PIECE):
-        histories.one(own, i)
+        beside.met.update(histories.one(own, i) & FREEING)
     return beside.tally, beside.met, own.failures
 
 
@@ -44,7 +46,7 @@ def wanted():
 def told(name, met):
     """How often a call was answered what."""
     said = [f"{number} {Place(kind).words().rstrip(' 0123456789')}".rstrip() + f" x {times}"
-            for (one, number, kind), times in sorted(met.items()) if one == name]
+            for (one, number, kind), times in sorted((words, met[words]) for words in met if words not in FREEING) if one == name]
     return f"{name}: " + ", ".join(said)
 
 
@@ -60,7 +62,8 @@ def main():
                 tally.same("the second program", words, False, True)
     for name in garbage.POSSIBLE:
         print(told(name, met))
-    for kind in wanted():
+    print("histories with a discard of each kind: " + ", ".join(f"{kind} x {met[kind]}" for kind in sorted(FREEING)))
+    for kind in (*wanted(), *sorted(FREEING)):
         tally.same("how often was met", kind, met[kind] >= LEAST, True)
     return tally.close()
 

@@ -1,5 +1,6 @@
-/* A host in C that links the archive as it is shipped: it formats, mounts, reads, writes, queues writes, changes the secret, reports and shows
- * a stored flake, sees refusals leave everything as it came, compares two volumes, hands its contents to dm-crypt and back, and makes a fleet's line. Its last line counts the checks. */
+/* A host in C that links the archive as it is shipped: it formats, mounts, reads, writes, queues writes, changes the secret, reports
+ * and shows a stored flake, sees refusals leave everything as it came, compares two volumes, keeps a summary, hands its contents to
+ * dm-crypt and back, discards in version 2, and makes a fleet's line. Its last line counts the checks. */
 #include "../include/ngt.h"
 #include <stdio.h>
 #include <string.h>
@@ -200,26 +201,51 @@ static void hands(void) {
     holds("and so is what is handed out", ngt_export(image, volume, SIZE, secret, other, sector, SECTOR, answer) == 0 && memcmp(was, sector, SECTOR) == 0);
 }
 
+/* A volume of version 2. */
+static uint8_t wide[LENGTH + 8 * N];
+
+static int wide_record_is(int n, uint64_t keycount, uint64_t spent, uint64_t held, uint64_t epoch) {
+    const uint8_t *at = wide + RECORDS + 26 * n;
+    return number(at, 8) == keycount && number(at + 8, 8) == spent && number(at + 16, 8) == held && number(at + 24, 2) == epoch;
+}
+
 static void discards(void) {
-    static uint8_t wide[LENGTH + 8 * N];
     uint8_t text[F], byte = 9;
     holds("another version is refused by 1", ngt_format_as(wide, sizeof wide, N, P, F, 3, 0, salt, secret, 5, drive, answer) == 1);
     holds("another cipher is refused by 1", ngt_format_as(wide, sizeof wide, N, P, F, 2, 1, salt, secret, 5, drive, answer) == 1);
     holds("a volume of version 1 has another length", ngt_format_as(vol, LENGTH, N, P, F, 2, 0, salt, secret, 5, drive, answer) == 2);
     holds("version 2 is formatted", ngt_format_as(wide, sizeof wide, N, P, F, 2, 0, salt, secret, 5, drive, answer) == 0);
     holds("drive and head say so", number(drive + 18, 2) == 2 && number(wide + 3, 2) == 2);
-    holds("a write marks both masks", ngt_write(drive, wide, sizeof wide, 0, &byte, 1, answer) == 0 && number(wide + RECORDS + 8, 8) == 1 && number(wide + RECORDS + 16, 8) == 1);
-    holds("a discard clears held bits only", ngt_discard(drive, wide, sizeof wide, 0, 0, P, answer) == 0 && number(wide + RECORDS + 8, 8) == 1 && number(wide + RECORDS + 16, 8) == 0);
+    holds("a write marks both masks", ngt_write(drive, wide, sizeof wide, 0, &byte, 1, answer) == 0 && wide_record_is(0, 0, 1, 1, 1));
+    holds("a discard clears held bits only", ngt_discard(drive, wide, sizeof wide, 0, 0, P, answer) == 0 && wide_record_is(0, 0, 1, 0, 1));
     holds("it raises the counter", number(drive + 40, 8) == 8);
     holds("the place reads as zero", ngt_read(drive, wide, sizeof wide, 0, text, F, answer) == 0 && text[0] == 0);
     memcpy(again, drive, 144);
     holds("one that clears nothing changes nothing", ngt_discard(drive, wide, sizeof wide, 0, 0, P, answer) == 0 && memcmp(again, drive, 144) == 0);
+    holds("nor does one of no flake, at the end too", ngt_discard(drive, wide, sizeof wide, 0, P, 0, answer) == 0 && memcmp(again, drive, 144) == 0);
     holds("a range past the end is refused by 8", ngt_discard(drive, wide, sizeof wide, 0, P, 1, answer) == 8);
     holds("a sum past 2^32 is refused by 8", ngt_discard(drive, wide, sizeof wide, 0, UINT32_MAX, 2, answer) == 8);
-    holds("the next write there rekeys", ngt_write(drive, wide, sizeof wide, 0, &byte, 1, answer) == 0 && number(wide + RECORDS, 8) == 1);
+    holds("no such nugget is refused by 8", ngt_discard(drive, wide, sizeof wide, N, 0, 0, answer) == 8 && memcmp(again, drive, 144) == 0);
+    holds("the next write there rekeys", ngt_write(drive, wide, sizeof wide, 0, &byte, 1, answer) == 0 && wide_record_is(0, 1, 1, 1, 1));
     holds("version 1 is formatted", ngt_format(vol, LENGTH, N, P, F, salt, secret, 5, drive, answer) == 0 && number(drive + 18, 2) == 1);
     keep();
     holds("version 1 has no discard: 9", ngt_discard(drive, vol, LENGTH, 0, 0, 1, answer) == 9 && as_kept());
+}
+
+/* Discards while the secret changes, beside a summary and a copy. */
+static void discards_left(void) {
+    static uint8_t copied[sizeof wide];
+    uint8_t sum[84], built[84], report[24], one[1055], two[1055], length[4], byte = 9;
+    holds("version 2 is formatted again", ngt_format_as(wide, sizeof wide, N, P, F, 2, 0, salt, secret, 5, drive, answer) == 0);
+    holds("both flakes of a nugget are written", ngt_write(drive, wide, sizeof wide, F - 1, (const uint8_t *)"ab", 2, answer) == 0 && wide_record_is(0, 0, 3, 3, 1));
+    holds("the secret changes", ngt_begin(drive, wide, sizeof wide, other, answer) == 0 && ngt_summary_build(drive, wide, sizeof wide, sum, 84, answer) == 0);
+    memcpy(copied, wide, sizeof wide);
+    holds("a nugget that is left stays left", ngt_discard(drive, wide, sizeof wide, 0, 1, 1, answer) == 0 && wide_record_is(0, 0, 3, 1, 1));
+    holds("a copy from before is altered", ngt_twins(drive, wide, sizeof wide, copied, sizeof copied, 0, one, two, length, answer) == 7 && number(length, 4) == 0);
+    holds("its path is renewed", ngt_summary_renew(drive, wide, sizeof wide, sum, 84, 0, answer) == 0 && ngt_summary_build(drive, wide, sizeof wide, built, 84, answer) == 0 && memcmp(sum, built, 84) == 0);
+    holds("a report counts what is held", ngt_tally(drive, wide, sizeof wide, report, answer) == 0 && number(report + 12, 4) == 1 && number(report + 8, 4) == N);
+    holds("a sweep lays what is held", ngt_sweep(drive, wide, sizeof wide, 0, answer) == 0 && wide_record_is(0, 1, 1, 1, 2));
+    holds("and frees the place of the other", ngt_write(drive, wide, sizeof wide, F, &byte, 1, answer) == 0 && wide_record_is(0, 1, 3, 3, 2));
 }
 
 static void ciphers(void) {
@@ -263,6 +289,7 @@ int main(void) {
     spent();
     hands();
     discards();
+    discards_left();
     ciphers();
     fleet();
     printf("%d passed, %d failed\n", passed, failed);

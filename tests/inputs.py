@@ -26,20 +26,24 @@ def flipped(data, byte, bit):
 
 
 def around_the_sample(source, volume_flips):
-    """The sample, every length that decides, and one flipped bit in each byte before the records and in some behind them."""
-    good = sample.sample()
-    lay = layout(3, 2, 64)
+    """The sample, every length that decides, and one flipped bit in each byte before the records and in some behind them. Of the
+    sample in version 2 the same, but for the secrets and the counter."""
+    good, other = sample.sample(1), sample.sample(2)
     yield "the sample", good
+    yield "the sample in version 2", other
+    for n in (175, 176, 177, len(good), len(other) - 1):
+        yield f"{n} bytes of version 2", other[:n]
     for n in (0, 1, 71, 72, 73, 175, 176, 177, len(good) - 1, sheet.MOST - 1, sheet.MOST, sheet.MOST + 1):
         yield f"{n} bytes", (good + bytes(sheet.MOST + 1))[:n]
     for n in (sheet.MOST - 1, sheet.MOST, sheet.MOST + 1, sheet.MOST + 2):
         yield f"{n} zero bytes", bytes(n)
     for byte in range(72):
         yield f"byte {byte} of the secrets and the counter", flipped(good, byte, source.randrange(8))
-    for byte in range(104):
-        yield f"byte {byte} of the head", flipped(good, 72 + byte, source.randrange(8))
-    for byte in source.sample(range(104, lay.length), volume_flips):
-        yield f"byte {byte} of the volume", flipped(good, 72 + byte, source.randrange(8))
+    for version, whole in ((1, good), (2, other)):
+        for byte in range(104):
+            yield f"byte {byte} of the head, version {version}", flipped(whole, 72 + byte, source.randrange(8))
+        for byte in source.sample(range(104, layout(3, 2, 64, version).length), volume_flips):
+            yield f"byte {byte} of the volume, version {version}", flipped(whole, 72 + byte, source.randrange(8))
 
 
 def compare(program, second, cases, shown, passed=0):

@@ -27,6 +27,7 @@ static const char *const reached[KINDS] = {"1 2 13", "1 2 3 4 5 6 7", "0 1 2 7 8
 struct given {
     enum kind kind;
     uint32_t n, p, f;
+    uint16_t version;
     uint64_t number;
     size_t length;
     uint8_t one[32], two[32];
@@ -85,7 +86,10 @@ static void guard(struct pages p, int how) {
 static uint32_t make(const struct given *g, const struct place *at) {
     uint8_t *end = at->null && g->length == 0 ? NULL : at->buf + ROOM - g->length;
     switch (g->kind) {
-    case FORMAT: return ngt_format(at->vol, at->length, g->n, g->p, g->f, at->one + 16, at->two, g->number, at->made, at->answer);
+    case FORMAT:
+        if (g->version == 1 && g->length % 2)
+            return ngt_format(at->vol, at->length, g->n, g->p, g->f, at->one + 16, at->two, g->number, at->made, at->answer);
+        return ngt_format_as(at->vol, at->length, g->n, g->p, g->f, g->version, g->length % 7 == 6, at->one + 16, at->two, g->number, at->made, at->answer);
     case MOUNT: return ngt_mount(at->vol, at->length, at->one, at->two, g->number, at->made, at->answer);
     case READ: return ngt_read(at->image, at->vol, at->length, g->number, end, g->length, at->answer);
     case WRITE: return ngt_write(at->image, at->vol, at->length, g->number, end, g->length, at->answer);
@@ -124,6 +128,7 @@ static void secret(uint8_t *to, const uint8_t *image) {
 static struct given some(const uint8_t *image) {
     struct given g = {.kind = (enum kind)(any() % KINDS), .n = word(image), .p = word(image + 4), .f = word(image + 8)};
     uint64_t counter, all = (uint64_t)g.n * g.p * g.f;
+    g.version = any() % 4 ? (uint16_t)(image[18] | image[19] << 8) : (uint16_t)(any() % 4);
     memcpy(&counter, image + 40, 8);
     g.length = any() % 3 ? any() % 200 : 0;
     secret(g.one, image), memcpy(g.two, image + 112, 32);

@@ -156,16 +156,19 @@ static void watch(uint32_t (*call)(void)) {
     guard(PROT_READ | PROT_WRITE);
 }
 
+static uint16_t version = 1;
+
 static void check(int holds, const char *what, const char *call, uint32_t f) {
     if (holds)
         passed++;
     else if (failed++ < SHOWN)
-        printf("snapshot: %s, F %u: %s\n", call, f, what);
+        printf("snapshot: %s, version %u, F %u: %s\n", call, version, f, what);
 }
 
-/* The calls. `offset` and `count` are those of the range. */
+/* The calls. `offset` and `count` are those of the range: bytes, or of a discard flakes. */
 static size_t offset, count;
 static uint32_t sweeps(void) { return ngt_sweep(drive, vol, length, 0, answer); }
+static uint32_t discards(void) { return ngt_discard(drive, vol, length, 0, (uint32_t)offset, (uint32_t)count, answer); }
 static uint32_t writes(void) { return ngt_write(drive, vol, length, offset, bytes, count, answer); }
 static uint32_t reads(void) { return ngt_read(drive, vol, length, offset, buffer, count, answer); }
 
@@ -204,27 +207,32 @@ static void controls(void) {
     check(each && unlike == 0 && stores[vol - kept + 408] == 0, "control: a store of the same bytes wasn't counted", "watch", 0);
 }
 
-/* A drive whose nugget 0 holds flakes 0 and 2, and known bytes to write. */
-static void prepare(uint32_t f, int changing) {
-    size_t records = 104 + 18 * N, tags = records + 16 * N * P, tree = tags + 32 * (2 * N - 1);
+/* A drive whose nugget 0 holds flakes 0 and 2, or had them and holds 0 alone; and known bytes to write. */
+enum { STEADY = 0, CHANGING = 1, FREED = 2 };
+static void prepare(uint32_t f, int way) {
+    size_t records = 104 + (version == 1 ? 18 : 26) * N, tags = records + 16 * N * P, tree = tags + 32 * (2 * N - 1);
     length = tree + (size_t)N * P * f;
     vol = kept, drive = kept + ROOM - 256, answer = kept + ROOM - 64;
     memset(kept, 0, ROOM), memset(known, 0, sizeof known);
     for (size_t i = 0; i < (size_t)P * f; i++)
         text[i] = any(), bytes[i] = any(), buffer[i] = 0;
-    uint32_t refused = ngt_format_as(vol, length, N, P, f, 1, cipher, salt, first, 0, drive, answer);
+    uint32_t refused = ngt_format_as(vol, length, N, P, f, version, cipher, salt, first, 0, drive, answer);
     refused |= ngt_write(drive, vol, length, 0, text, f, answer);
     refused |= ngt_write(drive, vol, length, 2 * (size_t)f, text + 2 * (size_t)f, f, answer);
-    if (changing)
+    if (way & CHANGING)
         refused |= ngt_begin(drive, vol, length, second, answer);
+    if (way & FREED)
+        refused |= ngt_discard(drive, vol, length, 0, 2, 1, answer);
     check(refused == 0, "a call before it was refused", "prepare", f);
     memset(text + f, 0, f);
     know(text, f), know(text + 2 * (size_t)f, f), know(bytes, (size_t)P * f);
+    if (way & FREED)
+        memset(text + 2 * (size_t)f, 0, f);
 }
 
 /* One call, unwatched and then watched; `laid` says which flakes of nugget 0, or all of which bytes, it lays anew. */
-static void tries(const char *name, uint32_t (*call)(void), uint32_t f, int changing, size_t at, size_t many, unsigned laid) {
-    prepare(f, changing);
+static void tries(const char *name, uint32_t (*call)(void), uint32_t f, int way, size_t at, size_t many, unsigned laid) {
+    prepare(f, way);
     offset = at, count = many;
     memcpy(given, kept, ROOM);
     uint32_t expected = call();
@@ -246,6 +254,28 @@ static void tries(const char *name, uint32_t (*call)(void), uint32_t f, int chan
     check(each, "it laid other flakes than it had to", name, f);
 }
 
+/* What both versions have. */
+static void tries_both(uint32_t f) {
+    tries("sweep", sweeps, f, CHANGING, 0, 0, 5);
+    tries("write beside, changing", writes, f, CHANGING, f + f / 4, f / 2, 7);
+    tries("write inside a flake", writes, f, STEADY, f / 3, f / 2, 5);
+    tries("write over three flakes", writes, f, STEADY, f - 9, f + 20, 7);
+    tries("write of whole flakes", writes, f, STEADY, 0, (size_t)P * f, 7);
+    tries("write into an absent flake", writes, f, STEADY, f + 3, f - 5, 2);
+    tries("read", reads, f, STEADY, 5, (size_t)P * f - 11, 0);
+    check(memcmp(buffer, text + 5, (size_t)P * f - 11) == 0, "it read something else", "read", f);
+}
+
+/* What version 2 alone has: a discard lays nothing, and what is freed is never opened. */
+static void tries_freed(uint32_t f) {
+    tries("discard", discards, f, STEADY, 0, P, 0);
+    tries("discard, changing", discards, f, CHANGING, 2, 1, 0);
+    tries("sweep beside a freed flake", sweeps, f, CHANGING | FREED, 0, 0, 1);
+    tries("write where a flake was freed", writes, f, FREED, 2 * (size_t)f + 3, f - 5, 5);
+    tries("read of a freed flake", reads, f, FREED, 5, (size_t)P * f - 11, 0);
+    check(memcmp(buffer, text + 5, (size_t)P * f - 11) == 0, "it read something else", "read", f);
+}
+
 int main(void) {
     static uint8_t aside[1 << 17];
     stack_t alternate = {.ss_sp = aside, .ss_size = sizeof aside};
@@ -258,19 +288,13 @@ int main(void) {
     prepare(LARGEST, 0);
     controls();
     static const uint32_t sizes[] = {64, 576, LARGEST};
-    size_t all = sizeof sizes / sizeof *sizes;
-    for (size_t i = 0; i < 2 * all; i++) {
-        uint32_t f = sizes[i % all];
-        cipher = i < all ? 0 : 16;
-        tries("sweep", sweeps, f, 1, 0, 0, 5);
-        tries("write beside, changing", writes, f, 1, f + f / 4, f / 2, 7);
-        tries("write inside a flake", writes, f, 0, f / 3, f / 2, 5);
-        tries("write over three flakes", writes, f, 0, f - 9, f + 20, 7);
-        tries("write of whole flakes", writes, f, 0, 0, (size_t)P * f, 7);
-        tries("write into an absent flake", writes, f, 0, f + 3, f - 5, 2);
-        tries("read", reads, f, 0, 5, (size_t)P * f - 11, 0);
-        check(memcmp(buffer, text + 5, (size_t)P * f - 11) == 0, "it read something else", "read", f);
-    }
+    for (cipher = 0; cipher <= 16; cipher += 16)
+        for (version = 1; version <= 2; version++)
+            for (size_t i = 0; i < sizeof sizes / sizeof *sizes; i++) {
+                tries_both(sizes[i]);
+                if (version == 2)
+                    tries_freed(sizes[i]);
+            }
     printf("snapshot: %zu instructions, %zu bytes stored in volume, drive and answer\n", steps, stored);
     printf("%zu passed, %zu failed\n", passed, failed);
     return failed != 0;

@@ -1,6 +1,6 @@
 """Summaries: the proved library beside the second program, through the C interface, all equal to the byte.
 
-After every change of a history the renewed summary, the built one and the second program's are one, and the top report is the
+After every change of a history, of either version, the renewed summary, the built one and the second program's are one, and the top report is the
 whole one; then bytes that are no summary, and each fault before each later one. NGT_SEED sets the seed.
 """
 import ctypes
@@ -15,7 +15,7 @@ import calls  # noqa: E402
 import summary  # noqa: E402
 from checks.choose import shape  # noqa: E402
 from checks.make import SALT, Spec, flipped, made  # noqa: E402
-from checks.refusals import LAY, MIXED  # noqa: E402
+from checks.refusals import MIXED  # noqa: E402
 from checks.summaries import a_call, changed  # noqa: E402
 from layout import layout  # noqa: E402
 
@@ -66,7 +66,8 @@ class Both:
 
 def history(both, chance, case):
     n, p, f = shape(chance)
-    now = calls.format(bytes(layout(n, p, f).length), n, p, f, SALT, chance.randbytes(32), 0)
+    version = chance.choice((1, 2))
+    now = calls.format(bytes(layout(n, p, f, version).length), n, p, f, SALT, chance.randbytes(32), 0, version, chance.choice((0, 16)))
     drive, volume, size = now.drive, now.volume, summary.length(n)
     kept = both.build(case, drive, volume, chance.randbytes(size))
     for _ in range(STEPS):
@@ -85,13 +86,14 @@ def history(both, chance, case):
         both.renew(case, drive, volume, garbage, chance.randint(0, n))
 
 
-def refusals(both):
+def refusals(both, version):
     """1, 2, 2, 7 head, 8, 7 path or whole: each fault alone, and each with each later one."""
-    drive, volume = made(Spec(3, 2, 64, 1, 3, 9, MIXED))
+    drive, volume = made(Spec(3, 2, 64, 1, 3, 9, MIXED, version=version))
+    lay = drive.layout
     faults = [lambda d, v, b, n: (d._replace(p=65), v, b, n), lambda d, v, b, n: (d, v[:-1], b, n),
               lambda d, v, b, n: (d, v, b + b"!", n), lambda d, v, b, n: (d, flipped(v, 16), b, n),
-              lambda d, v, b, n: (d, v, b, 2**32 - 1), lambda d, v, b, n: (d, flipped(v, LAY.record_at(1)), b, n),
-              lambda d, v, b, n: (d, flipped(v, LAY.node_at(7)), b, n)]
+              lambda d, v, b, n: (d, v, b, 2**32 - 1), lambda d, v, b, n: (d, flipped(v, lay.record_at(1)), b, n),
+              lambda d, v, b, n: (d, flipped(v, lay.node_at(7)), b, n)]
     for i, first in enumerate(faults):
         for j, second in enumerate(faults[i:]):
             words = first(drive, volume, bytes(summary.length(3)), 1)
@@ -107,7 +109,8 @@ def refusals(both):
 
 def main():
     both = Both(library("ngt"), Tally())
-    refusals(both)
+    for version in (1, 2):
+        refusals(both, version)
     for i in range(HISTORIES):
         history(both, random.Random(f"{SEED} summary {i}"), i)
     return both.tally.close()

@@ -1,4 +1,4 @@
-"""Document 01's figures 1 to 11, and the shapes that are out of limits."""
+"""Document 01's figures 1 to 11, the same lengths with version 2's records, and the shapes that are out of limits."""
 
 import calls
 from calls import share_of
@@ -23,6 +23,11 @@ def lengths(tally):
     tally.same("figure 3", layout(16384, 64, 4096).length, 4313088072)
     tally.same("figure 4", [leaves(n) for n in (1, 3, 4, 5)], [1, 4, 4, 8])
     tally.same("figure 5", layout(3, 2, 64).position(200), (1, 1, 8))
+    lay = layout(3, 2, 64, 2)
+    tally.same("figure 1 in version 2", (lay.length, lay.records, lay.tags, lay.tree, lay.flakes),
+               (886, 104, 182, 278, 502))
+    tally.same("figures 2 and 3 in version 2", [layout(*shape, 2).length for shape in ((1, 1, 64), (16384, 64, 4096))],
+               [242, 4313219144])
 
 
 def shares(tally):
@@ -46,36 +51,37 @@ def left_behind(tally):
     """Item 1's accident: thousands of empty nuggets moved say nothing of the data."""
     full, n = 2**64 - 1, 4000
     moved, left, empty = [0, full, 2], [0, full, 1], [3, 0, 2]
-    for name, front, back, want in (
+    for i, (name, front, back, want) in enumerate((
             ("full one left", [], left, (n, n - 1, 1, 64, 0, 0)),
             ("one full left, one moved", [moved], left, (n, n - 1, 1, 128, 5000, 64)),
             ("full one moved, an empty one left", [[3, 0, 1]], moved, (n, n - 1, 1, 64, 9999, 64)),
             ("full one moved, nothing left", [], moved, (n, n, 0, 64, 10000, 64)),
             ("no flake, one left", [[3, 0, 1]], empty, (n, n - 1, 1, 0, 9997, 0)),
-            ("no flake, nothing left", [], empty, (n, n, 0, 0, 10000, 0))):
+            ("no flake, nothing left", [], empty, (n, n, 0, 0, 10000, 0)))):
         records = front + [empty] * (n - 1 - len(front)) + [back]
-        drive, volume = made(Spec(n, 64, 64, 1, 2, 9, records))
+        drive, volume = made(Spec(n, 64, 64, 1, 2, 9, records, version=1 + i % 2))
         got = calls.report(drive, volume)
         tally.same(f"report, {name}", (got.answer.number, tuple(got.report)), (0, want))
 
 
-def writes(tally):
-    fresh = calls.format(b"\xff" * 314, 1, 2, 64, SALT, PRESENT, 0)
+def writes(tally, version):
+    lay = layout(1, 2, 64, version)
+    fresh = calls.format(b"\xff" * lay.length, 1, 2, 64, SALT, PRESENT, 0, version)
     now, pads, present_before = fresh, [], 0
     for offset, length in ((0, 64), (64, 64), (0, 1)):
-        before = read_record(now.volume, layout(1, 2, 64), 0)
+        before = read_record(now.volume, lay, 0)
         now = calls.write(now.drive, now.volume, offset, b"w" * length)
-        after = read_record(now.volume, layout(1, 2, 64), 0)
+        after = read_record(now.volume, lay, 0)
         pads += now.pads
         present_before += (after.keycount - before.keycount) * len(before.present())
-    record = read_record(now.volume, layout(1, 2, 64), 0)
-    tally.same("figure 10", (record.keycount, record.held), (1, 3))
+    record = read_record(now.volume, lay, 0)
+    tally.same("figure 10", (record.keycount, record.spent, record.held), (1, 3, 3))
     tally.same("figure 10 pads", [pad[:3] for pad in pads],
                [(0, 0, 0), (0, 0, 1), (0, 1, 0), (0, 1, 1)])
     tally.same("figure 10 present and retired", (len(record.present()), present_before), (2, 2))
     once = calls.write(fresh.drive, fresh.volume, 60, b"ten bytes.")
-    record = read_record(once.volume, layout(1, 2, 64), 0)
-    tally.same("figure 11", (record.keycount, record.held), (0, 3))
+    record = read_record(once.volume, lay, 0)
+    tally.same("figure 11", (record.keycount, record.spent, record.held), (0, 3, 3))
     tally.same("figure 11 pads", [pad[:3] for pad in once.pads], [(0, 0, 0), (0, 0, 1)])
     whole = calls.read(once.drive, once.volume, 0, b"?" * 128)
     tally.same("figure 11 bytes", whole.buffer, bytes(60) + b"ten bytes." + bytes(58))
@@ -83,11 +89,11 @@ def writes(tally):
     tally.same("length 0 at the end", empty, calls.Result(calls.ACCEPTED, once.drive, once.volume))
 
 
-def bad_shapes(tally):
-    good_drive, good = made(Spec(3, 2, 64, 0, 1, 4, [[0, 1, 1]] * 3))
+def bad_shapes(tally, version):
+    good_drive, good = made(Spec(3, 2, 64, 0, 1, 4, [[0, 1, 1]] * 3, version=version))
     for n, p, f in BAD_SHAPES:
         for volume in (b"", bytes(862), good):
-            got = calls.format(volume, n, p, f, SALT, PRESENT, 2**64 - 1)
+            got = calls.format(volume, n, p, f, SALT, PRESENT, 2**64 - 1, version)
             tally.same(f"format {n} {p} {f}", got, calls.Result(calls.Answer(1), BLANK, volume))
         drive = good_drive._replace(n=n, p=p, f=f)
         for got in drive_calls(drive, good):
@@ -103,16 +109,18 @@ def drive_calls(drive, volume):
     """Every call that takes a drive, with plain arguments."""
     return [calls.read(drive, volume, 0, b"?"), calls.write(drive, volume, 0, b"!"),
             calls.write(drive, volume, 0, b""), calls.begin(drive, volume, b"\x09" * 32),
-            calls.sweep(drive, volume, 0), calls.finish(drive, volume),
-            calls.report(drive, volume), calls.stored_flake(drive, volume, 0, 0)]
+            calls.sweep(drive, volume, 0), calls.finish(drive, volume), calls.discard(drive, volume, 0, 0, 1),
+            calls.queue(drive, volume, calls.request_bytes([(0, 1)]), b"!"), calls.export(drive, volume, b"1" * 32, b"2" * 32, b"?"),
+            calls.take_in(drive, volume, b"1" * 32, b"2" * 32, b"!"), calls.report(drive, volume),
+            calls.stored_flake(drive, volume, 0, 0)]
 
 
-def bad_states(tally):
-    drive, volume = made(Spec(3, 2, 64, 1, 2, 4, [[0, 1, 1]] * 3))
+def bad_states(tally, version):
+    drive, volume = made(Spec(3, 2, 64, 1, 2, 4, [[0, 1, 1]] * 3, version=version))
     for words in ({"state": 2}, {"state": 255}, {"epoch": 0}, {"epoch": 1, "leaving": 0},
                   {"leaving": 2}, {"leaving": 0}, {"leaving": 3}, {"state": 0, "epoch": 0},
-                  {"epoch": 0, "leaving": 65535}, {"epoch": 65535}, {"cipher": 1}, {"cipher": 15},
-                  {"cipher": 17}, {"cipher": 32}, {"cipher": 255}):
+                  {"epoch": 0, "leaving": 65535}, {"epoch": 65535}, {"version": 0}, {"version": 3}, {"version": 256 + version},
+                  {"cipher": 1}, {"cipher": 15}, {"cipher": 17}, {"cipher": 32}, {"cipher": 255}):
         bad = drive._replace(**words)
         for got in drive_calls(bad, volume):
             tally.same(f"drive with {words}", got[:3], (calls.Answer(1), bad, volume))
@@ -125,22 +133,24 @@ def bad_states(tally):
         tally.same(f"mount, head byte {at} is {byte}", got.answer, calls.Answer(1))
 
 
-def edges(tally):
+def edges(tally, version):
     for n, p, f in EDGES:
-        length = layout(n, p, f).length
-        got = calls.format(bytes([7]) * length, n, p, f, SALT, PRESENT, 2**64 - 2)
-        want = made(Spec(n, p, f, 0, 1, 2**64 - 1, [[0, 0, 1]] * n))
+        length = layout(n, p, f, version).length
+        got = calls.format(bytes([7]) * length, n, p, f, SALT, PRESENT, 2**64 - 2, version)
+        want = made(Spec(n, p, f, 0, 1, 2**64 - 1, [[0, 0, 1]] * n, version=version))
         tally.same(f"edge {n} {p} {f}", (got.answer.number, got.drive, got.volume), (0,) + want)
         back = calls.mount(got.volume, PRESENT, b"?" * 32, 2**64 - 1)
         tally.same(f"edge {n} {p} {f} mounted", back.drive, got.drive)
         for wrong in (length - 1, length + 1, 0):
-            got = calls.format(bytes(wrong), n, p, f, SALT, PRESENT, 0)
+            got = calls.format(bytes(wrong), n, p, f, SALT, PRESENT, 0, version)
             tally.same(f"edge {n} {p} {f} length", got.answer.number, 2)
-    largest = Drive(16384, 64, 4096, epoch=1, version=1)
-    tally.same("largest shape, no volume", [got.answer.number for got in drive_calls(largest, b"")],
-               [2] * 8)
+    largest = Drive(16384, 64, 4096, epoch=1, version=version)
+    tally.same("largest shape, no volume", {got.answer.number for got in drive_calls(largest, b"")}, {2})
 
 
 def run(tally):
-    for part in (lengths, shares, left_behind, writes, bad_shapes, bad_states, edges):
+    for part in (lengths, shares, left_behind):
         part(tally)
+    for part in (writes, bad_shapes, bad_states, edges):
+        for version in (1, 2):
+            part(tally, version)

@@ -8,16 +8,17 @@ from drive import BLANK
 
 from checks.make import OLD, PRESENT, Spec, flipped, full, made, power, width
 
-VOLUMES = [
+BOTH = [
     Spec(3, 2, 64, 0, 3, 9, [[4, 3, 3], [7, 2, 3], [0, 0, 3]]),
     Spec(3, 2, 64, 1, 3, 9, [[4, 3, 2], [7, 1, 3], [0, 2, 2]]),
     Spec(1, 1, 64, 0, 1, 2**63, [[1, 1, 1]]),
     Spec(5, 3, 128, 1, 2, 2**63, [[0, 5, 1], [1, 7, 2], [0, 0, 1], [2**63, 4, 2], [3, 1, 1]]),
-    Spec(3, 2, 64, 1, 3, 9, [[4, 3, 1, 2], [7, 1, 1, 3], [0, 3, 0, 2]], version=2),
-    Spec(1, 1, 64, 0, 1, 2**63, [[1, 1, 1]], version=2),
-    Spec(3, 2, 64, 1, 3, 9, [[4, 3, 1, 2], [7, 1, 1, 3], [0, 3, 0, 2]], version=2, cipher=16),
-    Spec(1, 1, 64, 0, 1, 2**63, [[1, 1, 1]], cipher=16),
 ]
+# And one where some spent flakes aren't held.
+VOLUMES = BOTH + [spec._replace(version=2) for spec in BOTH]
+VOLUMES.append(Spec(3, 2, 64, 1, 3, 9, [[4, 3, 1, 2], [7, 1, 1, 3], [0, 3, 0, 2]], version=2))
+# And both ciphers.
+VOLUMES += [VOLUMES[1]._replace(cipher=16), VOLUMES[-1]._replace(cipher=16)]
 
 
 def head_answer(volume, at):

@@ -17,6 +17,8 @@ TOP = 2**64 - 1
 WORDS = (0, 1, 2, 3, 5, 63, 64, 65, 96, 128, 4096, 4160, 16384, 16385, 2**16, 2**31, 2**32 - 1)
 LINE = re.compile(rb"(nuggets=\d+ moved=\d+ left=\d+ flakes=\d+ share=\d+\.\d\d done=\d+|refused=[1-6] class="
                   rb"(form|key)|refused=7 class=altered place=(record|node) \d+)\n")
+# Shapes and versions by their volumes' lengths.
+SMALL = {layout(*shape, version).length: (*shape, version) for shape in ((1, 1, 64), (1, 2, 64), (3, 2, 64)) for version in (1, 2)}
 # Which numbers each call may give at all.
 POSSIBLE = {
     "format": {0, 1, 2, 13}, "mount": {0, 1, 2, 3, 4, 5, 6, 7}, "read": {0, 1, 2, 7, 8},
@@ -53,18 +55,20 @@ def sealed(chance):
     if chance.random() < 0.3:
         volume = flipped(volume, chance.randrange(len(volume)), chance.randrange(8))
     if chance.random() < 0.1:
-        drive = drive._replace(**{chance.choice(("n", "p", "f", "version")): chance.choice(WORDS) % 2**16})
+        field, word = chance.choice(("n", "p", "f", "version")), chance.choice(WORDS)
+        drive = drive._replace(**{field: word % 2**16 if field == "version" else word})
     return drive, volume
 
 
 def wild(chance):
     """Drive and volume of any bytes at all; at times with a head's mark and a small shape."""
-    volume = bytearray(chance.randbytes(chance.choice((0, 1, 71, 103, 104, 105, 234, 314, 862))))
+    volume = bytearray(chance.randbytes(chance.choice((0, 1, 71, 103, 104, 105, *SMALL))))
     if chance.random() < 0.7 and len(volume) >= 104:
         shape = (chance.choice(WORDS), chance.choice(WORDS) % 65536, chance.choice(WORDS) % 65536)
+        version = chance.choice((1, 1, 2, 2, 0, 3))
         if chance.random() < 0.5:
-            shape = {234: (1, 1, 64), 314: (1, 2, 64), 862: (3, 2, 64)}.get(len(volume), shape)
-        volume[:8] = b"NGT" + bytes((chance.choice((1, 1, 1, 2, 2, 0, 3)), 0)) + bytes((chance.choice((0, 1, 2, 16, 17, 18, 32)), chance.randrange(3), 0))
+            *shape, version = SMALL.get(len(volume), (*shape, version))
+        volume[:8] = b"NGT" + bytes((version, 0, chance.choice((0, 1, 2, 16, 17, 18, 32)), chance.randrange(3), 0))
         volume[8:16] = b"".join(value.to_bytes(width, "little")
                                 for value, width in zip(shape, (4, 2, 2)))
     drive = drive_of_image(chance.randbytes(144))
@@ -117,8 +121,8 @@ def judged(tally, words, name, given, volume, got, buffer):
 def small_memory(tally):
     """Shapes that would need gigabytes, on a volume that hasn't them."""
     tracemalloc.start()
-    for epoch in (1, 0):
-        drive = Drive(16384, 64, 4096, epoch=epoch, counter=5, version=1)
+    for epoch, version in ((1, 1), (0, 1), (1, 2), (0, 2)):
+        drive = Drive(16384, 64, 4096, epoch=epoch, counter=5, version=version)
         for name, _, got, _ in every_call(random.Random(1), drive, bytes(862)):
             tally.holds(f"{name} of the largest shape", got.answer.number in (1, 2, 3))
     peak = tracemalloc.get_traced_memory()[1]

@@ -6,7 +6,7 @@ import calls
 import xts
 from answers import FLAKE, HEAD, RECORD, Answer
 from drive import BLANK
-from layout import TOP, layout
+from layout import TOP, layout, read_record
 
 from checks.make import Spec, flipped, made
 from checks.refusals import at7
@@ -23,12 +23,15 @@ VECTORS = [(0xFF, "1c3b3a102f770386e4836c99e370cf9b", "c4f36ffda9fcea70b9c6e693e
 
 
 def volume_of(shape, chance, counter=9):
-    """A drive that is changing or not, with random journals and epochs."""
+    """A drive of either version and cipher, changing or not, with random masks and epochs."""
     n, p, f = shape
-    changing = chance.randrange(2)
-    records = [[chance.randrange(4), chance.getrandbits(p), 3 - (chance.randrange(2) if changing else 0)]
-               for _ in range(n)]
-    return made(Spec(n, p, f, changing, 3, counter, records))
+    changing, version = chance.randrange(2), chance.choice((1, 2))
+    records = []
+    for _ in range(n):
+        spent = chance.getrandbits(p)
+        held = spent if version == 1 else spent & chance.getrandbits(p)
+        records.append([chance.randrange(4), spent, held, 3 - (chance.randrange(2) if changing else 0)])
+    return made(Spec(n, p, f, changing, 3, counter, records, version=version, cipher=chance.choice((0, 16))))
 
 
 def vectors(tally):
@@ -75,11 +78,26 @@ def refusals(tally, chance):
                         tally.same(f"{shape}, {size} bytes, nothing filled", got.buffer, b"!" * size)
 
 
-def orders(tally):
+def freed(tally):
+    """An export reads discarded places as zero and tests nothing there; an import makes them present again."""
+    drive, volume = made(Spec(2, 4, 64, 0, 3, 9, [[1, 5, 3], [0, 15, 3]], version=2))
+    lay, text = drive.layout, calls.read(drive, volume, 0, bytes(512)).buffer
+    got = calls.discard(drive, volume, 1, 1, 2)
+    want = xts.encrypted(ONE, TWO, text[:320] + bytes(128) + text[448:])
+    out = calls.export(got.drive, got.volume, ONE, TWO, b"!" * 512)
+    tally.same("discarded places are exported as zero", (out.answer, out.buffer), (Answer(0), want))
+    bad = flipped(got.volume, lay.flake_at(1, 1))
+    tally.same("and not looked at", calls.export(got.drive, bad, ONE, TWO, b"!" * 512).buffer, want)
+    back = calls.take_in(got.drive, got.volume, ONE, TWO, want)
+    tally.same("an import rekeys", [read_record(back.volume, lay, n) for n in (0, 1)], [(2, 15, 15, 3), (1, 15, 15, 3)])
+    tally.same("the same contents", calls.export(back.drive, back.volume, ONE, TWO, b"!" * 512).buffer, want)
+
+
+def orders(tally, version):
     """1, 2, 7 head before; 13 and the paths behind."""
-    spec = Spec(2, 4, 64, 0, 3, 9, [[1, 5, 3], [0, 2, 3]])
+    spec = Spec(2, 4, 64, 0, 3, 9, [[1, 5, 3], [0, 2, 3]], version=version)
     drive, volume = made(spec)
-    lay = layout(2, 4, 64)
+    lay = drive.layout
     for call in (calls.export, calls.take_in):
         for given, stands, want in ((BLANK, volume, Answer(1)), (drive, volume + b"\0", Answer(2)),
                                     (drive, flipped(volume, 20), at7(HEAD))):
@@ -102,4 +120,6 @@ def run(tally):
     vectors(tally)
     round_trips(tally, chance)
     refusals(tally, chance)
-    orders(tally)
+    for version in (1, 2):
+        orders(tally, version)
+    freed(tally)

@@ -14,6 +14,7 @@ from checks.choose import TOP, a_range, secret, shape
 from checks.history import History
 from checks.hostile import Hostile
 from checks.make import Spec, made, some_text
+from checks.model import FREEING
 
 COUNT, STEPS = 400, 40
 
@@ -70,13 +71,16 @@ def a_change(chance, history):
 
 
 def a_discard(chance, model):
-    """0 to P flakes of a nugget, at times again those just freed, at times past the end."""
-    n = chance.choice((chance.randrange(model.n), chance.randrange(model.n), model.n, 2**32 - 1))
+    """0 to P flakes of a nugget, mostly of one that holds some, often of one that is left; at times again those just freed, at times
+    past the end."""
     if model.ghosts and chance.random() < 0.2:
         n, first = chance.choice(sorted(model.ghosts))
         return n, first, 1
-    first = chance.choice((0, chance.randint(0, model.p), 2**32 - 1 if chance.random() < 0.1 else 0))
-    return n, first, chance.choice((0, 1, model.p - first, model.p, 2**32 - 1)) % 2**32
+    holding = [n for n in range(model.n) if model.flakes(n)] or [0]
+    left = [n for n in holding if model.records[n][3] != model.epoch] or holding
+    n = chance.choice((chance.choice(holding), chance.choice(left), chance.choice(left), chance.randrange(model.n), model.n, 2**32 - 1))
+    first = chance.choice((0, 0, chance.randint(0, model.p), 2**32 - 1 if chance.random() < 0.1 else 0))
+    return n, first, chance.choice((0, 1, 1, model.p - first, model.p - first, model.p, 2**32 - 1)) % 2**32
 
 
 def damage(chance, history):
@@ -112,7 +116,7 @@ def step(chance, history):
 
 
 def clean(tally, chance, words, begins):
-    """The numbers that its calls were answered."""
+    """The numbers that its calls were answered, and what its discards met."""
     history = begins(tally, chance, words)
     history.mount()
     for _ in range(STEPS):
@@ -120,7 +124,7 @@ def clean(tally, chance, words, begins):
     history.read(0, history.model.size())
     history.report()
     history.stale_all()
-    return history.met
+    return history.met | history.model.freeing
 
 
 def hostile(tally, chance, words):
@@ -142,4 +146,4 @@ def run(tally):
     met = set()
     for i in range(COUNT):
         met |= one(tally, i)
-    tally.same("every answer of an undamaged history was met", met, {0, *range(8, 14), 15})
+    tally.same("every answer of an undamaged history was met, and every kind of discard", met, {0, *range(8, 14), 15} | FREEING)

@@ -8,6 +8,8 @@ from fractions import Fraction
 from checks.make import Spec, full
 
 TOP = 2**64 - 1
+# What a discard can meet, and a write behind it.
+FREEING = {"version 1", "past the end", "no flake", "nothing held", "freed before", "freed", "freed in a left nugget", "written where freed"}
 
 
 class Model:
@@ -19,7 +21,7 @@ class Model:
         self.state, self.epoch, self.counter = spec.state, spec.epoch, spec.counter
         self.records = [full(record) for record in spec.records]
         self.version, self.cipher, self.ghosts = spec.version, spec.cipher, dict(spec.ghosts)
-        self.present, self.old = spec.present, spec.old
+        self.present, self.old, self.freeing = spec.present, spec.old, set()
         self.shadow = bytearray()
         for n, (_, _, held, _) in enumerate(self.records):
             for f in range(self.p):
@@ -82,6 +84,7 @@ class Model:
         pads = []
         for n in plan:
             fresh = plan[n] | set(self.flakes(n)) if n in anew else plan[n]
+            self.freeing |= {"written where freed" for f in plan[n] if (n, f) in self.ghosts}
             if n in anew:
                 self.rekey(n, fresh)
             for mask in (1, 2):
@@ -130,15 +133,20 @@ class Model:
     def discard(self, n, first, count):
         """Document 02, Item 4. What is freed counts as never written; its stored bytes stay."""
         if self.version == 1:
+            self.freeing.add("version 1")
             return 9, []
         if n >= self.n or first + count > self.p:
+            self.freeing.add("past the end")
             return 8, []
         freed = [f for f in self.flakes(n) if first <= f < first + count]
         if not freed:
+            again = any((n, f) in self.ghosts for f in range(first, first + count))
+            self.freeing.add("freed before" if again else "nothing held" if count else "no flake")
             return 0, []
         if self.counter == TOP:
             return 13, []
         keycount, _, _, epoch = self.records[n]
+        self.freeing.add("freed" if epoch == self.epoch else "freed in a left nugget")
         secret = self.present if epoch == self.epoch else self.old
         for f in freed:
             self.ghosts[n, f] = secret, keycount, self.text(n, f, self.f)

@@ -3,7 +3,6 @@
 import calls
 import tree
 from answers import HEAD, NODE, RECORD, Answer, Place
-from layout import layout
 
 from checks.make import OLD, PRESENT, Spec, flipped, made, power, tree_of
 
@@ -14,9 +13,8 @@ def spec_of(n, **words):
 
 def damaged(spec, nodes):
     drive, volume = made(spec)
-    lay = layout(spec.n, spec.p, spec.f)
     for i in nodes:
-        volume = flipped(volume, lay.node_at(i) + 31, 7)
+        volume = flipped(volume, drive.layout.node_at(i) + 31, 7)
     return drive, volume
 
 
@@ -61,19 +59,19 @@ ROWS = [
 ]
 
 
-def unmade_node1(tally):
+def unmade_node1(tally, version):
     """The head is right and node 1 is the drive's, but it isn't made of nodes 2 and 3."""
     for n in (3, 5):
-        got = said(*made(spec_of(n, node1=b"\x11" * 32)))
+        got = said(*made(spec_of(n, node1=b"\x11" * 32, version=version)))
         tally.same(f"{n} nuggets, node 1 not made", got, (node(1), node(1), [node(1)] * n))
-    got = said(*made(spec_of(1, node1=b"\x11" * 32)))
+    got = said(*made(spec_of(1, node1=b"\x11" * 32, version=version)))
     tally.same("one nugget, node 1 is its leaf", got, (record(0), record(0), [record(0)]))
 
 
-def trees(tally):
+def trees(tally, version):
     """The tree made afresh, and each node alone, against the checks' own."""
     for n in (1, 2, 3, 4, 5, 8, 9):
-        spec = spec_of(n)
+        spec = spec_of(n, version=version)
         drive, volume = made(spec)
         lay = drive.layout
         want = tree_of(spec, volume[lay.records:lay.tags], volume[lay.tags:lay.tree])
@@ -88,8 +86,9 @@ def trees(tally):
 
 
 def run(tally):
-    for n, nodes, *want in ROWS:
-        tally.same(f"{n} nuggets, nodes {nodes} damaged", said(*damaged(spec_of(n), nodes)),
-                   tuple(want))
-    unmade_node1(tally)
-    trees(tally)
+    for version in (1, 2):
+        for n, nodes, *want in ROWS:
+            tally.same(f"{n} nuggets, nodes {nodes} damaged", said(*damaged(spec_of(n, version=version), nodes)),
+                       tuple(want))
+        unmade_node1(tally, version)
+        trees(tally, version)

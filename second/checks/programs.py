@@ -69,9 +69,10 @@ def sheet_input(drive, volume, outside=None):
     return drive.present + drive.old + counter.to_bytes(8, "little") + volume
 
 
-def refusals(tally):
-    drive, volume = made(Spec(3, 2, 64, 1, 3, 9, [[4, 3, 2], [7, 3, 3], [0, 1, 2]]))
+def refusals(tally, version):
+    drive, volume = made(Spec(3, 2, 64, 1, 3, 9, [[4, 3, 2], [7, 3, 3], [0, 1, 2]], version=version))
     good = sheet_input(drive, volume)
+    wide, at = (18, 254) if version == 1 else (26, 278)
     for words, data in (
             (b"nuggets=3 moved=1 left=2 flakes=5 share=40.00 done=2", good),
             (b"refused=2 class=form", b""), (b"refused=2 class=form", good[:71]),
@@ -82,16 +83,16 @@ def refusals(tally):
             (b"refused=4 class=key", flipped(good, 0)),
             (b"refused=5 class=key", flipped(good, 32)),
             (b"refused=6 class=key", flipped(good, 71, 7)),
-            (b"refused=7 class=altered place=record 2", flipped(good, 72 + 104 + 36)),
-            (b"refused=7 class=altered place=node 7", flipped(good, 72 + 254 + 192)),
-            (b"refused=7 class=altered place=node 2", flipped(good, 72 + 254 + 32))):
+            (b"refused=7 class=altered place=record 2", flipped(good, 72 + 104 + 2 * wide)),
+            (b"refused=7 class=altered place=node 7", flipped(good, 72 + at + 192)),
+            (b"refused=7 class=altered place=node 2", flipped(good, 72 + at + 32))):
         tally.same(f"sheet {words.decode()}", sheet.line(data), words + b"\n")
-    moved = made(Spec(2, 1, 64, 0, 3, 9, [[4, 1, 3], [7, 0, 3]]))
+    moved = made(Spec(2, 1, 64, 0, 3, 9, [[4, 1, 3], [7, 0, 3]], version=version))
     tally.same("all moved", sheet.line(sheet_input(*moved)),
                b"nuggets=2 moved=2 left=0 flakes=1 share=100.00 done=1\n")
     for p, want in ((14, b"nuggets=1 moved=1 left=0 flakes=0 share=100.00 done=0\n"),
                     (15, b"refused=2 class=form\n")):
-        got = calls.format(bytes(layout(1, p, 4096).length), 1, p, 4096, SALT, PRESENT, 0)
+        got = calls.format(bytes(layout(1, p, 4096, version).length), 1, p, 4096, SALT, PRESENT, 0, version)
         tally.same(f"volume of {len(got.volume)} bytes",
                    sheet.line(sheet_input(got.drive, got.volume)), want)
     mark = b"XGT" + bytes(61437)
@@ -109,6 +110,8 @@ nugget=2 key=old epoch=1 keycount=0 flakes=0,1
 counter=9
 old=needed
 """)
+    freed = made(Spec(3, 2, 64, 1, 2, 9, [[1, 3, 2, 2], [4, 3, 0, 1], [0, 3, 3, 1]], version=2))
+    tally.same("page of held flakes alone", audit.page(sheet_input(*freed)), audit.page(good))
     steady = made(Spec(1, 64, 64, 0, 3, 2**64 - 1, [[2**64 - 1, 2**64 - 1, 3]]))
     tally.same("page when steady", audit.page(sheet_input(*steady)),
                b"nuggets=1 moved=1 left=0 flakes=64 share=100.00 done=64\n"
@@ -116,7 +119,8 @@ old=needed
                + b",".join(b"%d" % f for f in range(64)) + b"\ncounter=18446744073709551615\nold=free\n")
     for data in (b"", good[:71], good[:-1], flipped(good, 0), flipped(good, 32), flipped(good, 64), flipped(good, 72 + 104)):
         tally.same("page of a refusal", audit.page(data), sheet.line(data))
-    tally.same("page of the sample", audit.page(sample.sample()), SAMPLE_PAGE)
+    for version in (1, 2):
+        tally.same("page of the sample", audit.page(sample.sample(version)), SAMPLE_PAGE)
 
 
 def fleets(tally):
@@ -217,6 +221,37 @@ ANSWERS = """3 format answer=0 place=- counter=1
 19 mount answer=3 place=- counter=0""".split("\n")
 
 
+FREED = """volume 886
+format_as 3 2 64 aa*16 01*32 0 2 0
+write 0 11*128
+discard 0 0 1
+discard 0 0 1
+discard 0 1 2
+read 63 2
+write 0 22
+format_as 3 2 64 aa*16 01*32 0 3 0
+volume 862
+format_as 3 2 64 aa*16 01*32 0 1 0
+discard 0 0 1
+format_as 3 2 64 aa*16 01*32 0 1 16
+write 0 33
+format_as 3 2 64 aa*16 01*32 0 1 17
+"""
+FREED_TOLD = [(0, 1, "-"), (0, 2, "0/0/0,0/0/1"), (0, 3, "-"), (0, 3, "-"), (8, 3, "-"), (0, 3, "-"), (0, 4, "0/1/0,0/1/1"), (1, 0, "-"),
+              (0, 1, "-"), (9, 1, "-"), (0, 1, "-"), (0, 2, "0/0/0"), (1, 0, "-")]
+
+
+def freed_script(tally):
+    """Both versions and ciphers, and discard: answer, counter and pads of each call."""
+    got, good = runner.run(FREED)
+    tally.same("all was understood", (good, len(got)), (True, len(FREED_TOLD)))
+    for line, want in zip(got, FREED_TOLD):
+        said = dict(word.split("=") for word in line.split(" ") if "=" in word)
+        pads = ",".join(pad.rsplit("/", 1)[0] for pad in said["pads"].split(","))
+        tally.same(f"line {line}", (int(said["answer"]), int(said["counter"]), pads), want)
+    tally.same("the freed byte, and the next", got[5].split("bytes=")[1], "0011")
+
+
 def script(tally):
     got, good = runner.run(SCRIPT)
     tally.same("not all was understood", good, False)
@@ -239,5 +274,7 @@ def script(tally):
 
 
 def run(tally):
-    for part in (lines, images, refusals, pages, fleets, programs, script):
+    for version in (1, 2):
+        refusals(tally, version)
+    for part in (lines, images, pages, fleets, programs, script, freed_script):
         part(tally)

@@ -5,7 +5,7 @@ import random
 import calls
 from answers import FLAKE, HEAD, RECORD, Answer
 from drive import BLANK
-from layout import TOP
+from layout import TOP, layout
 
 from checks.make import Spec, flipped, made
 from checks.refusals import LAY, MIXED, MOVED, at7
@@ -34,7 +34,10 @@ def beside_writes(tally, chance):
     for i in range(ROUNDS):
         changing = chance.randrange(2)
         counter = chance.choice((9, 9, TOP - 2))
-        drive, volume = made(Spec(3, 2, 64, changing, 3, counter, MIXED if changing else MOVED))
+        drive, volume = made(Spec(3, 2, 64, changing, 3, counter, MIXED if changing else MOVED, version=chance.choice((1, 2)),
+                                  cipher=chance.choice((0, 16))))
+        if drive.version == 2 and chance.randrange(2):
+            drive, volume = calls.discard(drive, volume, chance.randrange(3), chance.randrange(2), 1)[1:3]
         if chance.random() < 0.3:
             volume = flipped(volume, chance.randrange(len(volume)), chance.randrange(8))
         requests = [(chance.randrange(LAY.contents), chance.choice((0, 1, 17, 64, 100)))
@@ -44,10 +47,10 @@ def beside_writes(tally, chance):
                    singly(drive, volume, requests, data))
 
 
-def sums(tally):
+def sums(tally, version):
     """Lengths that don't add up to the data: 8 with nothing done, also where a sum of 64 bits
     would roll over to the right one."""
-    drive, volume = made(Spec(3, 2, 64, 0, 3, 9, MOVED))
+    drive, volume = made(Spec(3, 2, 64, 0, 3, 9, MOVED, version=version))
     data = b"!" * 10
     off = calls.Result(Answer(8), drive, volume)
     for lengths in ((9,), (11,), (4, 5), (5, 6), (10, 1), (0,), (), (TOP, 11), (11, TOP),
@@ -63,9 +66,9 @@ def sums(tally):
         tally.same(f"only {size} bytes", calls.queue(drive, volume, image[:size], data), off)
 
 
-def empty_ones(tally):
+def empty_ones(tally, version):
     """No request at all isn't held against the head; one of no bytes is, and counts as done."""
-    drive, volume = made(Spec(3, 2, 64, 0, 3, TOP, MOVED))
+    drive, volume = made(Spec(3, 2, 64, 0, 3, TOP, MOVED, version=version))
     wrong = flipped(volume, 20)
     for stands in (volume, wrong):
         tally.same("an empty list", queued(drive, stands, [], b""),
@@ -81,17 +84,18 @@ def empty_ones(tally):
         tally.same("1 and 2 before 8", got, calls.Result(want, given, volume + b"\0"))
 
 
-def stopped(tally):
+def stopped(tally, version):
     """A refusal in the middle: what comes before it stays, what comes behind it isn't done."""
-    for name, answer, at in (("record 1", at7(RECORD, 1), LAY.record_at(1)),
-                             ("flake 1 0", at7(FLAKE, 1, 0), LAY.flake_at(1, 0))):
-        drive, volume = made(Spec(3, 2, 64, 0, 3, 9, [[1, 0, 3], [1, 1, 3], [1, 0, 3]]))
+    lay = layout(3, 2, 64, version)
+    for name, answer, at in (("record 1", at7(RECORD, 1), lay.record_at(1)),
+                             ("flake 1 0", at7(FLAKE, 1, 0), lay.flake_at(1, 0))):
+        drive, volume = made(Spec(3, 2, 64, 0, 3, 9, [[1, 0, 3], [1, 1, 3], [1, 0, 3]], version=version))
         bad = flipped(volume, at)
         got = queued(drive, bad, [(0, 64), (128, 64), (256, 64)], b"!" * 192)
         one = calls.write(drive, bad, 0, b"!" * 64)
         tally.same(f"a damaged {name}", got,
                    calls.Result(answer, one.drive, one.volume, pads=one.pads, done=1))
-    drive, volume = made(Spec(3, 2, 64, 0, 3, TOP - 2, MOVED))
+    drive, volume = made(Spec(3, 2, 64, 0, 3, TOP - 2, MOVED, version=version))
     got = queued(drive, volume, [(0, 1), (64, 0), (70, 1), (0, 1)], b"abc")
     tally.same("the counter's top", (got.answer, got.done, got.drive.counter), (Answer(13), 3, TOP))
     got = queued(drive, volume, [(0, 1), (384, 1), (0, 1)], b"abc")
@@ -100,6 +104,7 @@ def stopped(tally):
 
 def run(tally):
     beside_writes(tally, random.Random(f"queues {tally.seed}"))
-    sums(tally)
-    empty_ones(tally)
-    stopped(tally)
+    for version in (1, 2):
+        sums(tally, version)
+        empty_ones(tally, version)
+        stopped(tally, version)

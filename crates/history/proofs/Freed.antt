@@ -130,7 +130,7 @@ module _ (w : World) (x : Sound w) (n first count : ℕ) where
         (settled (discardedDrive (w .drive) (w .vol) n first count) (discardWork (w .drive) (w .vol) n first count)) [] (w .secret) (w .old) (contentsWithout w n first count))
     discarded-keeps =
         subst (λ (pads : List Entry). Keeps w (worldAfter w (discardedDrive (w .drive) (w .vol) n first count)
-            (settled (discardedDrive (w .drive) (w .vol) n first count) (discardWork (w .drive) (w .vol) n first count)) pads (w .secret) (w .old) after))
+        (settled (discardedDrive (w .drive) (w .vol) n first count) (discardWork (w .drive) (w .vol) n first count)) pads (w .secret) (w .old) after))
         (discard-pads (w .drive) (w .vol) n first count (told-so .inside))
         (worked-keeps w x (discardWays n first count) (contentsOf (w .drive) (w .vol)) after ready)
 

@@ -21,7 +21,7 @@ use Rattle.aes.specs.Aes.{cipher, keyExpansion, aes256}
 use Rattle.aes.proofs.StateLaws.{cipher-state, length-aes}
 use Rattle.ctr.specs.Ctr.{counterBlock, stepped, outputBlocks}
 use Rattle.ctr.proofs.CounterLaws.{counter-state, counter-once}
-use Rattle.keys.specs.Ciphers.{Cipher, Lawful, streamByte, nonceOf, Nonced, chacha20, aes, cipherBy, cipherOf}
+use Rattle.keys.specs.Ciphers.{Lawful, streamByte, nonceOf, Nonced, chacha20, aes, cipherBy, cipherOf}
 use Rattle.keys.specs.Pads.{unitOf}
 
 -- no two keycounts have one nonce

@@ -1,9 +1,9 @@
 -- A pad is as long as its flake and is bytes, and laid twice it gives the contents back; and what it is by each cipher's own paper.
 use mathlib.Core.Path.{_≡_, ap, sym, _∙_}
-use mathlib.Core.Bool.{Bool, true, false}
+use mathlib.Core.Bool.{true, false}
 use mathlib.Core.Logic.{_⊎_, inl, inr}
 use mathlib.Core.List.{List}
-use Prim.Native.Nat.{ℕ, _+_, _*_, _/_, _%_, _^_, _<_, _≤_}
+use Prim.Native.Nat.{ℕ, _+_, _*_, _/_, _%_, _<_, _≤_}
 use native.Mathlib.Nat.{mul-le-mul, le-of-lt}
 use native.Mathlib.Omega.{arith}
 use borrow.Author.Tests.{ltb-true, ltb-false}
@@ -22,8 +22,8 @@ use Rattle.aes.specs.Aes.{keyExpansion}
 use Rattle.ctr.specs.Ctr.{outputBlocks, blocks as aesBlocks}
 use Rattle.ctr.proofs.StreamLaws.{length-stream}
 use Rattle.keys.specs.declared.Lock.{Lock}
-use Rattle.keys.specs.Ciphers.{streamByte, nonceOf, cipherOf}
-use Rattle.keys.specs.Pads.{cipherFor, unitOf, firstBlock, padOf, under}
+use Rattle.keys.specs.Ciphers.{streamByte, nonceOf}
+use Rattle.keys.specs.Pads.{cipherFor, firstBlock, padOf, under}
 use Rattle.keys.proofs.CipherLaws.{lawful, chacha20-byte, aes-byte}
 
 module _ (lock : Lock) (f size : ℕ) where

@@ -3,7 +3,7 @@ use mathlib.Core.Path.{_≡_, refl, sym, ap, ap₂, _∙_}
 use mathlib.Core.Bool.{true, false}
 use mathlib.Core.List.{List, [], _∷_, _++_, append-nil}
 use Prim.Native.Nat.{ℕ, _+_, _-_, _*_, _/_, _%_, _^_, _<_, _≤_}
-use native.Mathlib.Nat.{zero-add, add-zero, add-assoc, add-comm, mul-add-div, mul-add-mod-self-left, div-add-mod, div-add-mod', mul-comm}
+use native.Mathlib.Nat.{zero-add, add-zero, add-assoc, mul-add-div, mul-add-mod-self-left, div-add-mod}
 use native.Mathlib.Omega.{arith}
 use lib.Bits.{bitXor, xor-zero-l}
 use lib.Dec.{eqb}
@@ -14,13 +14,12 @@ use Rattle.base.specs.Lists.{tab, part}
 use Rattle.base.proofs.PartLaws.{length-part}
 use Rattle.base.proofs.TabLaws.{length-tab, getD-tab, tab-ext, tab-add, part-tab}
 use Rattle.words.specs.Xor.{xorl}
-use Rattle.words.proofs.XorLaws.{getD-xorl, xorl-append, xorl-front, length-xorl, xorl-ext}
+use Rattle.words.proofs.XorLaws.{getD-xorl, xorl-append, length-xorl, xorl-ext}
 use Rattle.chacha20.specs.ChaCha20.{keystream, blocks, encrypted}
 use Rattle.chacha20.proofs.KeystreamLaws.{length-keystream}
-use Rattle.aes.specs.Aes.{keyExpansion}
 use Rattle.ctr.specs.Ctr.{laidUnder, counterMode, blocks as aesBlocks}
 use Rattle.keys.specs.declared.Lock.{Lock}
-use Rattle.keys.specs.Ciphers.{Cipher, Lawful, streamByte, nonceOf, cipherOf}
+use Rattle.keys.specs.Ciphers.{Cipher, Lawful, streamByte, nonceOf}
 use Rattle.keys.specs.Pads.{cipherFor, firstBlock, streamFrom, padOf, padFrom}
 use Rattle.keys.proofs.CipherLaws.{lawful, chacha20-byte, aes-byte}
 use Rattle.keys.proofs.PadLaws.{length-pad, pad-at}
@@ -113,7 +112,7 @@ module _ (lock : Lock) where
   pub stream-laid : (n : ℕ) (d : List ℕ) (skip m : ℕ) {first z w : List ℕ} → skip + m ≡ 64 → m ≤ length d → first ≡ streamFrom lock n 0 64
       → z ≡ xorl (midOf 0 (m - 0) d) (part skip (64 - skip) first)
       → w ≡ xorl (midOf m (length (z ++ postOf 0 (m - 0) d) - m) (z ++ postOf 0 (m - 0) d))
-          (streamFrom lock (n + 64 / cipherFor lock .unit) 0 (length (midOf m (length (z ++ postOf 0 (m - 0) d) - m) (z ++ postOf 0 (m - 0) d))))
+      (streamFrom lock (n + 64 / cipherFor lock .unit) 0 (length (midOf m (length (z ++ postOf 0 (m - 0) d) - m) (z ++ postOf 0 (m - 0) d))))
       → putMid m (length (z ++ postOf 0 (m - 0) d) - m) (z ++ postOf 0 (m - 0) d) w ≡ xorl d (streamFrom lock n skip (length d))
   stream-laid n d skip m {first} {z} {w} e h ef ez ew =
       let next = n + 64 / cipherFor lock .unit in

@@ -12,7 +12,7 @@ use Rattle.base.specs.Lists.{tab, part, fold}
 use Rattle.base.proofs.TabLaws.{length-tab, getD-tab, tab-ext, part-tab}
 use Rattle.base.proofs.FoldLaws.{fold-append}
 use Rattle.keys.specs.declared.Lock.{Lock}
-use Rattle.keys.specs.Ciphers.{Cipher, Lawful, streamByte}
+use Rattle.keys.specs.Ciphers.{Cipher, Lawful}
 use Rattle.keys.specs.Pads.{cipherFor, firstBlock, padOf, Size, Stretch, Lies, stretchIn, inputOf}
 use Rattle.keys.proofs.CipherLaws.{lawful, length-blocks, byte-in}
 use Rattle.keys.proofs.PadLaws.{length-pad, pad-at}

@@ -1,6 +1,6 @@
 // Document 01's keys, pads and tags: which message is hashed for which key, and what is laid over a flake.
-// It touches `words`, `chacha20`, `ctr`, `poly1305` and `blake2s`, and of `base`, `messages`, `aes`, `streams` and `field` the definitions
-// and laws alone; no flake is copied, and no secret is kept.
+// It touches `words`, `chacha20`, `ctr`, `poly1305` and `blake2s`, and of `base`, `messages` and `aes` the definitions and laws alone; no
+// flake is copied, and no secret is kept.
 ghost use mathlib.Core.Path.{_≡_};
 ghost use mathlib.Core.List.{_∷_, _++_};
 ghost use Prim.Native.Nat.{_+_, _/_, _%_, _^_, _<_, _≤_};

@@ -66,7 +66,11 @@ fn known_cipher(cipher: u8) -> bool
 fn are_known(s: Shape) -> bool
     ensures { λ r. ⌜ r ≡ known s ⌝ }
 {
-    if known_version(s.version) { known_cipher(s.cipher) } else { false }
+    if known_version(s.version) {
+        known_cipher(s.cipher)
+    } else {
+        false
+    }
 }
 
 // Whether the shape is one that a volume may have.

@@ -1,8 +1,8 @@
-use Prim.Native.Nat.{_*_, _/_, _≤_, _<_}
+use Prim.Native.Nat.{_*_}
 use native.Mathlib.Nat.{le-of-lt, mul-le-mul, div-le-self}
 use native.Mathlib.Omega.{arith}
 use mathlib.Core.Path.{refl}
-use Rattle.keys.specs.Pads.{unitOf, firstBlock}
+use Rattle.keys.specs.Pads.{firstBlock}
 use Rattle.keys.proofs.CipherLaws.{lawful}
 use borrow.Author.Needs.{needs}
 use Rattle.keys.proofs.block_of.Statement.{statement}

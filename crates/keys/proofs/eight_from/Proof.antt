@@ -1,5 +1,5 @@
 use mathlib.Core.Path.{_∙_}
-use borrow.Author.Tests.{eq-eqb, ne-eqb}
+use borrow.Author.Tests.{ne-eqb}
 use Rattle.keys.proofs.StreamLaws.{stream-bare, eight-chacha20}
 use borrow.Author.Needs.{needs}
 use Rattle.keys.proofs.eight_from.Statement.{statement}

@@ -1,6 +1,6 @@
 use mathlib.Core.Path.{_∙_}
-use Prim.Native.Nat.{_%_, _<_, _≤_}
-use native.Mathlib.Nat.{mod-lt, lt-of-lt-of-le}
+use Prim.Native.Nat.{_%_, _<_}
+use native.Mathlib.Nat.{mod-lt}
 use native.Mathlib.Omega.{arith}
 use Rattle.keys.specs.Pads.{unitOf}
 use Rattle.keys.proofs.CipherLaws.{lawful, unit-le}

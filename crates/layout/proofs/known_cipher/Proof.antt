@@ -1,5 +1,5 @@
 use Rattle.layout.specs.Shape.{knownCipher}
-use Rattle.base.proofs.PickLaws.{either-left, either-right}
+use Rattle.base.proofs.PickLaws.{either-left}
 use lib.Dec.{eqb}
 use borrow.Author.Tests.{eq-eqb, ne-eqb}
 use mathlib.Core.Path.{sym, refl}
