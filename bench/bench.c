@@ -2,6 +2,7 @@
 #define _POSIX_C_SOURCE 200809L
 #include "least.h"
 #include "openssl.h"
+#include "peer_xts.h"
 #include <stddef.h>
 #include <stdint.h>
 #include <stdio.h>
@@ -16,6 +17,10 @@
     void name##blake2s_keyed(const uint8_t *m, size_t n, const uint8_t *key, uint8_t *out);
 PRIMITIVES(ngt_)
 PRIMITIVES(here_ngt_)
+
+/* crates/aes_primitives */
+void ngt_aes256_ctr(uint8_t *d, size_t n, const uint8_t *key, uint64_t keycount, uint64_t number);
+void here_ngt_aes256_ctr(uint8_t *d, size_t n, const uint8_t *key, uint64_t keycount, uint64_t number);
 
 void peer_chacha20(uint8_t *d, size_t n, const uint8_t key[32], const uint8_t nonce[12], uint32_t counter);
 void peer_poly1305(uint8_t tag[16], const uint8_t *m, size_t n, const uint8_t key[32]);
@@ -66,12 +71,20 @@ static void check(size_t n) {
     here_ngt_chacha20(third, n, key, nonce, 7), openssl_chacha20(text, n, key, nonce, 7);
     if (OPENSSL_HERE)
         same("OpenSSL's keystream", n, text, third, n);
+    memcpy(other, text, n), memcpy(third, text, n);
+    ngt_aes256_ctr(text, n, key, n, UINT64_MAX - 1), peer_aes_ctr(other, n, key, n, UINT64_MAX - 1);
+    same("counter mode", n, text, other, n);
+    here_ngt_aes256_ctr(third, n, key, n, UINT64_MAX - 1);
+    same("counter mode for this processor", n, text, third, n);
 }
 
 static void keystream_0(void) { ngt_chacha20(text, SIZE, key, nonce, 1); }
 static void keystream_1(void) { here_ngt_chacha20(text, SIZE, key, nonce, 1); }
 static void keystream_2(void) { peer_chacha20(text, SIZE, key, nonce, 1); }
 static void keystream_3(void) { openssl_chacha20(text, SIZE, key, nonce, 1); }
+static void counter_0(void) { ngt_aes256_ctr(text, SIZE, key, 1, 1); }
+static void counter_1(void) { here_ngt_aes256_ctr(text, SIZE, key, 1, 1); }
+static void counter_2(void) { peer_aes_ctr(text, SIZE, key, 1, 1); }
 static void tag_0(void) { ngt_poly1305(text, SIZE, key, one); }
 static void tag_1(void) { here_ngt_poly1305(text, SIZE, key, one); }
 static void tag_2(void) { peer_poly1305(two, text, SIZE, key); }
@@ -92,7 +105,8 @@ typedef struct {
 static const Line lines[] = {{"keystream", {keystream_0, keystream_1, keystream_2, OPENSSL_HERE ? keystream_3 : NULL}},
                              {"tag", {tag_0, tag_1, tag_2, NULL}},
                              {"both", {sealed_0, sealed_1, sealed_2, OPENSSL_HERE ? sealed_3 : NULL}},
-                             {"hash", {hash_0, hash_1, hash_2, OPENSSL_HERE ? hash_3 : NULL}}};
+                             {"hash", {hash_0, hash_1, hash_2, OPENSSL_HERE ? hash_3 : NULL}},
+                             {"AES", {counter_0, counter_1, counter_2, NULL}}};
 
 static void measure(const Line *line, double least[SIDES]) {
     for (int i = 0; i < SIDES; i++)

@@ -11,6 +11,7 @@ enum { PIECE = 65536, SLICE = 16, ROUNDS = 5, SMALL = 4096, BATCH = 16, QUEUED =
 
 typedef struct {
     uint32_t n, p, f;
+    uint8_t cipher;
     size_t length, contents;
     uint8_t *vol[SIDES], drive[SIDES][144];
 } Volumes;
@@ -39,11 +40,11 @@ static void fill(uint64_t seed) {
     }
 }
 
-static void allocate(Volumes *v, uint32_t n, uint32_t p, uint32_t f) {
+static void allocate(Volumes *v, uint32_t n, uint32_t p, uint32_t f, uint8_t cipher) {
     size_t leaves = 1;
     while (leaves < n)
         leaves *= 2;
-    v->n = n, v->p = p, v->f = f, v->contents = (size_t)n * p * f;
+    v->n = n, v->p = p, v->f = f, v->cipher = cipher, v->contents = (size_t)n * p * f;
     v->length = 104 + 18 * (size_t)n + 16 * (size_t)n * p + 32 * (2 * leaves - 1) + v->contents;
     for (int i = 0; i < SIDES; i++)
         must((v->vol[i] = malloc(v->length)) != NULL, "no memory for the volumes");
@@ -56,7 +57,7 @@ static void release(Volumes *v) {
 
 static void format(Volumes *v) {
     for (int i = 0; i < SIDES; i++)
-        must(ngt_format(v->vol[i], v->length, v->n, v->p, v->f, salt, secret, 0, v->drive[i], answer) == 0, "format is refused");
+        must(ngt_format_as(v->vol[i], v->length, v->n, v->p, v->f, 1, v->cipher, salt, secret, 0, v->drive[i], answer) == 0, "format is refused");
 }
 
 static void same(const Volumes *v) {
@@ -96,17 +97,17 @@ static void tell(const char *what, const Least *t) {
     printf("%9.0f%9.0f\n", mb / t->of[PEER], mb / t->of[OPENING]);
 }
 
-static void throughput(void) {
+static void throughput(uint8_t cipher) {
     Volumes v;
     Least first = none, over = none, back = none;
-    allocate(&v, 1024, 16, 4096);
+    allocate(&v, 1024, 16, 4096, cipher);
     for (uint64_t i = 0; i < ROUNDS; i++) {
         format(&v);
         write_pass(&v, 2 * i, &first);
         write_pass(&v, 2 * i + 1, &over);
         read_pass(&v, &back);
     }
-    printf("N %u, P %u, F %u, 64 KiB at a time in order; all volumes equal to the byte; opening: the peer that opens every flake\n", v.n, v.p, v.f);
+    printf("under %s, N %u, P %u, F %u, 64 KiB at a time in order; all volumes equal to the byte; opening: the peer that opens every flake\n", cipher ? "AES-256" : "ChaCha20", v.n, v.p, v.f);
     printf("%-10s%24s%24s%9s%9s\n", "", "proved, as built", "for this processor", "C", "opening");
     printf("%-10s%6s%6s%12s%6s%6s%12s%9s%9s\n", "", "MB/s", "of C", "of opening", "MB/s", "of C", "of opening", "MB/s", "MB/s");
     tell("first", &first), tell("overwrite", &over), tell("read", &back);
@@ -127,7 +128,7 @@ static void small_batch(Volumes *v, uint32_t from, Least *least) {
 static void small_writes(uint32_t n, Least *first, Least *over) {
     Volumes v;
     *first = *over = none;
-    allocate(&v, n, 1, SMALL);
+    allocate(&v, n, 1, SMALL, 0);
     for (uint32_t round = 0; round < 16384 / n; round++) {
         format(&v);
         for (uint32_t from = 0; from < n / BATCH; from++)
@@ -174,7 +175,7 @@ static void queues(void) {
     Volumes v;
     for (size_t k = 0; k < QUEUED; k++)
         requests[16 * k + 1] = (uint8_t)(2 * k), requests[16 * k + 9] = PART >> 8;
-    allocate(&v, 16, QUEUED, PART);
+    allocate(&v, 16, QUEUED, PART, 0);
     printf("a queue of 64 writes of 512 bytes into one nugget of 64 flakes, in microseconds, and the single calls' time over the queue's\n");
     printf("%-10s%24s%24s\n", "", "proved, as built", "for this processor");
     double first[2][2] = {{1e9, 1e9}, {1e9, 1e9}}, over[2][2] = {{1e9, 1e9}, {1e9, 1e9}};
@@ -190,7 +191,8 @@ static void queues(void) {
 }
 
 int main(void) {
-    throughput();
+    throughput(0);
+    throughput(16);
     growth();
     queues();
     return 0;

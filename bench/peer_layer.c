@@ -10,10 +10,10 @@ void peer_poly1305(uint8_t tag[16], const uint8_t *m, size_t n, const uint8_t ke
 void peer_blake2s(uint8_t out[32], const uint8_t *m, size_t n, const uint8_t *key, size_t key_len);
 uint32_t peer_whole(const uint8_t *vol, uint32_t n, uint32_t p, uint32_t epoch);
 
-enum { HEAD = 104, FRONT = 72, RECORD = 18, TAG = 16, NODE = 32, NO_PLACE = 0, AT_HEAD, AT_RECORD, AT_NODE, AT_FLAKE };
+enum { AES = 16, HEAD = 104, FRONT = 72, RECORD = 18, TAG = 16, NODE = 32, NO_PLACE = 0, AT_HEAD, AT_RECORD, AT_NODE, AT_FLAKE };
 
 typedef struct {
-    uint32_t n, p, f, leaves, epoch, changing;
+    uint32_t n, p, f, leaves, epoch, changing, cipher;
     uint64_t counter, contents;
     size_t tags, tree, flakes, length;
     const uint8_t *salt, *node, *present, *old;
@@ -46,7 +46,7 @@ static size_t tag_at(const Open *o, uint32_t n, uint32_t f) { return o->tags + T
 static size_t flake_at(const Open *o, uint32_t n, uint32_t f) { return o->flakes + ((size_t)n * o->p + f) * o->f; }
 
 static int in_limits(const Open *o, uint32_t state, uint32_t leaving) {
-    if (o->n < 1 || o->n > 16384 || o->p < 1 || o->p > 64 || o->f < 64 || o->f > 4096 || o->f % 64 || state > 1)
+    if (o->n < 1 || o->n > 16384 || o->p < 1 || o->p > 64 || o->f < 64 || o->f > 4096 || o->f % 64 || state > 1 || (o->cipher != 0 && o->cipher != AES))
         return 0;
     return state ? o->epoch >= 2 && leaving == o->epoch - 1 : o->epoch >= 1;
 }
@@ -54,7 +54,7 @@ static int in_limits(const Open *o, uint32_t state, uint32_t leaving) {
 /* Tests 1 and 2. */
 static uint32_t open_image(Open *o, const uint8_t image[144], size_t vol_len, uint8_t answer[16]) {
     o->n = (uint32_t)get(image, 4), o->p = (uint32_t)get(image + 4, 4), o->f = (uint32_t)get(image + 8, 4);
-    o->changing = image[12], o->epoch = (uint32_t)get(image + 14, 2), o->counter = get(image + 40, 8);
+    o->changing = image[12], o->cipher = image[13], o->epoch = (uint32_t)get(image + 14, 2), o->counter = get(image + 40, 8);
     o->salt = image + 24, o->node = image + 48, o->present = image + 80, o->old = image + 112;
     if (!in_limits(o, image[12], (uint32_t)get(image + 16, 2)))
         return say(answer, 1, NO_PLACE, 0, 0);
@@ -70,7 +70,7 @@ static uint32_t open_image(Open *o, const uint8_t image[144], size_t vol_len, ui
 
 static void make_head(const Open *o, uint64_t counter, const uint8_t *node, uint8_t head[HEAD]) {
     uint8_t message[1 + FRONT + NODE], check[19] = {'O'};
-    memcpy(head, "NGT\1\0", 5), head[5] = (uint8_t)o->changing;
+    memcpy(head, "NGT\1\0", 5), head[5] = (uint8_t)(o->changing + o->cipher);
     put(head + 6, o->epoch, 2), put(head + 8, o->n, 4), put(head + 12, o->p, 2), put(head + 14, o->f, 2);
     memcpy(head + 16, o->salt, 16), put(head + 32, counter, 8), memset(head + 40, 0, 32);
     if (o->changing) {
@@ -151,18 +151,28 @@ static void make_tag(const uint8_t key[32], uint64_t keycount, uint32_t f, const
     peer_poly1305(tag, stored, size, tag_key);
 }
 
-/* Bytes start to start + len of flake f's pad laid over d. */
-static void lay(uint8_t *d, size_t start, size_t len, uint32_t size, const uint8_t key[32], uint64_t keycount, uint32_t f) {
-    uint8_t nonce[12] = {0}, first[64] = {0};
-    uint32_t block = f * (size / 64) + (uint32_t)(start / 64);
-    size_t skip = start % 64, n = 0;
+/* The keystream from block `block` of 64 bytes on, laid over d. */
+static void lay_blocks(const Open *o, uint8_t *d, size_t len, const uint8_t key[32], uint64_t keycount, uint32_t block) {
+    uint8_t nonce[12] = {0};
+    if (o->cipher == AES) {
+        peer_aes_ctr(d, len, key, keycount, 4 * (uint64_t)block);
+        return;
+    }
     put(nonce + 4, keycount, 8);
+    peer_chacha20(d, len, key, nonce, block);
+}
+
+/* Bytes start to start + len of flake f's pad laid over d. */
+static void lay(const Open *o, uint8_t *d, size_t start, size_t len, const uint8_t key[32], uint64_t keycount, uint32_t f) {
+    uint8_t first[64] = {0};
+    uint32_t block = f * (o->f / 64) + (uint32_t)(start / 64);
+    size_t skip = start % 64, n = 0;
     if (skip) {
-        peer_chacha20(first, 64, key, nonce, block++);
+        lay_blocks(o, first, 64, key, keycount, block++);
         for (; n < 64 - skip && n < len; n++)
             d[n] ^= first[skip + n];
     }
-    peer_chacha20(d + n, len - n, key, nonce, block);
+    lay_blocks(o, d + n, len - n, key, keycount, block);
 }
 
 static uint32_t flakes(const Open *o, const uint8_t *vol, uint32_t n, const Record *r, uint64_t mask, uint8_t answer[16]) {
@@ -217,7 +227,7 @@ uint32_t peer_read(const uint8_t image[144], const uint8_t *vol, size_t vol_len,
                 continue;
             if (r.journal >> f & 1) {
                 memcpy(buf + taken, vol + flake_at(&o, n, f) + start, part);
-                lay(buf + taken, start, part, o.f, key, r.keycount, f);
+                lay(&o, buf + taken, start, part, key, r.keycount, f);
             } else {
                 memset(buf + taken, 0, part);
             }
@@ -239,7 +249,7 @@ static uint32_t write_tests(const Open *o, const uint8_t *vol, uint32_t n, uint6
 
 static void open_flake(const Open *o, uint8_t *flake, const uint8_t key[32], const Record *r, uint32_t f) {
     if (r->journal >> f & 1)
-        lay(flake, 0, o->f, o->f, key, r->keycount, f);
+        lay(o, flake, 0, o->f, key, r->keycount, f);
     else
         memset(flake, 0, o->f);
 }
@@ -276,7 +286,7 @@ static void change(const Open *o, uint8_t *vol, uint32_t n, uint64_t mask, uint6
             open_sectors(o, flake, bytes, taken, keys);
         else if (part)
             memcpy(flake + start, bytes + taken, part);
-        lay(flake, 0, o->f, o->f, key, keycount, f);
+        lay(o, flake, 0, o->f, key, keycount, f);
         make_tag(key, keycount, f, flake, o->f, vol + tag_at(o, n, f));
     }
     put(at, keycount, 8), put(at + 8, r.journal | mask, 8), put(at + 16, o->epoch, 2);
@@ -301,7 +311,7 @@ static uint32_t write_by(uint8_t image[144], uint8_t *vol, size_t vol_len, uint6
     put(image + 40, o.counter + 1, 8), memcpy(image + 48, vol + node_at(&o, 1), NODE);
     if (!o.changing)
         memset(image + 112, 0, 32), memset(image + 16, 0, 2);
-    image[13] = 0, memset(image + 18, 0, 6);
+    memset(image + 20, 0, 4);
     make_head(&o, o.counter + 1, image + 48, vol);
     return say(answer, 0, NO_PLACE, 0, 0);
 }
@@ -347,7 +357,7 @@ uint32_t peer_mount(const uint8_t *vol, size_t vol_len, const uint8_t present[32
         return say(answer, 2, NO_PLACE, 0, 0);
     if (memcmp(vol, "NGT\1\0", 5))
         return say(answer, 3, NO_PLACE, 0, 0);
-    memcpy(drive, vol + 8, 4), memcpy(drive + 4, vol + 12, 2), memcpy(drive + 8, vol + 14, 2), drive[12] = vol[5];
+    memcpy(drive, vol + 8, 4), memcpy(drive + 4, vol + 12, 2), memcpy(drive + 8, vol + 14, 2), drive[12] = vol[5] % 16, drive[13] = vol[5] / 16 * 16, drive[18] = 1;
     memcpy(drive + 14, vol + 6, 2), memcpy(drive + 24, vol + 16, 16), memcpy(drive + 40, vol + 32, 8), memcpy(drive + 80, present, 32);
     if (open_image(&o, drive, vol_len, answer))
         return answer[0];

@@ -1,4 +1,4 @@
-/* XTS-AES-256 over sectors of 512 bytes in plain C: one block at a time, one table of 256 words a direction and turns of it, no
+/* XTS-AES-256 over sectors of 512 bytes, and AES-256 in counter mode, in plain C: one block at a time, one table of 256 words a direction and turns of it, no
  * instructions for AES. The tables are made on first use. */
 #include "peer_xts.h"
 #include <string.h>
@@ -123,4 +123,22 @@ void peer_xts_decrypt(uint8_t *d, size_t n, const uint8_t data[32], const uint8_
     uint32_t w[60], v[60];
     make_tables(), expand_back(w, data), expand(v, tweak);
     through(d, n, w, v, number, decrypt);
+}
+
+/* The counter block is keycount and number, both most significant byte first; the number steps. */
+void peer_aes_ctr(uint8_t *d, size_t n, const uint8_t key[32], uint64_t keycount, uint64_t number) {
+    uint32_t w[60], s[4];
+    uint8_t block[16];
+    make_tables(), expand(w, key);
+    for (size_t at = 0; at < n; at += 16, number++) {
+        for (int i = 0; i < 8; i++)
+            block[i] = (uint8_t)(keycount >> (56 - 8 * i)), block[8 + i] = (uint8_t)(number >> (56 - 8 * i));
+        for (int i = 0; i < 4; i++)
+            s[i] = get(block + 4 * i);
+        encrypt(w, s);
+        for (int i = 0; i < 4; i++)
+            put(block + 4 * i, s[i]);
+        for (size_t i = 0; i < 16 && at + i < n; i++)
+            d[at + i] ^= block[i];
+    }
 }

@@ -18,7 +18,7 @@ build() {
     names=$(nm -g --defined-only "$made/$crate-own.o" | awk '{ print $3, "here_" $3 }')
     objcopy --redefine-syms=<(echo "$names") "$made/$crate-own.o" "$made/$crate-here.o"
 }
-for crate in primitives ngt; do
+for crate in primitives aes_primitives ngt; do
     build "$crate" >"$made/$crate.log" 2>&1 || { tail -n 40 "$made/$crate.log"; exit 1; }
 done
 
@@ -33,7 +33,7 @@ flags=(-O3 -Wall -Wextra -std=c11)
 peers=(bench/peer_*.c)
 echo "$machine, $(grep -m1 -E 'model name|CPU part' /proc/cpuinfo | sed 's/.*: //'); load $(cut -d' ' -f1-3 /proc/loadavg)"
 echo "as built: $([ "$machine" = x86_64 ] && echo "the toolchain's archive, for plain x86-64 (SSE2)" || echo "the toolchain's module at -O3"); for this processor: the same module by $own; peers: $(gcc --version | head -n 1), -O3"
-gcc "${flags[@]}" -o "$made/bench" bench/bench.c "${peers[@]}" "$made"/primitives.o "$made"/primitives-here.o "${openssl[@]}"
+gcc "${flags[@]}" -o "$made/bench" bench/bench.c "${peers[@]}" "$made"/{primitives,aes_primitives}{,-here}.o "${openssl[@]}"
 gcc "${flags[@]}" -o "$made/mount" bench/mount.c "${peers[@]}" "$made"/ngt.o "$made"/ngt-here.o
 gcc "${flags[@]}" -o "$made/changes" bench/changes.c "${peers[@]}" "$made"/ngt.o "$made"/ngt-here.o
 gcc "${flags[@]}" -o "$made/summary" bench/summary.c "$made"/ngt.o
@@ -42,7 +42,7 @@ lost=0
 "$made/bench" || lost=1
 if [ "$machine" = x86_64 ] && [ ${#openssl[@]} -gt 0 ]; then
     echo "once more, OpenSSL held to SSSE3 (OPENSSL_ia32cap); it has no vectors for SSE2 alone"
-    OPENSSL_ia32cap='~0x1000000000000000:0' "$made/bench" | tail -n 6 | grep -v LOST
+    OPENSSL_ia32cap='~0x1000000000000000:0' "$made/bench" | tail -n 7 | grep -v LOST
 fi
 "$made/mount"
 "$made/summary"

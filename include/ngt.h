@@ -5,10 +5,11 @@
  * null. Each call returns the answer's number, 0 if it is accepted, and always stores the answer's image; ngt_fleet and what
  * stands behind it return a length. The numbers are 1 to 13 and 15; 14 is given to no answer. docs/HANDBOOK.md explains each.
  *
- * The drive's image, 144 bytes: 0-3 N; 4-7 P; 8-11 F; 12 state (0 steady, 1 changing); 13 zero; 14-15 epoch; 16-17 the epoch
- * being left; 18-19 version; 20-23 zero; 24-39 salt; 40-47 counter; 48-79 node 1; 80-111 present secret; 112-143 old secret.
- * Bytes 13 and 20-23 aren't looked at, nor are 16-17 and the old secret of a steady one. Another state than 0 or 1 is answered 1,
- * and so is another version than 1 or 2. A version is chosen at the format and stays; every call works on both, but for discard.
+ * The drive's image, 144 bytes: 0-3 N; 4-7 P; 8-11 F; 12 state (0 steady, 1 changing); 13 cipher (0 ChaCha20, 16 AES-256); 14-15
+ * epoch; 16-17 the epoch being left; 18-19 version; 20-23 zero; 24-39 salt; 40-47 counter; 48-79 node 1; 80-111 present secret;
+ * 112-143 old secret. Bytes 20-23 aren't looked at, nor are 16-17 and the old secret of a steady one. Another state than 0 or 1 is
+ * answered 1, and so is another cipher than 0 or 16 and another version than 1 or 2. Version and cipher are chosen at the format and
+ * stay; every call works on both, but for discard.
  * The answer's image, 16 bytes: 0-3 number; 4-7 kind of place (0 none, 1 head, 2 record, 3 node, 4 flake); 8-11 first value
  * (record, node, nugget of a flake; for answer 11 how many are left); 12-15 second value (the flake). What isn't carried is
  * zero. After each accepted change the outside counter to keep is bytes 40-47 of the drive's image.
@@ -25,8 +26,9 @@ extern "C" {
  * drive, refused or not: a refusal's is all zeros, and every call on it is answered 1. */
 uint32_t ngt_format(uint8_t *vol, size_t vol_len, uint32_t n, uint32_t p, uint32_t f, const uint8_t salt[16],
                     const uint8_t secret[32], uint64_t outside, uint8_t drive[144], uint8_t answer[16]);
-/* The same under a version, 1 or 2, and a cipher, 0; any other is answered 1. ngt_format is version 1 under cipher 0. A record
- * has 18 bytes in version 1 and 26 in version 2, so a volume of version 2 is 8 bytes longer for each nugget. */
+/* The same under a version, 1 or 2, and a cipher, 0 (ChaCha20) or 16 (AES-256 in counter mode); any other is answered 1. ngt_format
+ * is version 1 under cipher 0. A record has 18 bytes in version 1 and 26 in version 2, so a volume of version 2 is 8 bytes longer for
+ * each nugget. The AES here looks up a table at secret places, so its time depends on them; ChaCha20's doesn't. */
 uint32_t ngt_format_as(uint8_t *vol, size_t vol_len, uint32_t n, uint32_t p, uint32_t f, uint16_t version, uint8_t cipher,
                        const uint8_t salt[16], const uint8_t secret[32], uint64_t outside, uint8_t drive[144], uint8_t answer[16]);
 uint32_t ngt_mount(const uint8_t *vol, size_t vol_len, const uint8_t present[32], const uint8_t old[32],

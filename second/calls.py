@@ -49,8 +49,7 @@ def share_of(nuggets, moved, flakes, done):
 
 
 def format(volume, n, p, f, salt, secret, outside, version=1, cipher=0):
-    """The one cipher is ChaCha20, 0."""
-    if not shape_in_limits(n, p, f, version) or cipher:
+    if not shape_in_limits(n, p, f, version, cipher):
         return Result(Answer(1), BLANK, volume)
     lay = layout(n, p, f, version)
     bad = Answer(2) if len(volume) != lay.length else counter_test(outside)
@@ -60,12 +59,17 @@ def format(volume, n, p, f, salt, secret, outside, version=1, cipher=0):
     work[lay.records:lay.tags] = Record(0, 0, 0, 1).stored(version) * n
     work[lay.tree:lay.flakes] = tree.build(work, lay)
     drive = seal_change(Drive(n, p, f, salt, epoch=1, counter=outside, present=secret,
-                              version=version), work)
+                              version=version, cipher=cipher), work)
     return Result(ACCEPTED, drive, bytes(work))
 
 
 def head_version(volume):
     return number(volume[3:5])
+
+
+def head_state(volume):
+    """Byte 5: the state, and the cipher above it."""
+    return volume[5] % 16, volume[5] // 16 * 16
 
 
 def head_shape_test(volume):
@@ -75,7 +79,8 @@ def head_shape_test(volume):
     if volume[:3] != MARK or head_version(volume) not in RECORD:
         return Answer(3)
     n, p, f = number(volume[8:12]), number(volume[12:14]), number(volume[14:16])
-    if not (shape_in_limits(n, p, f) and state_in_limits(volume[5], number(volume[6:8]))):
+    state, cipher = head_state(volume)
+    if not (shape_in_limits(n, p, f, cipher=cipher) and state_in_limits(state, number(volume[6:8]))):
         return Answer(1)
     return Answer(2) if len(volume) != layout(n, p, f, head_version(volume)).length else None
 
@@ -83,13 +88,13 @@ def head_shape_test(volume):
 def head_drive(volume, present, old):
     """The drive that a head of good shape describes."""
     n, p, f = number(volume[8:12]), number(volume[12:14]), number(volume[14:16])
-    state, epoch = volume[5], number(volume[6:8])
+    (state, cipher), epoch = head_state(volume), number(volume[6:8])
     leaving = epoch - 1 if state == CHANGING else 0
     kept = old if state == CHANGING else NO_SECRET
     version = head_version(volume)
     node1 = tree.node(volume, layout(n, p, f, version), 1)
     return Drive(n, p, f, volume[16:32], state, leaving, epoch, number(volume[32:40]),
-                 node1, present, kept, version)
+                 node1, present, kept, version, cipher)
 
 
 def mount_tests(drive, volume, outside):

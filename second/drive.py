@@ -29,6 +29,7 @@ class Drive(NamedTuple):
     present: bytes = NO_SECRET
     old: bytes = NO_SECRET
     version: int = 0
+    cipher: int = 0
 
     @property
     def changing(self):
@@ -45,7 +46,7 @@ class Drive(NamedTuple):
 
     def image(self):
         """The 144 bytes of the C interface."""
-        return (le(self.n, 4) + le(self.p, 4) + le(self.f, 4) + le(self.state, 1) + bytes(1)
+        return (le(self.n, 4) + le(self.p, 4) + le(self.f, 4) + le(self.state, 1) + le(self.cipher, 1)
                 + le(self.epoch, 2) + le(self.leaving, 2) + le(self.version, 2) + bytes(4) + self.salt
                 + le(self.counter, 8) + self.node1 + self.present + self.old)
 
@@ -56,7 +57,7 @@ BLANK = Drive()
 def drive_of_image(image):
     return Drive(number(image[0:4]), number(image[4:8]), number(image[8:12]), image[24:40],
                  image[12], number(image[16:18]), number(image[14:16]), number(image[40:48]),
-                 image[48:80], image[80:112], image[112:144], number(image[18:20]))
+                 image[48:80], image[80:112], image[112:144], number(image[18:20]), image[13])
 
 
 def state_in_limits(state, epoch):
@@ -66,7 +67,7 @@ def state_in_limits(state, epoch):
 
 def in_limits(drive):
     """Test 1 of a drive."""
-    if not shape_in_limits(drive.n, drive.p, drive.f, drive.version):
+    if not shape_in_limits(drive.n, drive.p, drive.f, drive.version, drive.cipher):
         return False
     if not state_in_limits(drive.state, drive.epoch):
         return False
@@ -74,10 +75,10 @@ def in_limits(drive):
 
 
 def head_front(drive):
-    """Head bytes 0 to 71."""
+    """Head bytes 0 to 71; in byte 5 the cipher stands above the state."""
     check = keys.old_check(drive.old, drive.salt, drive.epoch) if drive.changing else bytes(32)
-    return (MARK + le(drive.version, 2) + le(drive.state, 1) + le(drive.epoch, 2) + le(drive.n, 4)
-            + le(drive.p, 2) + le(drive.f, 2) + drive.salt + le(drive.counter, 8) + check)
+    return (MARK + le(drive.version, 2) + le(drive.state + drive.cipher, 1) + le(drive.epoch, 2)
+            + le(drive.n, 4) + le(drive.p, 2) + le(drive.f, 2) + drive.salt + le(drive.counter, 8) + check)
 
 
 def head_bytes(drive):

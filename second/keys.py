@@ -2,6 +2,8 @@
 
 from functools import lru_cache
 
+from aes import counter_stream
+from layout import AES
 from primitives import blake2s, keystream, le, poly1305
 
 
@@ -26,8 +28,10 @@ def seal(present, head72, node1):
 
 
 @lru_cache(maxsize=8192)
-def pad(key, keycount, flake, size):
-    """The pad of a flake under a nugget key."""
+def pad(key, keycount, flake, size, cipher=0):
+    """The pad of a flake under a nugget key, by the volume's cipher."""
+    if cipher == AES:
+        return counter_stream(key, keycount, flake * size // 16, size // 16)
     return keystream(key, bytes(4) + le(keycount, 8), flake * size // 64, size // 64)
 
 

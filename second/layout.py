@@ -8,13 +8,14 @@ from primitives import le, number
 HEAD, TAG, NODE = 104, 16, 32
 # The bytes of a record, by version.
 RECORD = {1: 18, 2: 26}
+CHACHA20, AES = 0, 16
 MOST_NUGGETS, MOST_FLAKES, MOST_SIZE = 16384, 64, 4096
 TOP = 2**64 - 1
 EPOCH_TOP = 65535
 
 
-def shape_in_limits(n, p, f, version=1):
-    return (version in RECORD and 1 <= n <= MOST_NUGGETS and 1 <= p <= MOST_FLAKES
+def shape_in_limits(n, p, f, version=1, cipher=CHACHA20):
+    return (version in RECORD and cipher in (CHACHA20, AES) and 1 <= n <= MOST_NUGGETS and 1 <= p <= MOST_FLAKES
             and 64 <= f <= MOST_SIZE and f % 64 == 0)
 
 

@@ -62,7 +62,7 @@ def contents(volume, drive, n, f):
     record = read_record(volume, lay, n)
     if not record.held >> f & 1:
         return bytes(lay.f)
-    pad = keys.pad(key_of(drive, record, n), record.keycount, f, lay.f)
+    pad = keys.pad(key_of(drive, record, n), record.keycount, f, lay.f, drive.cipher)
     return xor(stored_bytes(volume, lay, n, f), pad)
 
 
@@ -112,7 +112,7 @@ def encipher(work, drive, n, keycount, texts):
     key = keys.nugget_key(drive.present, drive.salt, n)
     listed = []
     for f in sorted(texts):
-        stored = xor(texts[f], keys.pad(key, keycount, f, lay.f))
+        stored = xor(texts[f], keys.pad(key, keycount, f, lay.f, drive.cipher))
         at, tag_at = lay.flake_at(n, f), lay.tag_at(n, f)
         work[at:at + lay.f] = stored
         work[tag_at:tag_at + TAG] = keys.tag(lay.version, key, n, keycount, f, stored)

@@ -1,6 +1,6 @@
 """The built auditor's page against the second program's: the sheet's inputs; random drives of many shapes, steady and changing,
 with numbers at their tops; the fullest volumes; a drive at 100.00 before and after its finish; and drives well sealed over
-records that are ill formed. All in either version.
+records that are ill formed. All in either version and under either cipher.
 
 Run after `rt check audit`.
 """
@@ -44,7 +44,7 @@ def some_spec(source, n, p, f=64, version=1):
     epoch = source.choice((1 + state, 9 + state, source.randint(1 + state, EPOCH_TOP), EPOCH_TOP))
     counter = source.choice((0, source.getrandbits(64), 10 ** source.randrange(20), TOP))
     return Spec(n, p, f, state, epoch, counter, [some_record(source, p, state, epoch, counter, version) for _ in range(n)],
-                version=version)
+                version=version, cipher=source.choice((0, 16)))
 
 
 def drives(source):

@@ -20,11 +20,11 @@ NAMES = ("format", "mount", "read", "write", "queue", "export", "take_in", "begi
 
 
 def given_image(drive):
-    """The drive's image, in every other case with junk in the five bytes that mean nothing."""
+    """The drive's image, in every other case with junk in the four bytes that mean nothing."""
     image = bytearray(drive.image())
     mixed = zlib.crc32(image)
     if mixed & 1:
-        image[13], image[20:24] = mixed >> 8 & 255, struct.pack("<I", mixed)
+        image[20:24] = struct.pack("<I", mixed)
     return bytes(image)
 
 

@@ -27,7 +27,7 @@ def every(source, drive, volume):
     counter = source.choice((drive.counter, drive.counter, 0, TOP))
     shape = source.choice(((drive.n, drive.p, drive.f), (number, other, 64), (number, 2, other)))
     calls.format(volume, *shape, source.randbytes(16), source.randbytes(32), source.choice((counter, source.getrandbits(64))))
-    version, cipher = source.choice((1, 2, 2, 0, 3, 65535)), source.choice((0, 0, 0, 1, 16))
+    version, cipher = source.choice((1, 2, 2, 0, 3, 65535)), source.choice((0, 0, 16, 16, 1, 17, 32, 255))
     calls.format(volume, *shape, source.randbytes(16), source.randbytes(32), counter, version, cipher)
     calls.mount(volume, drive.present, drive.old, counter)
     calls.mount(volume, *source.choice(((drive.old, drive.present), (drive.present, drive.present))), counter)
@@ -57,8 +57,8 @@ def every(source, drive, volume):
 def lived(source, shape):
     """A volume with a history: writes, a change of the secret, sweeps; then perhaps a flipped bit or a stale drive."""
     n, p, f = shape
-    version = source.choice((1, 2))
-    result = calls.format(bytes(layout(n, p, f, version).length), n, p, f, SALT, source.randbytes(32), source.randrange(1000), version)
+    version, cipher = source.choice((1, 2)), source.choice((0, 16))
+    result = calls.format(bytes(layout(n, p, f, version).length), n, p, f, SALT, source.randbytes(32), source.randrange(1000), version, cipher)
     drive, volume, before = result.drive, result.volume, result.drive
     for _ in range(source.randrange(1, 12)):
         way, o = source.randrange(8), source.randrange(n * p * f)

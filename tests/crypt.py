@@ -2,7 +2,7 @@
 
 mke2fs makes a filesystem with files in it; an independent XTS encrypts it; the proved `ngt_import` takes it in, `ngt_export` hands it
 out, and the independent reader opens what was handed out: debugfs then finds the files, equal to the byte. Then flakes are discarded,
-and python3-cryptography reads zeros there. The volumes take turns between the two versions. The reader is dm-crypt itself
+and python3-cryptography reads zeros there. The volumes take turns between the two versions and the two ciphers. The reader is dm-crypt itself
 (cryptsetup's plain mode, aes-xts-plain64, 512-bit key) where the kernel lets this program make a device-mapper target, and else
 Debian's python3-cryptography, sector by sector. It prints which one ran.
 """
@@ -100,7 +100,7 @@ def freed(proved, tally, shape, source, drive, vol, keys, image):
     tally.same("discarded places read as zero", shape, sectors(keys, left(out), False), bytes(image))
 
 
-def one(proved, tally, shape, version, folder, readers):
+def one(proved, tally, shape, version, cipher, folder, readers):
     source = random.Random(f"{SEED} crypt {shape}")
     n, p, f = shape
     image, files = filesystem(folder, source, n * p * f)
@@ -108,7 +108,7 @@ def one(proved, tally, shape, version, folder, readers):
     given = sectors(data + tweak, image, True)
     size = volume_length(n, p, f, version)
     vol, drive, answer, out = room(size=size), room(size=144), room(size=16), room(size=len(image))
-    numbers = SIZE(size), U32(n), U32(p), U32(f), U16(version), U8(0)
+    numbers = SIZE(size), U32(n), U32(p), U32(f), U16(version), U8(cipher)
     tally.same("format", shape, proved.ngt_format_as(vol, *numbers, bytes(16), bytes(32), U64(0), drive, answer), 0)
     tally.same("import", shape, proved.ngt_import(drive, vol, SIZE(size), data, tweak, given, SIZE(len(given)), answer), 0)
     plain = room(size=len(image))
@@ -130,7 +130,7 @@ def main():
     proved = library("ngt")
     with tempfile.TemporaryDirectory() as folder:
         for i, shape in enumerate(SHAPES + [CROSSED]):
-            one(proved, tally, shape, 1 + (i + SEED) % 2, pathlib.Path(folder), readers)
+            one(proved, tally, shape, 1 + (i + SEED) % 2, (i + SEED) // 2 % 2 * 16, pathlib.Path(folder), readers)
     print("read by " + " and ".join(sorted(readers)))
     return tally.close()
 

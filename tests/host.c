@@ -248,6 +248,23 @@ static void discards_left(void) {
     holds("and frees the place of the other", ngt_write(drive, wide, sizeof wide, F, &byte, 1, answer) == 0 && wide_record_is(0, 1, 3, 3, 2));
 }
 
+static void ciphers(void) {
+    uint8_t text[F], shown[16], byte = 9;
+    holds("an AES volume is formatted", ngt_format_as(vol, LENGTH, N, P, F, 1, 16, salt, secret, 5, drive, answer) == 0 && drive[13] == 16 && vol[5] == 16);
+    holds("a write is accepted", ngt_write(drive, vol, LENGTH, 3, &byte, 1, answer) == 0);
+    holds("it reads back", ngt_read(drive, vol, LENGTH, 0, text, F, answer) == 0 && text[3] == 9 && text[2] == 0);
+    holds("a flake is shown", ngt_stored_flake(drive, vol, LENGTH, 0, 0, shown, answer) == 0);
+    memcpy(text, vol + number(shown, 8), F);
+    holds("begin keeps the cipher above the state", ngt_begin(drive, vol, LENGTH, other, answer) == 0 && vol[5] == 17 && drive[12] == 1 && drive[13] == 16);
+    holds("it mounts", ngt_mount(vol, LENGTH, other, secret, number(drive + 40, 8), again, answer) == 0 && memcmp(drive, again, 144) == 0);
+    again[13] = 17;
+    holds("an image of another cipher is refused by 1", ngt_report(again, vol, LENGTH, text, answer) == 1 && again[13] == 17);
+    vol[5] = 18;
+    holds("another byte 5 is refused by 1", ngt_mount(vol, LENGTH, other, secret, number(drive + 40, 8), again, answer) == 1);
+    holds("ChaCha20 lays another pad", ngt_format(vol, LENGTH, N, P, F, salt, secret, 5, drive, answer) == 0 && vol[5] == 0 && ngt_write(drive, vol, LENGTH, 3, &byte, 1, answer) == 0
+          && memcmp(text + 20, vol + number(shown, 8) + 20, F - 20) != 0);
+}
+
 static void fleet(void) {
     static const char lines[] = "nuggets=3 moved=1 left=2 flakes=2 share=50.00 done=1\nnuggets=1 moved=1 left=0 flakes=0 share=100.00 done=0\n";
     static const char both[] = "drives=2 nuggets=4 moved=2 left=2 flakes=2 share=50.00 done=1 last=1\n";
@@ -273,6 +290,7 @@ int main(void) {
     hands();
     discards();
     discards_left();
+    ciphers();
     fleet();
     printf("%d passed, %d failed\n", passed, failed);
     return failed ? 1 : 0;

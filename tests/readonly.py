@@ -27,9 +27,9 @@ EACH = 150
 def lived(source):
     """A volume with a history, near the counter's top in every other case; the drive may be an earlier one."""
     n, p, f = source.choice(SHAPES)
-    version = source.choice((1, 2))
+    version, cipher = source.choice((1, 2)), source.choice((0, 16))
     outside = source.choice((source.randrange(1000), garbage.TOP - source.randint(1, 4)))
-    result = calls.format(bytes(layout(n, p, f, version).length), n, p, f, SALT, source.randbytes(32), outside, version)
+    result = calls.format(bytes(layout(n, p, f, version).length), n, p, f, SALT, source.randbytes(32), outside, version, cipher)
     drive, volume, before = result.drive, result.volume, result.drive
     for _ in range(source.randrange(8)):
         o = source.randrange(n * p * f)

@@ -35,6 +35,7 @@ static gregset_t before, after;
 static ucontext_t host, guest;
 static uint32_t (*watched)(void), number;
 static uint64_t state = 88172645463325252u;
+static uint8_t cipher;
 
 static uint8_t any(void) {
     state ^= state << 13, state ^= state >> 7, state ^= state << 17;
@@ -215,7 +216,7 @@ static void prepare(uint32_t f, int way) {
     memset(kept, 0, ROOM), memset(known, 0, sizeof known);
     for (size_t i = 0; i < (size_t)P * f; i++)
         text[i] = any(), bytes[i] = any(), buffer[i] = 0;
-    uint32_t refused = ngt_format_as(vol, length, N, P, f, version, 0, salt, first, 0, drive, answer);
+    uint32_t refused = ngt_format_as(vol, length, N, P, f, version, cipher, salt, first, 0, drive, answer);
     refused |= ngt_write(drive, vol, length, 0, text, f, answer);
     refused |= ngt_write(drive, vol, length, 2 * (size_t)f, text + 2 * (size_t)f, f, answer);
     if (way & CHANGING)
@@ -287,12 +288,13 @@ int main(void) {
     prepare(LARGEST, 0);
     controls();
     static const uint32_t sizes[] = {64, 576, LARGEST};
-    for (version = 1; version <= 2; version++)
-        for (size_t i = 0; i < sizeof sizes / sizeof *sizes; i++) {
-            tries_both(sizes[i]);
-            if (version == 2)
-                tries_freed(sizes[i]);
-        }
+    for (cipher = 0; cipher <= 16; cipher += 16)
+        for (version = 1; version <= 2; version++)
+            for (size_t i = 0; i < sizeof sizes / sizeof *sizes; i++) {
+                tries_both(sizes[i]);
+                if (version == 2)
+                    tries_freed(sizes[i]);
+            }
     printf("snapshot: %zu instructions, %zu bytes stored in volume, drive and answer\n", steps, stored);
     printf("%zu passed, %zu failed\n", passed, failed);
     return failed != 0;

@@ -67,7 +67,7 @@ class Both:
 def history(both, chance, case):
     n, p, f = shape(chance)
     version = chance.choice((1, 2))
-    now = calls.format(bytes(layout(n, p, f, version).length), n, p, f, SALT, chance.randbytes(32), 0, version)
+    now = calls.format(bytes(layout(n, p, f, version).length), n, p, f, SALT, chance.randbytes(32), 0, version, chance.choice((0, 16)))
     drive, volume, size = now.drive, now.volume, summary.length(n)
     kept = both.build(case, drive, volume, chance.randbytes(size))
     for _ in range(STEPS):

@@ -30,7 +30,7 @@ def version_1(tally):
 
 
 def versions(tally):
-    """An unknown version is 3 in a volume, 1 in a drive or a format; so is an unknown cipher."""
+    """An unknown version is 3 in a volume, 1 in a drive or a format; an unknown cipher is 1 everywhere."""
     drive, volume = second(1, MIXED)
     for version in (0, 3, 257, 258, 65535):
         bad = volume[:3] + version.to_bytes(2, "little") + volume[5:]
@@ -39,8 +39,14 @@ def versions(tally):
         as_given(tally, f"drive of version {version}", calls.discard(odd, volume, 0, 0, 2), Answer(1), odd, volume)
         got = calls.format(volume, 3, 2, 64, SALT, PRESENT, 9, version)
         as_given(tally, f"format of version {version}", got, Answer(1), BLANK, volume)
-    got = calls.format(volume, 3, 2, 64, SALT, PRESENT, 9, 2, 1)
-    as_given(tally, "format with another cipher", got, Answer(1), BLANK, volume)
+    for cipher in (1, 2, 15, 17, 32, 240, 255):
+        got = calls.format(volume, 3, 2, 64, SALT, PRESENT, 9, 2, cipher)
+        as_given(tally, f"format with cipher {cipher}", got, Answer(1), BLANK, volume)
+        odd = drive._replace(cipher=cipher)
+        as_given(tally, f"drive with cipher {cipher}", calls.discard(odd, volume, 0, 0, 2), Answer(1), odd, volume)
+    # A drive under the other cipher makes another head.
+    odd = drive._replace(cipher=16)
+    as_given(tally, "drive under AES", calls.report(odd, volume), at7(HEAD), odd, volume)
     # A volume of one version under a drive of the other hasn't its length.
     as_given(tally, "the other's drive", calls.report(drive._replace(version=1), volume), Answer(2), drive._replace(version=1), volume)
 

@@ -119,14 +119,15 @@ def bad_states(tally, version):
     drive, volume = made(Spec(3, 2, 64, 1, 2, 4, [[0, 1, 1]] * 3, version=version))
     for words in ({"state": 2}, {"state": 255}, {"epoch": 0}, {"epoch": 1, "leaving": 0},
                   {"leaving": 2}, {"leaving": 0}, {"leaving": 3}, {"state": 0, "epoch": 0},
-                  {"epoch": 0, "leaving": 65535}, {"epoch": 65535}, {"version": 0}, {"version": 3}, {"version": 256 + version}):
+                  {"epoch": 0, "leaving": 65535}, {"epoch": 65535}, {"version": 0}, {"version": 3}, {"version": 256 + version},
+                  {"cipher": 1}, {"cipher": 15}, {"cipher": 17}, {"cipher": 32}, {"cipher": 255}):
         bad = drive._replace(**words)
         for got in drive_calls(bad, volume):
             tally.same(f"drive with {words}", got[:3], (calls.Answer(1), bad, volume))
     for got in drive_calls(BLANK, volume) + drive_calls(BLANK, b""):
         tally.same("blank drive", (got.answer, got.drive, got.span),
                    (calls.Answer(1), BLANK, (0, 0)))
-    for at, byte in ((5, 2), (5, 255), (6, 0), (6, 1)):
+    for at, byte in ((5, 2), (5, 15), (5, 18), (5, 32), (5, 33), (5, 255), (6, 0), (6, 1)):
         bad = volume[:at] + bytes([byte]) + volume[at + 1:]
         got = calls.mount(bad, PRESENT, bytes(32), 4)
         tally.same(f"mount, head byte {at} is {byte}", got.answer, calls.Answer(1))

@@ -17,6 +17,8 @@ BOTH = [
 # And one where some spent flakes aren't held.
 VOLUMES = BOTH + [spec._replace(version=2) for spec in BOTH]
 VOLUMES.append(Spec(3, 2, 64, 1, 3, 9, [[4, 3, 1, 2], [7, 1, 1, 3], [0, 3, 0, 2]], version=2))
+# And both ciphers.
+VOLUMES += [VOLUMES[1]._replace(cipher=16), VOLUMES[-1]._replace(cipher=16)]
 
 
 def head_answer(volume, at):
@@ -25,9 +27,9 @@ def head_answer(volume, at):
         return Answer(3)
     if at >= 16:
         return Answer(4)
-    state, epoch = volume[5], int.from_bytes(volume[6:8], "little")
+    kind, epoch = volume[5], int.from_bytes(volume[6:8], "little")
     shape = [int.from_bytes(volume[a:b], "little") for a, b in ((8, 12), (12, 14), (14, 16))]
-    good = (state in (0, 1) and epoch >= 1 + state and 1 <= shape[0] <= 16384
+    good = (kind in (0, 1, 16, 17) and epoch >= 1 + kind % 16 and 1 <= shape[0] <= 16384
             and 1 <= shape[1] <= 64 and shape[2] in range(64, 4097, 64))
     if not good:
         return Answer(1)

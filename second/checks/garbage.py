@@ -49,9 +49,9 @@ def sealed(chance):
     state = chance.randrange(2)
     epoch = chance.choice((1 + state, 3, 65534, 65535))
     counter = chance.choice((0, 5, TOP))
-    version = chance.choice((1, 2))
+    version, cipher = chance.choice((1, 2)), chance.choice((0, 16))
     records = [wild_record(chance, p, epoch, counter, version) for _ in range(n)]
-    drive, volume = made(Spec(n, p, 64, state, epoch, counter, records, version=version))
+    drive, volume = made(Spec(n, p, 64, state, epoch, counter, records, version=version, cipher=cipher))
     if chance.random() < 0.3:
         volume = flipped(volume, chance.randrange(len(volume)), chance.randrange(8))
     if chance.random() < 0.1:
@@ -68,13 +68,13 @@ def wild(chance):
         version = chance.choice((1, 1, 2, 2, 0, 3))
         if chance.random() < 0.5:
             *shape, version = SMALL.get(len(volume), (*shape, version))
-        volume[:8] = b"NGT" + bytes((version, 0, chance.randrange(3), chance.randrange(3), 0))
+        volume[:8] = b"NGT" + bytes((version, 0, chance.choice((0, 1, 2, 16, 17, 18, 32)), chance.randrange(3), 0))
         volume[8:16] = b"".join(value.to_bytes(width, "little")
                                 for value, width in zip(shape, (4, 2, 2)))
     drive = drive_of_image(chance.randbytes(144))
     if chance.random() < 0.7:
         drive = drive._replace(n=chance.choice(WORDS), p=chance.choice(WORDS),
-                               f=chance.choice(WORDS), version=chance.randrange(4), state=chance.randrange(3),
+                               f=chance.choice(WORDS), version=chance.randrange(4), cipher=chance.choice((0, 0, 16, 16, 17)), state=chance.randrange(3),
                                epoch=chance.randrange(4), leaving=chance.randrange(3))
     return drive, bytes(volume)
 
@@ -87,7 +87,7 @@ def every_call(chance, drive, volume):
     counter = chance.choice((drive.counter, 0, TOP))
     shape = chance.choice(((drive.n, drive.p, drive.f), (number, other, 64)))
     yield "format", BLANK, calls.format(volume, *shape, SALT, PRESENT, counter), b""
-    version, cipher = chance.choice((1, 2, 2, 2, 0, 3, 65535)), chance.choice((0, 0, 0, 1, 16))
+    version, cipher = chance.choice((1, 2, 2, 2, 0, 3, 65535)), chance.choice((0, 0, 16, 16, 1, 17, 32, 255))
     yield "format", BLANK, calls.format(volume, *shape, SALT, PRESENT, counter, version, cipher), b""
     yield "mount", BLANK, calls.mount(volume, drive.present, drive.old, counter), b""
     yield "read", drive, calls.read(drive, volume, offset, data), data

@@ -23,7 +23,7 @@ VECTORS = [(0xFF, "1c3b3a102f770386e4836c99e370cf9b", "c4f36ffda9fcea70b9c6e693e
 
 
 def volume_of(shape, chance, counter=9):
-    """A drive of either version, changing or not, with random masks and epochs."""
+    """A drive of either version and cipher, changing or not, with random masks and epochs."""
     n, p, f = shape
     changing, version = chance.randrange(2), chance.choice((1, 2))
     records = []
@@ -31,7 +31,7 @@ def volume_of(shape, chance, counter=9):
         spent = chance.getrandbits(p)
         held = spent if version == 1 else spent & chance.getrandbits(p)
         records.append([chance.randrange(4), spent, held, 3 - (chance.randrange(2) if changing else 0)])
-    return made(Spec(n, p, f, changing, 3, counter, records, version=version))
+    return made(Spec(n, p, f, changing, 3, counter, records, version=version, cipher=chance.choice((0, 16))))
 
 
 def vectors(tally):

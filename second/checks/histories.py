@@ -22,12 +22,12 @@ COUNT, STEPS = 400, 40
 def fresh(tally, chance, words):
     """A history that begins with an accepted format."""
     n, p, f = shape(chance)
-    version = chance.choice((1, 2))
+    version, cipher = chance.choice((1, 2)), chance.choice((0, 16))
     outside, salt = chance.choice((0, 7, 2**32 - 1, TOP - 20)), chance.randbytes(16)
     spec = Spec(n, p, f, 0, 1, outside + 1, [[0, 0, 1]] * n, secret(chance), bytes(32), salt=salt,
-                version=version)
+                version=version, cipher=cipher)
     old_bytes = bytes([chance.randrange(256)]) * layout(n, p, f, version).length
-    got = calls.format(old_bytes, n, p, f, salt, spec.present, outside, version)
+    got = calls.format(old_bytes, n, p, f, salt, spec.present, outside, version, cipher)
     tally.same(f"{words}: format", (got.answer.number, got.drive, got.volume), (0,) + made(spec))
     return History(tally, words, spec)
 
@@ -47,7 +47,7 @@ def near_tops(tally, chance, words):
                         epoch - chance.randrange(2) * state])
     old = secret(chance) if state else bytes(32)
     return History(tally, words, Spec(n, p, f, state, epoch, counter, records, secret(chance), old,
-                                      some_text, version=version))
+                                      some_text, version=version, cipher=chance.choice((0, 16))))
 
 
 def a_change(chance, history):

@@ -15,7 +15,7 @@ from checks.choose import a_range, secret
 from checks.garbage import WORDS, judged
 from checks.make import flipped
 
-FIELDS = ("n", "p", "f", "version", "state", "leaving", "epoch", "counter")
+FIELDS = ("n", "p", "f", "version", "cipher", "state", "leaving", "epoch", "counter")
 CALLS = ("format", "mount", "read", "write", "queue", "begin", "sweep", "finish", "report",
          "stored_flake", "discard")
 WEIGHTS = (1, 3, 5, 8, 4, 1, 6, 4, 2, 1, 6)
@@ -32,7 +32,7 @@ class Hostile:
         self.secrets = [first, bytes(32), b"s" * 32]
         self.kept, self.sound = [], None
         salt, outside = chance.randbytes(16), chance.choice((0, 9, TOP - 30))
-        self.call("format", self.volume, *shape, salt, first, outside, version)
+        self.call("format", self.volume, *shape, salt, first, outside, version, chance.choice((0, 16)))
 
     def call(self, name, *values):
         """Makes a call, judges it, and mostly goes back to what was sound after a refusal."""
@@ -57,7 +57,7 @@ class Hostile:
         """A bit of the head, the records, the tags, the tree or the flakes."""
         drive, size = self.drive, len(self.volume)
         parts = [(0, size)]
-        if shape_in_limits(drive.n, drive.p, drive.f, drive.version) and drive.layout.length == size:
+        if shape_in_limits(drive.n, drive.p, drive.f, drive.version, drive.cipher) and drive.layout.length == size:
             lay = drive.layout
             parts = [(0, 5), (5, 16), (0, HEAD), (HEAD, lay.tags), (lay.tags, lay.tree),
                      (lay.tree, lay.flakes), (lay.flakes, size), (lay.flakes, size)]
@@ -85,7 +85,7 @@ class Hostile:
             self.drive = self.drive._replace(**{name: chance.randbytes(32)})
         else:
             name = chance.choice(FIELDS)
-            width = {"state": 2**8, "leaving": 2**16, "epoch": 2**16, "version": 2**16}.get(name, 2**32)
+            width = {"state": 2**8, "cipher": 2**8, "leaving": 2**16, "epoch": 2**16, "version": 2**16}.get(name, 2**32)
             self.drive = self.drive._replace(**{name: chance.choice(WORDS) % width})
 
     def cut(self):
@@ -175,7 +175,8 @@ class Hostile:
         if name == "format":
             shape = drive[:3] if chance.random() < 0.7 else [chance.choice(WORDS) for _ in range(3)]
             return (volume, *shape, chance.randbytes(16), secret(chance), chance.choice((0, 5, TOP)),
-                    chance.choice((drive.version, 1, 2, chance.choice(WORDS) % 2**16)))
+                    chance.choice((drive.version, 1, 2, chance.choice(WORDS) % 2**16)),
+                    chance.choice((drive.cipher, 0, 16, chance.randrange(256))))
         if name == "mount":
             present = drive.present if chance.random() < 0.8 else chance.choice(self.secrets)
             old = drive.old if chance.random() < 0.7 else chance.choice(self.secrets)

@@ -21,7 +21,7 @@ class Ledger:
 
     def __init__(self, tally, words, spec):
         self.tally, self.words = tally, words
-        self.n, self.p, self.f, self.salt = spec.n, spec.p, spec.f, spec.salt
+        self.n, self.p, self.f, self.salt, self.cipher = spec.n, spec.p, spec.f, spec.salt, spec.cipher
         self.entries, self.blocks, self.last, self.retired = set(), set(), {}, 0
         for n, record in enumerate(spec.records):
             keycount, spent, _, epoch = full(record)
@@ -33,8 +33,9 @@ class Ledger:
         for nugget, keycount, flake, secret in pads:
             entry = nugget, keycount, flake
             key = h(b"N" + self.salt + struct.pack("<I", nugget), secret)
-            first = flake * self.f // 64
-            blocks = {(key, keycount, block) for block in range(first, first + self.f // 64)}
+            size = 16 if self.cipher else 64
+            first = flake * self.f // size
+            blocks = {(key, keycount, block) for block in range(first, first + self.f // size)}
             self.tally.holds(f"{self.words}: {entry} listed once", entry not in self.entries)
             self.tally.holds(f"{self.words}: {entry} laid once", not blocks & self.blocks)
             self.entries.add(entry)
@@ -63,5 +64,5 @@ class Ledger:
             words = f"{self.words}: flake {n} {f}"
             self.tally.same(words + " last listed", self.last.get((n, f)), (n, keycount, f, secret))
             at = len(volume) - (self.n * self.p - n * self.p - f) * self.f
-            pad = pad_of(secret, self.salt, n, keycount, f, self.f)
+            pad = pad_of(secret, self.salt, n, keycount, f, self.f, self.cipher)
             self.tally.same(words, volume[at:at + self.f], mixed(model.text(n, f, self.f), pad))

@@ -8,6 +8,7 @@ import struct
 from functools import lru_cache
 from typing import NamedTuple
 
+from aes import enciphered
 from drive import Drive
 from primitives import keystream, poly1305
 
@@ -20,8 +21,11 @@ def h(message, key=b""):
 
 
 @lru_cache(maxsize=65536)
-def pad_of(secret, salt, nugget, keycount, flake, f):
+def pad_of(secret, salt, nugget, keycount, flake, f, cipher=0):
     key = h(b"N" + salt + struct.pack("<I", nugget), secret)
+    if cipher == 16:
+        first = flake * (f // 16)
+        return b"".join(enciphered(key, struct.pack(">QQ", keycount, first + j)) for j in range(f // 16))
     return keystream(key, struct.pack("<IQ", 0, keycount), flake * (f // 64), f // 64)
 
 
@@ -61,6 +65,7 @@ class Spec(NamedTuple):
     salt: bytes = SALT
     version: int = 1
     ghosts: dict = {}
+    cipher: int = 0
 
 
 def full(record):
@@ -105,8 +110,8 @@ def head_of(spec, node1):
         check = h(b"O" + spec.salt + struct.pack("<H", spec.epoch), spec.old)
     if spec.check is not None:
         check = spec.check
-    front = struct.pack("<3sHBHIHH16sQ32s", b"NGT", spec.version, spec.state, spec.epoch, spec.n, spec.p,
-                        spec.f, spec.salt, spec.counter, check)
+    front = struct.pack("<3sHBHIHH16sQ32s", b"NGT", spec.version, spec.state + spec.cipher, spec.epoch, spec.n,
+                        spec.p, spec.f, spec.salt, spec.counter, check)
     return front + h(b"H" + front + node1, spec.present)
 
 
@@ -121,7 +126,7 @@ def made(spec):
             stored, tag = bytes(spec.f), bytes(16)
             lies = (secret, keycount, spec.text(n, f, spec.f)) if held >> f & 1 else spec.ghosts.get((n, f))
             if lies:
-                pad = pad_of(lies[0], spec.salt, n, lies[1], f, spec.f)
+                pad = pad_of(lies[0], spec.salt, n, lies[1], f, spec.f, spec.cipher)
                 stored = mixed(lies[2], pad)
                 tag = tag_of(spec.version, lies[0], spec.salt, n, lies[1], f, stored)
             flakes.append(stored)
@@ -131,7 +136,7 @@ def made(spec):
     changing = spec.state == 1
     drive = Drive(spec.n, spec.p, spec.f, spec.salt, spec.state, spec.epoch - 1 if changing else 0,
                   spec.epoch, spec.counter, nodes[0], spec.present,
-                  spec.old if changing else bytes(32), spec.version)
+                  spec.old if changing else bytes(32), spec.version, spec.cipher)
     return drive, volume
 
 

@@ -20,7 +20,7 @@ class Model:
         self.salt = spec.salt
         self.state, self.epoch, self.counter = spec.state, spec.epoch, spec.counter
         self.records = [full(record) for record in spec.records]
-        self.version, self.ghosts = spec.version, dict(spec.ghosts)
+        self.version, self.cipher, self.ghosts = spec.version, spec.cipher, dict(spec.ghosts)
         self.present, self.old, self.freeing = spec.present, spec.old, set()
         self.shadow = bytearray()
         for n, (_, _, held, _) in enumerate(self.records):
@@ -38,7 +38,7 @@ class Model:
         """The volume that must stand now, for `made`."""
         return Spec(self.n, self.p, self.f, self.state, self.epoch, self.counter, self.records,
                     self.present, self.old, self.text, salt=self.salt, version=self.version,
-                    ghosts=self.ghosts)
+                    ghosts=self.ghosts, cipher=self.cipher)
 
     def left(self):
         return sum(record[3] != self.epoch for record in self.records)

@@ -234,13 +234,15 @@ volume 862
 format_as 3 2 64 aa*16 01*32 0 1 0
 discard 0 0 1
 format_as 3 2 64 aa*16 01*32 0 1 16
+write 0 33
+format_as 3 2 64 aa*16 01*32 0 1 17
 """
 FREED_TOLD = [(0, 1, "-"), (0, 2, "0/0/0,0/0/1"), (0, 3, "-"), (0, 3, "-"), (8, 3, "-"), (0, 3, "-"), (0, 4, "0/1/0,0/1/1"), (1, 0, "-"),
-              (0, 1, "-"), (9, 1, "-"), (1, 0, "-")]
+              (0, 1, "-"), (9, 1, "-"), (0, 1, "-"), (0, 2, "0/0/0"), (1, 0, "-")]
 
 
 def freed_script(tally):
-    """Both versions and discard: answer, counter and pads of each call."""
+    """Both versions and ciphers, and discard: answer, counter and pads of each call."""
     got, good = runner.run(FREED)
     tally.same("all was understood", (good, len(got)), (True, len(FREED_TOLD)))
     for line, want in zip(got, FREED_TOLD):

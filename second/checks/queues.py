@@ -34,7 +34,8 @@ def beside_writes(tally, chance):
     for i in range(ROUNDS):
         changing = chance.randrange(2)
         counter = chance.choice((9, 9, TOP - 2))
-        drive, volume = made(Spec(3, 2, 64, changing, 3, counter, MIXED if changing else MOVED, version=chance.choice((1, 2))))
+        drive, volume = made(Spec(3, 2, 64, changing, 3, counter, MIXED if changing else MOVED, version=chance.choice((1, 2)),
+                                  cipher=chance.choice((0, 16))))
         if drive.version == 2 and chance.randrange(2):
             drive, volume = calls.discard(drive, volume, chance.randrange(3), chance.randrange(2), 1)[1:3]
         if chance.random() < 0.3:

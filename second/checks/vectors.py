@@ -1,8 +1,9 @@
-"""Published vectors: RFC 8439 for ChaCha20 and Poly1305, RFC 7693 for BLAKE2s."""
+"""Published vectors: RFC 8439 for ChaCha20 and Poly1305, RFC 7693 for BLAKE2s, FIPS 197 and SP 800-38A for AES-256."""
 
 import random
 import struct
 
+from aes import counter_stream, deciphered, enciphered
 from keys import laid_out
 from primitives import blake2s, chacha20_block, keystream, poly1305, xor
 
@@ -25,6 +26,11 @@ SUNSCREEN_ENCIPHERED = (
     "f91b65c5524733ab8f593dabcd62b3571639d624e65152ab8f530c359f0861d8"
     "07ca0dbf500d6a6156a38e088a22b65e52bc514d16ccf806818ce91ab7793736"
     "5af90bbf74a35be6b40b8eedf2785e42874d")
+COUNTED = (
+    "6bc1bee22e409f96e93d7e117393172aae2d8a571e03ac9c9eb76fac45af8e51"
+    "30c81c46a35ce411e5fbc1191a0a52eff69f2445df4f9b17ad2b417be66c3710",
+    "601ec313775789a5b7a7f504bbf3d228f443e3ca4d62b59aca84e990cacaf5c5"
+    "2b0930daa23de94ce87017ba2d84988ddfc9c58db67aada613c2dd08457941a6")
 F16 = "ff" * 16
 TAGS = [
     ("2.5.2", "85d6be7857556d337f4452fe42d506a80103808afb0db2fd4abff6af4149f51b",
@@ -85,5 +91,10 @@ def run(tally):
     tally.same("RFC 8439 2.8.2", got.hex(), "1ae10b594f09e26a7e902ecbd0600691")
     tally.same("RFC 7693 abc", blake2s(b"", b"abc").hex(),
                "508c5e8c327c14e2e1a72ba34eeb452f37458b209ed63a294d999b4c86675982")
+    one, two = bytes.fromhex("00112233445566778899aabbccddeeff"), bytes.fromhex("8ea2b7ca516745bfeafc49904b496089")
+    tally.same("FIPS 197 C.3", (enciphered(KEY, one), deciphered(KEY, two)), (two, one))
+    key = bytes.fromhex("603deb1015ca71be2b73aef0857d77811f352c073b6108d72d9810a30914dff4")
+    stream = counter_stream(key, 0xf0f1f2f3f4f5f6f7, 0xf8f9fafbfcfdfeff, 4)
+    tally.same("SP 800-38A F.5.5", xor(bytes.fromhex(COUNTED[0]), stream).hex(), COUNTED[1])
     many = b"".join(plain_block(KEY, 7 + i, nonce) for i in range(64))
     tally.same("64 blocks at once", keystream(KEY, nonce, 7, 64), many)

@@ -139,6 +139,7 @@ module _ (w : World) (any : List ℕ) (steady : isChanging (w .drive .state) ≡
           p = d .p;
           f = d .f;
           version = d .version;
+          cipher = d .cipher;
           salt = d .salt;
           state = d .state;
           epoch = d .epoch;

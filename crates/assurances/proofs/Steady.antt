@@ -155,6 +155,7 @@ module _ (d : Drive) (any v : List ℕ) (steady : isChanging (d .state) ≡ fals
           p = d .p;
           f = d .f;
           version = d .version;
+          cipher = d .cipher;
           salt = d .salt;
           state = d .state;
           epoch = d .epoch;

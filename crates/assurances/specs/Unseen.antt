@@ -28,6 +28,7 @@ withOld d any =
       p = d .p;
       f = d .f;
       version = d .version;
+      cipher = d .cipher;
       salt = d .salt;
       state = d .state;
       epoch = d .epoch;

@@ -18,7 +18,7 @@ use Rattle.answers.proofs.StageLaws.{accepted-is}
 use Rattle.layout.specs.declared.Shape.{Shape}
 use Rattle.layout.specs.Shaped.{Shaped}
 use Rattle.layout.proofs.Height.{leaves-some}
-use Rattle.layout.proofs.Limits.{limits, version-le, version-known}
+use Rattle.layout.proofs.Limits.{limits, version-le, version-known, cipher-le, cipher-known}
 use Rattle.records.specs.declared.Way.{Way}
 use Rattle.nodes.specs.Nodes.{nodeIn}
 use Rattle.nodes.proofs.Bounds.{node-fits}
@@ -29,7 +29,7 @@ use Rattle.drive.specs.Drive.{shapeOf, blankDrive, counterTop, keptOld}
 use Rattle.packed.specs.Image.{epochLeft, driveIn, DriveFits}
 use Rattle.packed.proofs.ImageLaws.{drive-back}
 use Rattle.opening.specs.Format.{freshDrive, formatAnswer, formatDone}
-use Rattle.opening.specs.Mount.{shapeIn, epochIn, stateIn, openedDrive, mountAnswer, mountDone}
+use Rattle.opening.specs.Mount.{shapeIn, stateByteIn, epochIn, stateIn, openedDrive, mountAnswer, mountDone}
 use Rattle.opening.proofs.FormatLaws.{format-lent, length-planted}
 use Rattle.opening.proofs.HeadBack.{opened, mount-opens}
 use Rattle.changes.specs.Change.{padsFor, worked, advanced}
@@ -56,6 +56,7 @@ blank-fits =
       pWidth = omega arith;
       fWidth = omega arith;
       versionWidth = omega arith;
+      cipherWidth = omega arith;
       epochWidth = omega arith;
       leftWidth = omega arith;
       counterWidth = omega arith;
@@ -92,6 +93,7 @@ image-fits v l b =
       pWidth = number-low 4 4 v b (omega (arith, l));
       fWidth = number-low 8 4 v b (omega (arith, l));
       versionWidth = number-low 18 2 v b (omega (arith, l));
+      cipherWidth = number-low 13 1 v b (omega (arith, l));
       epochWidth = number-low 14 2 v b (omega (arith, l));
       leftWidth = left-low (eqb byte 0) (num (part 16 2 v)) (number-low 16 2 v b (omega (arith, l)));
       counterWidth = number-low 40 8 v b (omega (arith, l));
@@ -122,6 +124,7 @@ format-fits s salt secret v outside long wide low = picked (accepts (formatAnswe
           pWidth = omega (arith, ok .narrow);
           fWidth = omega (arith, ok .short);
           versionWidth = omega (arith, version-le (s .version) (version-known s (lent .limited)));
+          cipherWidth = omega (arith, cipher-le (s .cipher) (cipher-known s (lent .limited)));
           epochWidth = omega arith;
           leftWidth = omega arith;
           counterWidth = omega (arith, low, room);
@@ -153,8 +156,9 @@ mount-fits v present old outside bytes wide old-wide = picked (accepts (mountAns
           pWidth = omega (arith, number-low 12 2 v bytes (omega (arith, long)));
           fWidth = omega (arith, number-low 14 2 v bytes (omega (arith, long)));
           versionWidth = number-low 3 2 v bytes (omega (arith, long));
+          cipherWidth = omega (arith, number-low 5 1 v bytes (omega (arith, long)));
           epochWidth = epoch;
-          leftWidth = left-low (eqb (num (part 5 1 v)) 0) (epochIn v - 1) (omega (arith, epoch));
+          leftWidth = left-low (eqb (stateByteIn v) 0) (epochIn v - 1) (omega (arith, epoch));
           counterWidth = number-low 32 8 v bytes (omega (arith, long));
           saltLong = length-part 16 16 v (omega (arith, long));
           nodeLong = node-long lent;
@@ -180,6 +184,7 @@ advanced-fits d v way new lent room w =
       pWidth = w .pWidth;
       fWidth = w .fWidth;
       versionWidth = w .versionWidth;
+      cipherWidth = w .cipherWidth;
       epochWidth = w .epochWidth;
       leftWidth = w .leftWidth;
       counterWidth = omega (arith, w .counterWidth, room);
@@ -214,6 +219,7 @@ begin-fits d v secret wide w = picked (accepts (beginAnswer d v secret)) (begunD
           pWidth = w .pWidth;
           fWidth = w .fWidth;
           versionWidth = w .versionWidth;
+          cipherWidth = w .cipherWidth;
           epochWidth = omega (arith, w .epochWidth, t .epochRoom);
           leftWidth = w .epochWidth;
           counterWidth = omega (arith, w .counterWidth, t .counterRoom);
@@ -246,6 +252,7 @@ finish-fits d v w = picked (accepts (finishAnswer d v)) (finishedDrive d) d on w
           pWidth = w .pWidth;
           fWidth = w .fWidth;
           versionWidth = w .versionWidth;
+          cipherWidth = w .cipherWidth;
           epochWidth = w .epochWidth;
           leftWidth = omega arith;
           counterWidth = omega (arith, w .counterWidth, t .counterRoom);

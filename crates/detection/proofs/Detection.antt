@@ -14,7 +14,7 @@ use Rattle.layout.specs.Shape.{inLimits}
 use Rattle.layout.specs.Parts.{lengthOf}
 use Rattle.layout.specs.Spots.{spotAt}
 use Rattle.layout.specs.Shaped.{Shaped}
-use Rattle.layout.proofs.Limits.{Limits, limits}
+use Rattle.layout.proofs.Limits.{Limits, limits, cipher-le, cipher-known}
 use Rattle.layout.proofs.Places.{Inside}
 use Rattle.answers.specs.declared.Answer.the-variants as A
 use Rattle.answers.specs.Numbers.{accepts}
@@ -32,7 +32,7 @@ use Rattle.drive.proofs.OpeningLaws.{opening-lent}
 use Rattle.nuggets.specs.Touched.{touchedOf}
 use Rattle.reading.proofs.TestedLaws.{read-opens, read-tests}
 use Rattle.reports.specs.Report.{reportAnswer}
-use Rattle.opening.specs.Mount.{shapeIn, stateByteIn, headFits, lengthFits, sealed, checked, openedDrive}
+use Rattle.opening.specs.Mount.{shapeIn, stateByteIn, cipherIn, headFits, lengthFits, sealed, checked, openedDrive}
 use Rattle.opening.proofs.HeadBack.{opened}
 use Rattle.changes.specs.Write.{writeWay, writeAnswer}
 use Rattle.changes.proofs.SpanLaws.{idles-way}
@@ -135,11 +135,13 @@ mount-detected v present old outside e =
     let d = openedDrive v present old in
     let o = opened v present old outside e in
     let check : part 40 32 v ≡ checkIn d = same-true _ _ (o .check) in
+    let low : stateByteIn v ≤ 1 = leb-true (stateByteIn v) 1 (both-left _ _ (both-right (inLimits (shapeIn v)) _ (o .fits))) in
     record {
       seal = same-true _ _ (o .seal);
       steady = λ z. check ∙ rw (eq-eqb (stateByteIn v) 0 z) refl;
       changing = λ z. check ∙ rw (ne-eqb (stateByteIn v) 0 (λ q. omega (arith, z, q))) refl;
-      state = leb-true (stateByteIn v) 1 (both-left _ _ (both-right (inLimits (shapeIn v)) _ (o .fits)));
+      state = low;
+      kind = omega (arith, low, cipher-le (cipherIn v) (cipher-known (shapeIn v) (both-left (inLimits (shapeIn v)) _ (o .fits))));
       counter = o .counter;
       whole = whole-right d v (o .whole) (record { limited = both-left (inLimits (shapeIn v)) _ (o .fits); size = eqb-true (length v) (lengthOf (shapeIn v)) (o .long) });
     }

@@ -1,6 +1,6 @@
 -- What an accepted call says of the volume, for every drive and every volume. Each statement is proved, under the same name in
 -- small letters, in proofs/Detection.antt.
-use Prim.Native.Nat.{ℕ, _+_, _<_, _≤_}
+use Prim.Native.Nat.{ℕ, _+_, _%_, _<_, _≤_}
 use mathlib.Core.Path.{_≡_}
 use mathlib.Core.Logic.{_⊎_}
 use mathlib.Core.List.{List}
@@ -79,9 +79,11 @@ pub record Mounts (v present old : List ℕ) (outside : ℕ) : Type 0 where
   -- "Seal: keyed with the present secret, `H`, head bytes 0-71, node 1."
   pub seal : part 72 32 v ≡ blake2s present (sealMessage (part 0 72 v) (nodeIn (shapeIn v) v 1))
   -- "Old-secret check: keyed with the old secret, `O`, salt, head epoch (2)"; "when steady: from zeros"
-  pub steady : num (part 5 1 v) ≡ 0 → part 40 32 v ≡ zeros 32
-  pub changing : num (part 5 1 v) ≡ 1 → part 40 32 v ≡ blake2s old (checkMessage (part 16 16 v) (num (part 6 2 v)))
-  pub state : num (part 5 1 v) ≤ 1
+  pub steady : num (part 5 1 v) % 16 ≡ 0 → part 40 32 v ≡ zeros 32
+  pub changing : num (part 5 1 v) % 16 ≡ 1 → part 40 32 v ≡ blake2s old (checkMessage (part 16 16 v) (num (part 6 2 v)))
+  -- "1 for any other value of byte 5" than 0, 1, 16 and 17
+  pub state : num (part 5 1 v) % 16 ≤ 1
+  pub kind : num (part 5 1 v) ≤ 17
   -- "head counter is not the outside counter" is refused
   pub counter : num (part 32 8 v) ≡ outside
   pub whole : WholeGood (openedDrive v present old) v

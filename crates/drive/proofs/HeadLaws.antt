@@ -10,7 +10,7 @@ use Rattle.base.proofs.PickLaws.{told, both-left}
 use Rattle.layout.specs.Shape.{inLimits}
 use Rattle.drive.specs.declared.Drive.{Drive}
 use Rattle.drive.specs.Drive.{shapeOf}
-use Rattle.drive.specs.Head.{stateByte, numbersOf, checkIn, frontRow, frontIn, frontFrom}
+use Rattle.drive.specs.Head.{kindByte, numbersOf, checkIn, frontRow, frontIn, frontFrom}
 use Rattle.codec.specs.Row.{starts}
 use Rattle.drive.specs.Opening.{inForm, stateFits}
 use native.Mathlib.Omega.{arith}
@@ -20,7 +20,7 @@ use Rattle.base.specs.Lists.{same, part}
 use lib.Seq.{sets}
 use Rattle.base.proofs.PartLaws.{sets-append, sets-full}
 
--- "0-2 `NGT`; 3-4 version 1; 5 state; 6-7 epoch; 8-11 N; 12-13 P; 14-15 F; 16-31 salt; 32-39 counter; 40-71 old-secret check"
+-- "0-2 `NGT`; 3-4 version 1; 5 state and cipher; 6-7 epoch; 8-11 N; 12-13 P; 14-15 F; 16-31 salt; 32-39 counter; 40-71 old-secret check"
 pub places : starts 0 frontRow ≡ 0 ∷ 3 ∷ 5 ∷ 6 ∷ 8 ∷ 12 ∷ 14 ∷ 16 ∷ 32 ∷ 40 ∷ []
 places = refl
 
@@ -29,7 +29,7 @@ pub two-pieces : (z a b : List ℕ) → length a ≡ 72 → length b ≡ 32 → 
 two-pieces z a b ha hb hz = sym (sets-append z 0 a b 72 (omega arith)) ∙ sets-full z (a ++ b) (simp length-append (omega arith))
 
 -- the code's pieces of the front are its row
-pub front-pieces : (d : Drive) → frontFrom (numbersOf (d .version) (d .n) (d .p) (d .f) (stateByte (d .state)) (d .epoch)) (d .salt) (d .counter) (checkIn d) ≡ frontIn d
+pub front-pieces : (d : Drive) → frontFrom (numbersOf (d .version) (d .n) (d .p) (d .f) (kindByte d) (d .epoch)) (d .salt) (d .counter) (checkIn d) ≡ frontIn d
 unfolding numbersOf frontIn
 front-pieces d = simp append-assoc
 

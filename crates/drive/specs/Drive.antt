@@ -11,9 +11,9 @@ use Rattle.drive.specs.declared.Drive.{Drive}
 use Rattle.drive.specs.declared.State.{State}
 use Rattle.drive.specs.declared.State.the-variants.{Steady, Changing}
 
--- the drive's shape, under its version and ChaCha20
+-- the drive's shape, under its version and cipher
 abbrev pub shapeOf : Drive → Shape
-shapeOf d = shapeAs (d .version) (d .n) (d .p) (d .f)
+shapeOf d = shapeAs (d .version) (d .cipher) (d .n) (d .p) (d .f)
 
 abbrev pub isChanging : State → Bool
 isChanging Steady = false
@@ -34,6 +34,7 @@ blankDrive =
       p = 0;
       f = 0;
       version = 0;
+      cipher = 0;
       salt = zeros 16;
       state = Steady;
       epoch = 0;
@@ -51,6 +52,7 @@ headed d state epoch counter node present old =
       p = d .p;
       f = d .f;
       version = d .version;
+      cipher = d .cipher;
       salt = d .salt;
       state = state;
       epoch = epoch;

@@ -19,12 +19,13 @@ pub enum State {
     Changing(u16),
 }
 
-// "The open drive is one record": N, P, F, version, salt, state, epoch, counter, node 1, present secret and old secret.
+// "The open drive is one record": N, P, F, version, cipher, salt, state, epoch, counter, node 1, present secret and old secret.
 pub struct Drive {
     pub n: u32,
     pub p: u32,
     pub f: u32,
     pub version: u16,
+    pub cipher: u8,
     pub salt: [u8; 16],
     pub state: State,
     pub epoch: u16,
@@ -49,6 +50,7 @@ pub fn blank() -> Drive
         p: 0,
         f: 0,
         version: 0,
+        cipher: 0,
         salt: [0u8; 16],
         state: State::Steady,
         epoch: 0,
@@ -67,7 +69,7 @@ pub fn shape_of(d: Drive) -> Shape
         p: d.p,
         f: d.f,
         version: d.version,
-        cipher: 0,
+        cipher: d.cipher,
     }
 }
 
@@ -110,6 +112,7 @@ pub fn headed(
         p: d.p,
         f: d.f,
         version: d.version,
+        cipher: d.cipher,
         salt: salt,
         state: state,
         epoch: epoch,
@@ -140,14 +143,14 @@ pub fn state_byte(state: State) -> u8
     }
 }
 
-// Head bytes 0 to 15.
-fn numbers_of(version: u16, n: u32, p: u32, f: u32, state: u8, epoch: u16) -> [u8; 16]
-    ensures { λ r. ⌜ r ≡ numbersOf version n p f state epoch ⌝ }
+// Head bytes 0 to 15; `kind` is byte 5, the cipher above the state.
+fn numbers_of(version: u16, n: u32, p: u32, f: u32, kind: u16, epoch: u16) -> [u8; 16]
+    ensures { λ r. ⌜ r ≡ numbersOf version n p f kind epoch ⌝ }
 {
     let mut out = [0u8; 16];
     words::store(&mut out, 0, 3, 0x54474e);
     words::store(&mut out, 3, 2, version as u64);
-    words::store(&mut out, 5, 1, state as u64);
+    words::store(&mut out, 5, 1, kind as u64);
     words::store(&mut out, 6, 2, epoch as u64);
     words::store(&mut out, 8, 4, n as u64);
     words::store(&mut out, 12, 2, p as u64);
@@ -189,7 +192,8 @@ pub fn front(d: Drive) -> [u8; 72]
     let check = check_in(d);
     let salt = d.salt;
     let state = d.state;
-    let numbers = numbers_of(d.version, d.n, d.p, d.f, state_byte(state), d.epoch);
+    let kind = state_byte(state) as u16 + d.cipher as u16;
+    let numbers = numbers_of(d.version, d.n, d.p, d.f, kind, d.epoch);
     front_of(numbers, salt, d.counter, check)
 }
 

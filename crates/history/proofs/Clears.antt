@@ -21,7 +21,6 @@ use Rattle.drive.specs.declared.Drive.{Drive}
 use Rattle.drive.specs.Drive.{shapeOf, zeros}
 use Rattle.opening.specs.Format.{freshRecord, freshFrom, bare, planted, freshDrive, freshVolume, formatVolume}
 use Rattle.opening.proofs.FormatLaws.{format-lent}
-use Rattle.opening.proofs.FreshLaws.{fresh-by}
 use Rattle.opening.proofs.Reopens.{length-head}
 use Rattle.nuggets.specs.Nugget.{storedIn}
 use Rattle.changes.specs.Change.{settled}

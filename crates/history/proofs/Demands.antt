@@ -41,15 +41,11 @@ use Rattle.history.proofs.Steps.{start-sound, sound, mount-back}
 use Rattle.history.proofs.Runs.{run-append, run-kept, run-zero, step-frees, step-writes}
 use Rattle.history.proofs.Counters.{baseOf, run-base, run-raised, head-counter}
 use Rattle.opening.proofs.FormatLaws.{format-lent}
-use Rattle.opening.proofs.FreshLaws.{fresh-by}
 use Rattle.records.specs.Record.{recordOf}
 
 pub begun-base : (x : Start) → baseOf (begun x .drive) ≡ (x .shape, x .salt)
 unfolding begun formatDone freshDrive
-begun-base x =
-    let (lent, top) = format-lent (x .shape) (x .outside) (x .given) (ap accepts (x .accepted)) in
-    rw (x .accepted)
-    (fresh-by (λ (z : Shape). baseOf (freshDrive z (x .salt) (x .secret) (x .outside)) ≡ (z, x .salt)) (x .shape) (lent .limited) (λ version n p f l. refl))
+begun-base x = rw (x .accepted) refl
 
 pub shape-kept : ShapeKept
 shape-kept x calls =

@@ -25,6 +25,7 @@ use Rattle.layout.proofs.Limits.{limits, lent-small, width-is}
 use Rattle.records.specs.Listing.{Entry}
 use Rattle.keys.specs.Keys.{nuggetKey, tagKey, checkOf, sealOf}
 use Rattle.keys.specs.Pads.{Size, Stretch, Lies, padOf, inputOf}
+use Rattle.keys.proofs.CipherLaws.{lawful}
 use Rattle.keys.proofs.Stretches.{stretch-is, no-stretch-twice as stretches-apart}
 use Rattle.nodes.specs.Nodes.{nodeIn, recordPart, tagsPart, leafOf, innerOf}
 use Rattle.nodes.specs.Made.{madeOf}
@@ -49,7 +50,7 @@ use Rattle.ledger.proofs.OnwardLaws.{onward-same, onward-trans}
 use Rattle.history.specs.World.{World, Call}
 use Rattle.history.specs.Step.{step}
 use Rattle.history.specs.History.{Start, begun, run, history}
-use Rattle.history.specs.Pads.{lockIn, stretchOf, stretchSource, StretchSource, StretchMade, NoStretchTwice, tagSource, TagSource, TagKeyMade, NoTagKeyTwice, Spent, OnePadOneContents, liesUnder, OneStretchOneContents, OneTagKeyOneMessage, Hashed, HashesStand}
+use Rattle.history.specs.Pads.{lockIn, cipherChosen, stretches, stretchOf, stretchSource, StretchSource, StretchMade, NoStretchTwice, tagSource, TagSource, TagKeyMade, NoTagKeyTwice, Spent, OnePadOneContents, liesUnder, OneStretchOneContents, OneTagKeyOneMessage, Hashed, HashesStand}
 use Rattle.history.proofs.Quiet.{untouched-lent, whole-quiet}
 use Rattle.history.proofs.Heads.{untouched-node}
 use Rattle.history.proofs.View.{kitOf, ledgerOf}
@@ -97,20 +98,21 @@ module _ (x : Start) where
       let ok = limits (x .shape) (lent .limited) in
       record { least = ok .wide; most = ok .short; whole = ok .whole }
 
-  lies : (e : Entry) (j : ℕ) → Within e → j < x .shape .f / 64 → Lies (x .shape .f) (stretchOf e j)
+  lies : (e : Entry) (j : ℕ) → Within e → j < stretches x → Lies (cipherChosen x) (x .shape .f) (stretchOf e j)
   lies e j l h = record { count = l .count; few = l .flake; inside = h }
 
   nuggets : (e g : Entry) → Within e → Within g → nuggetMessage (x .salt) (e .nugget) ≡ nuggetMessage (x .salt) (g .nugget) → e .nugget ≡ g .nugget
   nuggets e g l m same = nugget-told (x .salt) (e .nugget) (g .nugget) (x .salted) (l .nugget) (m .nugget) same
 
   -- a stretch's source tells its entry and place, and a tag key's its entry
-  same-stretch : (e g : Entry) (a b : ℕ) → Within e → Within g → a < x .shape .f / 64 → b < x .shape .f / 64
+  same-stretch : (e g : Entry) (a b : ℕ) → Within e → Within g → a < stretches x → b < stretches x
       → stretchSource x e a ≡ stretchSource x g b → SameEntry e g × (a ≡ b)
   same-stretch e g a b l m ha hb same =
-      let inputs : inputOf (x .shape .f) (stretchOf e a) ≡ inputOf (x .shape .f) (stretchOf g b) = λ k. record { nonce = same k .nonce; block = same k .block } in
-      let one : stretchOf e a ≡ stretchOf g b = stretches-apart (x .shape .f) size (stretchOf e a) (stretchOf g b) (lies e a l ha) (lies g b m hb) inputs in (
+      let inputs : inputOf (cipherChosen x) (x .shape .f) (stretchOf e a) ≡ inputOf (cipherChosen x) (x .shape .f) (stretchOf g b) = λ k. same k .input in
+      let one : stretchOf e a ≡ stretchOf g b =
+      stretches-apart (cipherChosen x) (lawful (x .shape .cipher)) (x .shape .f) size (stretchOf e a) (stretchOf g b) (lies e a l ha) (lies g b m hb) inputs in (
         record {
-          nuggets = nuggets e g l m (ap (λ (s : StretchSource). s .message) same);
+          nuggets = nuggets e g l m (ap (λ (s : StretchSource (cipherChosen x)). s .message) same);
           keycounts = ap (λ (s : Stretch). s .keycount) one;
           flakes = ap (λ (s : Stretch). s .flake) one;
         },
@@ -126,7 +128,7 @@ module _ (x : Start) where
 pub stretch-made : StretchMade
 unfolding nuggetKey
 stretch-made x calls i j e at h =
-    stretch-is (x .shape .f) (size x) (lockIn x e) (e .flake) j (lies x e j (listed (history x calls) (sound x calls) i e at) h)
+    stretch-is (x .shape .f) (size x) (lockIn x e) (e .flake) j h
 
 pub no-stretch-twice : NoStretchTwice
 unfolding NoneTwice

@@ -14,7 +14,7 @@ use Rattle.base.proofs.TabLaws.{tab-const}
 use Rattle.answers.specs.declared.Answer.the-variants as A
 use Rattle.answers.specs.Numbers.{accepts}
 use Rattle.layout.specs.declared.Shape.{Shape}
-use Rattle.layout.specs.Shape.{shapeAs, inLimits}
+use Rattle.layout.specs.Shape.{inLimits}
 use Rattle.records.specs.declared.Record.{Record}
 use Rattle.records.specs.Journal.{bit}
 use Rattle.records.proofs.BitLaws.{bit-empty}
@@ -27,7 +27,7 @@ use Rattle.drive.specs.Drive.{shapeOf, gaugeOf, isChanging, keptOld}
 use Rattle.opening.specs.Format.{freshRecord, planted, freshDrive, freshVolume, formatDone, formatVolume}
 use Rattle.opening.specs.Mount.{mountDone}
 use Rattle.opening.proofs.FormatLaws.{format-lent}
-use Rattle.opening.proofs.FreshLaws.{planted-fresh, fresh-opens, fresh-whole, fresh-by}
+use Rattle.opening.proofs.FreshLaws.{planted-fresh, fresh-opens, fresh-whole}
 use Rattle.opening.proofs.Reopens.{Handed, length-head, mounts-back}
 use Rattle.changes.specs.Laid.{over}
 use Rattle.changes.specs.Change.{settled}
@@ -51,53 +51,33 @@ use Rattle.changes.specs.Discard.{clears, discardDone, discardVolume}
 use Rattle.records.specs.Record.{recordOf}
 
 -- a fresh drive and volume
-module _ (version a p f : ℕ) (salt secret : List ℕ) (outside : ℕ) (salted : length salt ≡ 16) (limited : inLimits (shapeAs version a p f) ≡ true) where
-  abbrev s : Shape
-  s = shapeAs version a p f
-
+module _ (s : Shape) (salt secret : List ℕ) (outside : ℕ) (salted : length salt ≡ 16) (limited : inLimits s ≡ true) where
   abbrev d : Drive
   d = freshDrive s salt secret outside
 
   abbrev v : List ℕ
   v = freshVolume s salt secret outside
 
-  numbers-record : (n : ℕ) → n < a → recordOf (shapeOf d) v n ≡ freshRecord
+  fresh-record : (n : ℕ) → n < s .n → recordOf (shapeOf d) v n ≡ freshRecord
   unfolding freshVolume freshDrive settled
-  numbers-record n h = settled-record s d (planted s) (length-head d salted) n ∙ planted-fresh s limited n h
+  fresh-record n h = settled-record s d (planted s) (length-head d salted) n ∙ planted-fresh s limited n h
 
-  numbers-untouched : Untouched d v
+  fresh-untouched : Untouched d v
   unfolding freshDrive
-  numbers-untouched =
+  fresh-untouched =
       let whole = fresh-whole s salt secret outside salted limited in
       record {
         opens = fresh-opens s salt secret outside salted limited;
         good = whole-good s (gaugeOf d) v whole;
         well = whole-formed s (gaugeOf d) v whole;
-        tags = λ n f h l on. absurd (clash on (ap (λ (r : Record). bit (r .held) f) (numbers-record n h) ∙ bit-empty f));
+        tags = λ n f h l on. absurd (clash on (ap (λ (r : Record). bit (r .held) f) (fresh-record n h) ∙ bit-empty f));
       }
 
-  numbers-inv : Inv (kitOf d) (viewOf d v [] 0 (λ a. 0))
+  fresh-inv : Inv (kitOf d) (viewOf d v [] 0 (λ a. 0))
   unfolding freshDrive plainIn
-  numbers-inv =
-      starts (kitOf d) (viewOf d v [] 0 (λ a. 0))
-      (record { empty = numbers-record; zeros = λ n f h l. tab-const (s .f) 0; unlisted = refl; unretired = refl })
-
--- of any shape that was accepted
-module _ (s : Shape) (salt secret : List ℕ) (outside : ℕ) (salted : length salt ≡ 16) (limited : inLimits s ≡ true) where
-  fresh-record : (n : ℕ) → n < s .n → recordOf (shapeOf (freshDrive s salt secret outside)) (freshVolume s salt secret outside) n ≡ freshRecord
-  fresh-record =
-      fresh-by (λ (z : Shape). (n : ℕ) → n < z .n → recordOf (shapeOf (freshDrive z salt secret outside)) (freshVolume z salt secret outside) n ≡ freshRecord) s limited
-      (λ version a p f l. numbers-record version a p f salt secret outside salted l)
-
-  fresh-untouched : Untouched (freshDrive s salt secret outside) (freshVolume s salt secret outside)
-  fresh-untouched =
-      fresh-by (λ (z : Shape). Untouched (freshDrive z salt secret outside) (freshVolume z salt secret outside)) s limited
-      (λ version a p f l. numbers-untouched version a p f salt secret outside salted l)
-
-  fresh-inv : Inv (kitOf (freshDrive s salt secret outside)) (viewOf (freshDrive s salt secret outside) (freshVolume s salt secret outside) [] 0 (λ a. 0))
   fresh-inv =
-      fresh-by (λ (z : Shape). Inv (kitOf (freshDrive z salt secret outside)) (viewOf (freshDrive z salt secret outside) (freshVolume z salt secret outside) [] 0 (λ a. 0))) s limited
-      (λ version a p f l. numbers-inv version a p f salt secret outside salted l)
+      starts (kitOf d) (viewOf d v [] 0 (λ a. 0))
+      (record { empty = fresh-record; zeros = λ n f h l. tab-const (s .f) 0; unlisted = refl; unretired = refl })
 
 -- "Begin with one accepted format"
 pub start-sound : (x : Start) → Sound (begun x)

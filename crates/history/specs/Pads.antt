@@ -17,10 +17,10 @@ use Rattle.layout.specs.Shape.{leaves}
 use Rattle.layout.specs.Parts.{tagAt}
 use Rattle.records.specs.Journal.{bit}
 use Rattle.records.specs.Listing.{Entry, entry}
-use Rattle.chacha20.specs.ChaCha20.{blockOf}
 use Rattle.blake2s.specs.Hash.{blake2s}
 use Rattle.keys.specs.declared.Lock.{Lock}
 use Rattle.keys.specs.Keys.{tagKey}
+use Rattle.keys.specs.Ciphers.{Cipher, cipherOf}
 use Rattle.keys.specs.Pads.{Stretch, inputOf, padOf}
 use Rattle.nodes.specs.Nodes.{nodeIn, recordPart, tagsPart}
 use Rattle.drive.specs.Drive.{shapeOf, isChanging, zeros}
@@ -38,38 +38,49 @@ lockIn start e = lockOf (start .shape) (start .salt) e
 abbrev pub padIn : Start → Entry → List ℕ
 padIn start e = padOf (lockIn start e) (e .flake) (start .shape .f)
 
--- what 64 bytes of keystream are made of: the secret and the message that the nugget key is hashed from, and the nonce and
--- the block that ChaCha20 is given beside that key
-pub record StretchSource : Type 0 where
+-- "A format option chooses the cipher of the volume", and it stays. What follows holds of either.
+abbrev pub cipherChosen : Start → Cipher
+cipherChosen start = cipherOf (start .shape .cipher)
+
+-- what a block of keystream is made of: the secret and the message that the nugget key is hashed from, and what the cipher's
+-- block function is given beside that key: nonce and block of ChaCha20, the counter block of AES
+pub record StretchSource (c : Cipher) : Type 0 where
   pub secret : List ℕ
   pub message : List ℕ
-  pub nonce : List ℕ
-  pub block : ℕ
+  pub input : c .Input
 
--- 64 bytes of an entry's pad, by their place there
+-- a block of an entry's pad, by its place there
 abbrev pub stretchOf : Entry → ℕ → Stretch
 stretchOf e j = record { keycount = e .keycount; flake = e .flake; place = j }
 
-abbrev pub stretchSource : Start → Entry → ℕ → StretchSource
+abbrev pub stretchSource : (start : Start) → Entry → ℕ → StretchSource (cipherChosen start)
 stretchSource start e j =
-    let x = inputOf (start .shape .f) (stretchOf e j) in
-    record { secret = e .secret; message = nuggetMessage (start .salt) (e .nugget); nonce = x .nonce; block = x .block }
+    record {
+      secret = e .secret;
+      message = nuggetMessage (start .salt) (e .nugget);
+      input = inputOf (cipherChosen start) (start .shape .f) (stretchOf e j);
+    }
+
+-- how many blocks a pad has
+abbrev pub stretches : Start → ℕ
+stretches start = start .shape .f / cipherChosen start .unit
 
 -- The pad of a listed entry is made of nothing else.
 abbrev pub StretchMade : Type 0
 StretchMade =
     (start : Start) (calls : List Call) (i j : ℕ) (e : Entry)
     → let s = stretchSource start e j in
-    getElem? (history start calls .listing) i ≡ some e → j < start .shape .f / 64
-    → part (64 * j) 64 (padIn start e) ≡ blockOf (blake2s (s .secret) (s .message)) (s .nonce) (s .block)
+    let c = cipherChosen start in
+    getElem? (history start calls .listing) i ≡ some e → j < stretches start
+    → part (c .unit * j) (c .unit) (padIn start e) ≡ c .give (blake2s (s .secret) (s .message)) (s .input)
 
--- No stretch of keystream is laid twice: two stretches made of the same secret, message, nonce and block, of whatever nuggets
--- and secrets, are one place of one entry.
+-- No stretch of keystream is laid twice: two stretches made of the same secret, message and input, of whatever nuggets and
+-- secrets, are one place of one entry.
 abbrev pub NoStretchTwice : Type 0
 NoStretchTwice =
     (start : Start) (calls : List Call) (i j a b : ℕ) (e g : Entry)
     → let listing = history start calls .listing in
-    getElem? listing i ≡ some e → getElem? listing j ≡ some g → a < start .shape .f / 64 → b < start .shape .f / 64
+    getElem? listing i ≡ some e → getElem? listing j ≡ some g → a < stretches start → b < stretches start
     → stretchSource start e a ≡ stretchSource start g b → (i ≡ j) × (a ≡ b)
 
 -- what a tag key is made of: the secret and the message that the nugget key is hashed from, and its own message
@@ -125,7 +136,7 @@ OneStretchOneContents =
     → let s = start .shape in
     let w = history start calls in
     let u = history start (calls ++ later) in
-    Spent s (w .vol) n f → Spent s (u .vol) m g → a < s .f / 64 → b < s .f / 64
+    Spent s (w .vol) n f → Spent s (u .vol) m g → a < stretches start → b < stretches start
     → stretchSource start (liesUnder w n f) a ≡ stretchSource start (liesUnder u m g) b
     → (n ≡ m) × (f ≡ g) × (a ≡ b) × (storedIn s (u .vol) m g ≡ storedIn s (w .vol) n f)
 

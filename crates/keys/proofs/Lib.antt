@@ -1,5 +1,6 @@
 pub mod HashLaws
 pub mod KeyLaws
+pub mod CipherLaws
 pub mod PadLaws
 pub mod StreamLaws
 pub mod LaidOut

@@ -1,34 +1,47 @@
--- A pad is as long as its flake and is bytes, and laid twice it gives the contents back.
+-- A pad is as long as its flake and is bytes, and laid twice it gives the contents back; and what it is by each cipher's own paper.
 use mathlib.Core.Path.{_≡_, ap, sym, _∙_}
+use mathlib.Core.Bool.{true, false}
+use mathlib.Core.Logic.{_⊎_, inl, inr}
 use mathlib.Core.List.{List}
-use Prim.Native.Nat.{ℕ, _<_, _≤_}
+use Prim.Native.Nat.{ℕ, _+_, _*_, _/_, _%_, _<_, _≤_}
+use native.Mathlib.Nat.{mul-le-mul, le-of-lt}
 use native.Mathlib.Omega.{arith}
+use borrow.Author.Tests.{ltb-true, ltb-false}
 use lib.Bits.{bitXor}
-use lib.ListN.{length, getD}
-use lib.Seq.{length-take-le, ext-getD}
+use lib.Dec.{eqb, ltb, lit<}
+use lib.ListN.{length, getD, take, List·getD-eq-default}
+use lib.Seq.{length-take-le, getD-take, ext-getD}
+use Rattle.base.proofs.PickLaws.{told}
+use Rattle.base.proofs.TabLaws.{length-tab, getD-tab}
 use Rattle.words.specs.Le.{Bytes}
-use Rattle.words.proofs.LeLaws.{bytes-part}
 use Rattle.words.specs.Xor.{xorl}
 use Rattle.words.proofs.XorLaws.{length-xorl, getD-xorl, xor-assoc, xorl-back}
 use Rattle.chacha20.specs.ChaCha20.{keystream, blocks}
-use Rattle.chacha20.proofs.KeystreamLaws.{length-keystream, keystream-bytes}
+use Rattle.chacha20.proofs.KeystreamLaws.{length-keystream}
+use Rattle.aes.specs.Aes.{keyExpansion}
+use Rattle.ctr.specs.Ctr.{outputBlocks, blocks as aesBlocks}
+use Rattle.ctr.proofs.StreamLaws.{length-stream}
 use Rattle.keys.specs.declared.Lock.{Lock}
-use Rattle.keys.specs.Pads.{nonceOf, firstBlock, padOf, under}
+use Rattle.keys.specs.Ciphers.{streamByte, nonceOf}
+use Rattle.keys.specs.Pads.{cipherFor, firstBlock, padOf, under}
+use Rattle.keys.proofs.CipherLaws.{lawful, chacha20-byte, aes-byte}
 
 module _ (lock : Lock) (f size : ℕ) where
-  -- the keystream reaches as far as the flake
-  reaches : size ≤ length (keystream (lock .key) (nonceOf (lock .keycount)) (firstBlock size f) (blocks size))
-  reaches = rw (length-keystream (lock .key) (nonceOf (lock .keycount)) (firstBlock size f) (blocks size)) (omega arith)
-
   pub length-pad : length (padOf lock f size) ≡ size
   unfolding padOf
-  length-pad = length-take-le size (keystream (lock .key) (nonceOf (lock .keycount)) (firstBlock size f) (blocks size)) reaches
+  length-pad = length-tab size _
+
+  -- a byte of it
+  pub pad-at : (i : ℕ) → i < size → getD (padOf lock f size) i 0 ≡ streamByte (cipherFor lock) (lock .key) (lock .keycount) (firstBlock (cipherFor lock .unit) size f) i
+  unfolding padOf
+  pad-at i h = getD-tab size (streamByte (cipherFor lock) (lock .key) (lock .keycount) (firstBlock (cipherFor lock .unit) size f)) i 0 h
 
   pub pad-bytes : Bytes (padOf lock f size)
-  unfolding padOf
-  pad-bytes =
-      bytes-part 0 size (keystream (lock .key) (nonceOf (lock .keycount)) (firstBlock size f) (blocks size))
-      (keystream-bytes (lock .key) (nonceOf (lock .keycount)) (firstBlock size f) (blocks size))
+  pad-bytes i = go (told (ltb i size))
+    where
+      go : (ltb i size ≡ true) ⊎ (ltb i size ≡ false) → getD (padOf lock f size) i 0 < 256
+      go (inl e) = rw (pad-at i (ltb-true i size e)) (lawful (lock .cipher) .bytes (lock .key) (lock .keycount) (firstBlock (cipherFor lock .unit) size f + i / cipherFor lock .unit) (i % cipherFor lock .unit))
+      go (inr e) = rw (List·getD-eq-default (padOf lock f size) 0 {n = i} (rw length-pad (omega (arith, ltb-false i size e)))) (lit< tt)
 
   pub length-under : (contents : List ℕ) → length (under lock f size contents) ≡ length contents
   length-under contents = length-xorl contents (padOf lock f size)
@@ -36,6 +49,35 @@ module _ (lock : Lock) (f size : ℕ) where
   -- what was laid once and is laid again is the contents
   pub under-back : (contents : List ℕ) → under lock f size (under lock f size contents) ≡ contents
   under-back contents = xorl-back contents (padOf lock f size)
+
+  module _ (few : f < 64) (short : size ≤ 4096) where
+    -- "F bytes of ChaCha20 keystream: the nugget key, nonce of four zero bytes then the keycount, block counter from flake × F / 64"
+    pub pad-chacha20 : eqb (lock .cipher) 16 ≡ false
+        → padOf lock f size ≡ take size (keystream (lock .key) (nonceOf (lock .keycount)) (f * size / 64) (blocks size))
+    unfolding firstBlock
+    pad-chacha20 e =
+        let stream = keystream (lock .key) (nonceOf (lock .keycount)) (f * size / 64) (blocks size) in
+        let most : f * size ≤ 64 * 4096 = mul-le-mul (le-of-lt few) short in
+        let long : length (take size stream) ≡ size =
+        length-take-le size stream (rw (length-keystream (lock .key) (nonceOf (lock .keycount)) (f * size / 64) (blocks size)) (omega arith)) in
+        ext-getD 0 (padOf lock f size) (take size stream) (length-pad ∙ sym long) (λ i q.
+        let low : i < size = rw length-pad at q in
+        pad-at i low
+        ∙ rw e (sym (getD-take size stream i 0 low ∙ chacha20-byte (lock .key) (lock .keycount) (f * size / 64) (blocks size) i (omega (arith, most, short)) (omega (arith, low)))))
+
+    -- counter mode under the nugget key, "the keycount in 8 bytes, then the block number from flake × F / 16 in 8 bytes"
+    pub pad-aes : eqb (lock .cipher) 16 ≡ true
+        → padOf lock f size ≡ take size (outputBlocks (keyExpansion (lock .key)) (lock .keycount) (f * size / 16) (aesBlocks size))
+    unfolding firstBlock
+    pad-aes e =
+        let stream = outputBlocks (keyExpansion (lock .key)) (lock .keycount) (f * size / 16) (aesBlocks size) in
+        let most : f * size ≤ 64 * 4096 = mul-le-mul (le-of-lt few) short in
+        let long : length (take size stream) ≡ size =
+        length-take-le size stream (rw (length-stream (keyExpansion (lock .key)) (lock .keycount) (f * size / 16) (aesBlocks size)) (omega arith)) in
+        ext-getD 0 (padOf lock f size) (take size stream) (length-pad ∙ sym long) (λ i q.
+        let low : i < size = rw length-pad at q in
+        pad-at i low
+        ∙ rw e (sym (getD-take size stream i 0 low ∙ aes-byte (lock .key) (lock .keycount) (f * size / 16) (aesBlocks size) i (omega (arith, most, short)) (omega (arith, low)))))
 
 -- bytes laid over d and then others: the same as both laid together
 laid-together : (d a b : List ℕ) → length d ≤ length a → xorl (xorl d a) b ≡ xorl d (xorl a b)

@@ -1,132 +1,153 @@
--- The pad from any byte on, as it is laid over a piece of a flake and as it is made in scratch.
-use mathlib.Core.Path.{_≡_, refl, sym, ap, _∙_}
-use mathlib.Core.Logic.{_⊎_, ⊎-elim}
+-- A lock's keystream from any byte on, once over any lawful cipher: as it is laid over a piece of a flake and as it is made in scratch.
+use mathlib.Core.Path.{_≡_, refl, sym, ap, ap₂, _∙_}
+use mathlib.Core.Bool.{true, false}
 use mathlib.Core.List.{List, [], _∷_, _++_, append-nil}
-use Prim.Native.Nat.{ℕ, suc, _+_, _-_, _*_, _/_, _%_, _^_, _<_, _≤_, min}
-use native.Mathlib.Nat.{mod-eq-of-lt}
+use Prim.Native.Nat.{ℕ, _+_, _-_, _*_, _/_, _%_, _^_, _<_, _≤_}
+use native.Mathlib.Nat.{zero-add, add-zero, add-assoc, mul-add-div, mul-add-mod-self-left, div-add-mod}
 use native.Mathlib.Omega.{arith}
-use borrow.Author.Tests.{leb-true, leb-false}
 use lib.Bits.{bitXor, xor-zero-l}
-use lib.Dec.{leb}
-use lib.ListN.{length, getD, take, drop, replicate, length-append, length-drop, length-replicate, take-append-drop, drop-of-length-le, getD-replicate}
+use lib.Dec.{eqb}
+use lib.ListN.{length, getD, take, drop, replicate, length-append, length-drop, length-replicate, take-append-drop, getD-replicate}
 use borrow.Rule.Slice.PartMut.{midOf, postOf, putMid}
-use lib.Seq.{take-at, drop-at, take-length, drop-length, getD-take, getD-drop, getD-append-add, drop-append-le, length-take-le, take-all, ext-getD}
-use Rattle.base.specs.Lists.{part}
-use Rattle.base.proofs.PickLaws.{told}
-use Rattle.words.specs.Word.{add32}
+use lib.Seq.{take-at, drop-at, take-length, drop-length, getD-drop, length-take-le, ext-getD}
+use Rattle.base.specs.Lists.{tab, part}
+use Rattle.base.proofs.PartLaws.{length-part}
+use Rattle.base.proofs.TabLaws.{length-tab, getD-tab, tab-ext, tab-add, part-tab}
 use Rattle.words.specs.Xor.{xorl}
-use Rattle.words.proofs.XorLaws.{getD-xorl, xorl-append, xorl-front, length-xorl, xorl-ext}
-use Rattle.chacha20.specs.ChaCha20.{blockOf, keystream, blocks, encrypted}
-use Rattle.chacha20.proofs.BlockLaws.{length-block}
-use Rattle.chacha20.proofs.KeystreamLaws.{length-keystream, keystream-add, keystream-front, encrypted-by, encrypted-none}
+use Rattle.words.proofs.XorLaws.{getD-xorl, xorl-append, length-xorl, xorl-ext}
+use Rattle.chacha20.specs.ChaCha20.{keystream, blocks, encrypted}
+use Rattle.chacha20.proofs.KeystreamLaws.{length-keystream}
+use Rattle.ctr.specs.Ctr.{laidUnder, counterMode, blocks as aesBlocks}
 use Rattle.keys.specs.declared.Lock.{Lock}
-use Rattle.keys.specs.Pads.{nonceOf, firstBlock, padOf, padFrom}
-use Rattle.keys.proofs.PadLaws.{length-pad}
+use Rattle.keys.specs.Ciphers.{Cipher, Lawful, streamByte, nonceOf}
+use Rattle.keys.specs.Pads.{cipherFor, firstBlock, streamFrom, padOf, padFrom}
+use Rattle.keys.proofs.CipherLaws.{lawful, chacha20-byte, aes-byte}
+use Rattle.keys.proofs.PadLaws.{length-pad, pad-at}
 
-module _ (key nonce : List ℕ) (c : ℕ) where
-  -- a byte of the keystream is the same in all that reach it
-  stream-at : (m n j : ℕ) → j < 64 * m → j < 64 * n → getD (keystream key nonce c m) j 0 ≡ getD (keystream key nonce c n) j 0
-  stream-at m n j h l =
-      sym (getD-take (suc j) (keystream key nonce c m) j 0 (omega arith))
-      ∙ ap (λ (s : List ℕ). getD s j 0) (keystream-front key nonce c (suc j) m n h l)
-      ∙ getD-take (suc j) (keystream key nonce c n) j 0 (omega arith)
+-- past q blocks the keystream goes on from block n + q
+pub byte-on : (c : Cipher) → Lawful c → (key : List ℕ) (k n q i : ℕ) → streamByte c key k n (c .unit * q + i) ≡ streamByte c key k (n + q) i
+byte-on c law key k n q i =
+    rw (mul-add-div (law .some) q i, mul-add-mod-self-left (c .unit) q i, ← add-assoc n q (i / c .unit))
 
-  -- past q blocks it goes on from block c + q
-  stream-on : (q m j : ℕ) → c + q < 2 ^ 32 → getD (keystream key nonce c (q + m)) (64 * q + j) 0 ≡ getD (keystream key nonce (c + q) m) j 0
-  stream-on q m j h =
-      let front = keystream key nonce c q in
-      let rest = keystream key nonce (add32 c q) m in
-      ap (λ (s : List ℕ). getD s (64 * q + j) 0) (keystream-add key nonce c q m)
-      ∙ ap (λ (x : ℕ). getD (front ++ rest) (x + j) 0) (sym (length-keystream key nonce c q))
-      ∙ getD-append-add front rest j 0
-      ∙ ap (λ (x : ℕ). getD (keystream key nonce x m) j 0) (mod-eq-of-lt h)
+-- 64 bytes are whole blocks
+pub blocks-64 : (c : Cipher) → Lawful c → c .unit * (64 / c .unit) ≡ 64
+blocks-64 c law =
+    let none : 64 % c .unit ≡ 0 = law .whole 64 refl in
+    sym (add-zero (c .unit * (64 / c .unit))) ∙ ap (λ (x : ℕ). c .unit * (64 / c .unit) + x) (sym none) ∙ div-add-mod 64 (c .unit)
 
-  one-block : c < 2 ^ 20 → keystream key nonce c 1 ≡ blockOf key nonce c
-  unfolding keystream
-  one-block h = let e : (c + 0) % 2 ^ 32 ≡ c = omega arith in ap (λ (x : ℕ). blockOf key nonce x) e
+module _ (lock : Lock) where
+  abbrev byteAt : ℕ → ℕ → ℕ
+  byteAt n i = streamByte (cipherFor lock) (lock .key) (lock .keycount) n i
 
-  -- from byte skip of block c on: the rest of that block, then the blocks behind it
-  stream-rest : (d : List ℕ) (skip : ℕ) → skip < 64 → c < 2 ^ 20
-      → xorl d (drop skip (keystream key nonce c (blocks (skip + length d))))
-      ≡ xorl d (drop skip (blockOf key nonce c) ++ keystream key nonce (c + 1) (blocks (length d)))
-  stream-rest d skip h l =
-      let m = blocks (length d) in
-      let next : add32 c 1 ≡ c + 1 = omega arith in
-      let whole : keystream key nonce c (1 + m) ≡ blockOf key nonce c ++ keystream key nonce (c + 1) m =
-      keystream-add key nonce c 1 m ∙ rw (one-block l, next) in
-      xorl-ext d _ (drop skip (keystream key nonce c (1 + m))) (λ i q.
-      getD-drop skip _ i 0 ∙ stream-at (blocks (skip + length d)) (1 + m) (skip + i) (omega arith) (omega arith) ∙ sym (getD-drop skip _ i 0))
-      ∙ ap (λ (s : List ℕ). xorl d s) (ap (λ (s : List ℕ). drop skip s) whole
-      ∙ drop-append-le skip (blockOf key nonce c) (keystream key nonce (c + 1) m) (rw (length-block key nonce c) (omega arith)))
+  pub length-stream : (n skip m : ℕ) → length (streamFrom lock n skip m) ≡ m
+  unfolding streamFrom
+  length-stream n skip m = length-tab m _
 
-  -- a first part under the rest of block c, what is behind it by ChaCha20 from block c + 1 on
-  pub stream-parts : (d : List ℕ) (skip n : ℕ) → skip < 64 → c < 2 ^ 20 → n ≡ min (length d) (64 - skip)
-      → xorl (take n d) (drop skip (blockOf key nonce c)) ++ encrypted key nonce (c + 1) (drop n d)
-      ≡ xorl d (drop skip (keystream key nonce c (blocks (skip + length d))))
-  stream-parts d skip n h l e =
-      let first = drop skip (blockOf key nonce c) in
-      let behind = keystream key nonce (c + 1) (blocks (length d)) in
-      let room : length first ≡ 64 - skip = length-drop skip (blockOf key nonce c) ∙ ap (λ (x : ℕ). x - skip) (length-block key nonce c) in
-      ⊎-elim
-      (λ short.
-      let fits : length d ≤ 64 - skip = leb-true (length d) (64 - skip) short in
-      rw (take-all n d (omega (arith, e, fits)), drop-of-length-le d {i = n} (omega (arith, e, fits)), encrypted-none key nonce (c + 1))
-      (append-nil (xorl d first) ∙ sym (xorl-front d first behind (rw room fits))))
-      (λ long.
-      let over : 64 - skip < length d = omega (arith, leb-false (length d) (64 - skip) long) in
-      let here : length (take n d) ≡ length first = length-take-le n d (omega (arith, e, over)) ∙ omega (arith, e, over, room) in
-      ap (λ (s : List ℕ). xorl (take n d) first ++ s) (sym (encrypted-by key nonce (c + 1) (drop n d) (blocks (length d)) (rw (length-drop n d) (omega arith))))
-      ∙ sym (xorl-append (take n d) (drop n d) first behind here)
-      ∙ ap (λ (s : List ℕ). xorl s (first ++ behind)) (take-append-drop n d))
-      (told (leb (length d) (64 - skip)))
-      ∙ sym (stream-rest d skip h l)
+  pub stream-at : (n skip m i : ℕ) → i < m → getD (streamFrom lock n skip m) i 0 ≡ byteAt n (skip + i)
+  unfolding streamFrom
+  stream-at n skip m i h = getD-tab m (λ j. byteAt n (skip + j)) i 0 h
 
-  -- no more than is left of block c
-  pub stream-short : (d : List ℕ) (skip : ℕ) {block z : List ℕ} → skip < 64 → c < 2 ^ 20 → length d ≤ 64 - skip → block ≡ blockOf key nonce c
-      → z ≡ xorl d (part skip (64 - skip) block) → z ≡ xorl d (drop skip (keystream key nonce c (blocks (skip + length d))))
-  stream-short d skip {block} {z} h l few eb ez =
-      let long : length block ≡ 64 = rw eb (length-block key nonce c) in
-      let all : part skip (64 - skip) block ≡ drop skip block = take-all (64 - skip) (drop skip block) (rw (length-drop skip block, long) (omega arith)) in
-      let room : length (drop skip (blockOf key nonce c)) ≡ 64 - skip = length-drop skip (blockOf key nonce c) ∙ ap (λ (x : ℕ). x - skip) (length-block key nonce c) in
-      ez ∙ rw (all, eb) (sym (stream-rest d skip h l ∙ xorl-front d (drop skip (blockOf key nonce c)) (keystream key nonce (c + 1) (blocks (length d))) (rw room few)))
+  -- what ChaCha20 lays
+  pub laid-chacha20 : (n : ℕ) (d : List ℕ) → eqb (lock .cipher) 16 ≡ false → n < 2 ^ 21 → length d ≤ 4096
+      → encrypted (lock .key) (nonceOf (lock .keycount)) n d ≡ xorl d (streamFrom lock n 0 (length d))
+  unfolding encrypted
+  laid-chacha20 n d e low short =
+      xorl-ext d _ _ (λ i h.
+      chacha20-byte (lock .key) (lock .keycount) n (blocks (length d)) i (omega (arith, low, short)) (omega (arith, h))
+      ∙ sym (stream-at n 0 (length d) i h ∙ rw (e, zero-add i)))
 
-  -- the same of what the two lent parts hold in the end
-  pub stream-laid : (d : List ℕ) (skip n : ℕ) {block z w : List ℕ} → skip < 64 → c < 2 ^ 20 → n ≡ min (length d) (64 - skip) → block ≡ blockOf key nonce c
-      → z ≡ xorl (midOf 0 (n - 0) d) (part skip (64 - skip) block)
-      → w ≡ encrypted key nonce (c + 1) (midOf n (length (z ++ postOf 0 (n - 0) d) - n) (z ++ postOf 0 (n - 0) d))
-      → putMid n (length (z ++ postOf 0 (n - 0) d) - n) (z ++ postOf 0 (n - 0) d) w ≡ xorl d (drop skip (keystream key nonce c (blocks (skip + length d))))
-  stream-laid d skip n {block} {z} {w} h l e eb ez ew =
-      let none : n - 0 ≡ n = omega arith in
-      let long : length block ≡ 64 = rw eb (length-block key nonce c) in
-      let all : part skip (64 - skip) block ≡ drop skip block = take-all (64 - skip) (drop skip block) (rw (length-drop skip block, long) (omega arith)) in
-      let first : z ≡ xorl (take n d) (drop skip (blockOf key nonce c)) = ez ∙ rw (none, all, eb) in
-      let size : length z ≡ n = rw first (length-xorl (take n d) _ ∙ length-take-le n d (omega (arith, e))) in
-      let y = z ++ drop n d in
-      let back : drop n y ≡ drop n d = drop-at z (drop n d) n size in
-      let rest : length y - n ≡ length (drop n d) = omega (arith, length-append z (drop n d), size) in
-      let here : w ≡ encrypted key nonce (c + 1) (drop n d) =
-      (let f : w ≡ encrypted key nonce (c + 1) (take (length y - n) (drop n y)) = rw none at ew in f ∙ rw (rest, back) (ap (λ (x : List ℕ). encrypted key nonce (c + 1) x) (take-length (drop n d)))) in
-      let none-behind : drop (length y - n) (drop n y) ≡ [] = rw (rest, back) (drop-length (drop n d)) in
+  -- what counter mode lays
+  pub laid-aes : (n : ℕ) (d : List ℕ) → eqb (lock .cipher) 16 ≡ true → n < 2 ^ 21 → length d ≤ 4096
+      → counterMode (lock .key) (lock .keycount) n d ≡ xorl d (streamFrom lock n 0 (length d))
+  unfolding counterMode laidUnder
+  laid-aes n d e low short =
+      xorl-ext d _ _ (λ i h.
+      aes-byte (lock .key) (lock .keycount) n (aesBlocks (length d)) i (omega (arith, low, short)) (omega (arith, h))
+      ∙ sym (stream-at n 0 (length d) i h ∙ rw (e, zero-add i)))
+
+  -- eight blocks of ChaCha20
+  pub eight-chacha20 : (n : ℕ) → eqb (lock .cipher) 16 ≡ false → n < 2 ^ 20 → keystream (lock .key) (nonceOf (lock .keycount)) n 8 ≡ streamFrom lock n 0 512
+  eight-chacha20 n e low =
+      let stream = keystream (lock .key) (nonceOf (lock .keycount)) n 8 in
+      let long : length stream ≡ 512 = length-keystream (lock .key) (nonceOf (lock .keycount)) n 8 in
+      ext-getD 0 stream (streamFrom lock n 0 512) (long ∙ sym (length-stream n 0 512)) (λ i q.
+      let h : i < 512 = rw long at q in
+      chacha20-byte (lock .key) (lock .keycount) n 8 i (omega (arith, low)) (omega (arith, h))
+      ∙ sym (stream-at n 0 512 i h ∙ rw (e, zero-add i)))
+
+  -- from byte skip of block n on: the rest of 64 bytes, then the blocks behind them
+  pub stream-split : (n skip m r : ℕ) → skip + m ≡ 64
+      → streamFrom lock n skip (m + r) ≡ part skip m (streamFrom lock n 0 64) ++ streamFrom lock (n + 64 / cipherFor lock .unit) 0 r
+  unfolding streamFrom
+  stream-split n skip m r e =
+      let c = cipherFor lock in
+      let law = lawful (lock .cipher) in
+      let whole : List ℕ = tab 64 (λ i. byteAt n (0 + i)) in
+      let front : tab m (λ i. byteAt n (skip + i)) ≡ part skip m whole =
+      sym (part-tab skip m whole (rw (length-tab 64 (λ i. byteAt n (0 + i))) (omega (arith, e)))
+      ∙ tab-ext m _ _ (λ i h. getD-tab 64 (λ j. byteAt n (0 + j)) (skip + i) 0 (omega (arith, e, h)) ∙ rw (zero-add (skip + i)))) in
+      let place : (j : ℕ) → skip + (m + j) ≡ c .unit * (64 / c .unit) + (0 + j) = λ j. rw (blocks-64 c law) (omega (arith, e)) in
+      tab-add m r (λ i. byteAt n (skip + i))
+      ∙ ap₂ (λ (a b : List ℕ). a ++ b) front (tab-ext r _ _ (λ j h. ap (byteAt n) (place j) ∙ byte-on c law (lock .key) (lock .keycount) n (64 / c .unit) (0 + j)))
+
+  stream-none : (n skip : ℕ) → streamFrom lock n skip 0 ≡ []
+  unfolding streamFrom tab
+  stream-none n skip = refl
+
+  -- no more than is left of 64 bytes
+  pub stream-short : (n : ℕ) (d : List ℕ) (skip : ℕ) {first z : List ℕ} → skip < 64 → length d ≤ 64 - skip → first ≡ streamFrom lock n 0 64
+      → z ≡ xorl d (part skip (64 - skip) first) → z ≡ xorl d (streamFrom lock n skip (length d))
+  stream-short n d skip {first} {z} h few ef ez =
+      ez ∙ xorl-ext d _ _ (λ i q.
+      let none : 64 - skip + 0 ≡ 64 - skip = add-zero (64 - skip) in
+      let front : streamFrom lock n skip (64 - skip + 0) ≡ part skip (64 - skip) first ++ streamFrom lock (n + 64 / cipherFor lock .unit) 0 0 =
+      rw ef (stream-split n skip (64 - skip) 0 (omega (arith, h))) in
+      let nothing : streamFrom lock (n + 64 / cipherFor lock .unit) 0 0 ≡ [] = stream-none (n + 64 / cipherFor lock .unit) 0 in
+      ap (λ (l : List ℕ). getD l i 0) (sym (append-nil (part skip (64 - skip) first)) ∙ ap (λ (l : List ℕ). part skip (64 - skip) first ++ l) (sym nothing)
+      ∙ sym front)
+      ∙ rw none (stream-at n skip (64 - skip) i (omega (arith, q, few)))
+      ∙ sym (stream-at n skip (length d) i q))
+
+  -- what the two lent parts hold in the end
+  pub stream-laid : (n : ℕ) (d : List ℕ) (skip m : ℕ) {first z w : List ℕ} → skip + m ≡ 64 → m ≤ length d → first ≡ streamFrom lock n 0 64
+      → z ≡ xorl (midOf 0 (m - 0) d) (part skip (64 - skip) first)
+      → w ≡ xorl (midOf m (length (z ++ postOf 0 (m - 0) d) - m) (z ++ postOf 0 (m - 0) d))
+      (streamFrom lock (n + 64 / cipherFor lock .unit) 0 (length (midOf m (length (z ++ postOf 0 (m - 0) d) - m) (z ++ postOf 0 (m - 0) d))))
+      → putMid m (length (z ++ postOf 0 (m - 0) d) - m) (z ++ postOf 0 (m - 0) d) w ≡ xorl d (streamFrom lock n skip (length d))
+  stream-laid n d skip m {first} {z} {w} e h ef ez ew =
+      let next = n + 64 / cipherFor lock .unit in
+      let none : m - 0 ≡ m = omega arith in
+      let rest-of : 64 - skip ≡ m = omega (arith, e) in
+      let front = part skip m (streamFrom lock n 0 64) in
+      let long : length front ≡ m = length-part skip m (streamFrom lock n 0 64) (rw (length-stream n 0 64) (omega (arith, e))) in
+      let one : z ≡ xorl (take m d) front = ez ∙ rw (none, rest-of, ef) in
+      let size : length z ≡ m = rw one (length-xorl (take m d) front ∙ length-take-le m d h) in
+      let y = z ++ drop m d in
+      let back : drop m y ≡ drop m d = drop-at z (drop m d) m size in
+      let rest : length y - m ≡ length (drop m d) = omega (arith, length-append z (drop m d), size) in
+      let mid : take (length y - m) (drop m y) ≡ drop m d = rw (rest, back) (take-length (drop m d)) in
+      let two : w ≡ xorl (drop m d) (streamFrom lock next 0 (length (drop m d))) =
+      (let g : w ≡ xorl (take (length y - m) (drop m y)) (streamFrom lock next 0 (length (take (length y - m) (drop m y)))) = rw none at ew in g ∙ rw mid) in
+      let none-behind : drop (length y - m) (drop m y) ≡ [] = rw (rest, back) (drop-length (drop m d)) in
+      let whole : length d ≡ m + length (drop m d) = omega (arith, length-drop m d, h) in
       rw none
-      (ap (λ (x : List ℕ). x ++ (w ++ drop (length y - n) (drop n y))) (take-at z (drop n d) n size)
-      ∙ rw none-behind (ap (λ (x : List ℕ). z ++ x) (append-nil w) ∙ rw (here, first) (stream-parts d skip n h l e)))
+      (ap (λ (x : List ℕ). x ++ (w ++ drop (length y - m) (drop m y))) (take-at z (drop m d) m size)
+      ∙ rw none-behind (ap (λ (x : List ℕ). z ++ x) (append-nil w)
+      ∙ rw (one, two) (sym (xorl-append (take m d) (drop m d) front (streamFrom lock next 0 (length (drop m d))) (length-take-le m d h ∙ sym long))
+      ∙ ap₂ xorl (take-append-drop m d) (sym (stream-split n skip m (length (drop m d)) e) ∙ ap (streamFrom lock n skip) (sym whole)))))
 
--- the pad from byte b on is the keystream from byte b % 64 of block b / 64 on
-pub pad-from : (lock : Lock) (f size b : ℕ) (d : List ℕ) → b + length d ≤ size → firstBlock size f + b / 64 < 2 ^ 20
-    → xorl d (drop (b % 64) (keystream (lock .key) (nonceOf (lock .keycount)) (firstBlock size f + b / 64) (blocks (b % 64 + length d)))) ≡ xorl d (drop b (padOf lock f size))
-unfolding padOf
-pad-from lock f size b d h l =
-    let key = lock .key in
-    let nonce = nonceOf (lock .keycount) in
-    let first = firstBlock size f in
-    let m = blocks (b % 64 + length d) in
-    xorl-ext d _ _ (λ i q.
-    let place : 64 * (b / 64) + (b % 64 + i) ≡ b + i = omega arith in
-    getD-drop (b % 64) _ i 0
-    ∙ sym (stream-on key nonce first (b / 64) m (b % 64 + i) (omega (arith, l)))
-    ∙ ap (λ (x : ℕ). getD (keystream key nonce first (b / 64 + m)) x 0) place
-    ∙ stream-at key nonce first (b / 64 + m) (blocks size) (b + i) (omega (arith, q)) (omega (arith, q, h))
-    ∙ sym (getD-drop b _ i 0 ∙ getD-take size _ (b + i) 0 (omega (arith, q, h))))
+  -- the pad from byte b on is the keystream from byte b % unit of block b / unit on
+  pub pad-from : (f size b : ℕ) (d : List ℕ) → b + length d ≤ size
+      → xorl d (streamFrom lock (firstBlock (cipherFor lock .unit) size f + b / cipherFor lock .unit) (b % cipherFor lock .unit) (length d)) ≡ xorl d (drop b (padOf lock f size))
+  pad-from f size b d h =
+      let c = cipherFor lock in
+      let first = firstBlock (c .unit) size f in
+      xorl-ext d _ _ (λ i q.
+      let place : c .unit * (b / c .unit) + (b % c .unit + i) ≡ b + i = sym (add-assoc (c .unit * (b / c .unit)) (b % c .unit) i) ∙ ap (λ (x : ℕ). x + i) (div-add-mod b (c .unit)) in
+      stream-at (first + b / c .unit) (b % c .unit) (length d) i q
+      ∙ sym (byte-on c (lawful (lock .cipher)) (lock .key) (lock .keycount) first (b / c .unit) (b % c .unit + i))
+      ∙ ap (byteAt first) place
+      ∙ sym (getD-drop b (padOf lock f size) i 0 ∙ pad-at lock f size (b + i) (omega (arith, q, h))))
 
 -- nothing laid over bytes leaves them
 xorl-none : (d : List ℕ) → xorl d [] ≡ d
@@ -135,13 +156,17 @@ xorl-none [] = refl
 xorl-none (a ∷ d) = refl
 
 -- laid over zeros, as many bytes as they are give themselves
-xorl-zeros : (k : List ℕ) (n : ℕ) → length k ≡ n → xorl (replicate n 0) k ≡ k
+pub xorl-zeros : (k : List ℕ) (n : ℕ) → length k ≡ n → xorl (replicate n 0) k ≡ k
 xorl-zeros k n e =
     let zeros : List ℕ = replicate n 0 in
     let long : length zeros ≡ n = length-replicate n 0 in
     ext-getD 0 (xorl zeros k) k (length-xorl zeros k ∙ long ∙ sym e) (λ i q.
     let low : i < n = omega (arith, q, length-xorl zeros k, long) in
     getD-xorl zeros k i (rw long low) ∙ ap (λ (x : ℕ). bitXor x (getD k i 0)) (getD-replicate n i 0 0 low) ∙ xor-zero-l (getD k i 0))
+
+-- a keystream laid over zeros is itself
+pub stream-bare : (lock : Lock) (n m : ℕ) {z : List ℕ} → z ≡ xorl (replicate m 0) (streamFrom lock n 0 (length (replicate {A = ℕ} m 0))) → z ≡ streamFrom lock n 0 m
+stream-bare lock n m e = e ∙ rw (length-replicate {A = ℕ} m 0) (xorl-zeros (streamFrom lock n 0 m) m (length-stream lock n 0 m))
 
 -- each of the 512 bytes is the pad's, or zero
 pub pad-byte : (lock : Lock) (f size b i : ℕ) → i < 512 → getD (padFrom lock f size b) i 0 ≡ getD (padOf lock f size) (b + i) 0
@@ -159,18 +184,16 @@ unfolding padFrom
 length-pad-from lock f size b = length-xorl (replicate 512 0) (drop b (padOf lock f size)) ∙ length-replicate {A = ℕ} 512 0
 
 module _ (lock : Lock) (f size b : ℕ) (whole : b % 64 ≡ 0) where
-  -- eight blocks, where the pad reaches so far
-  pub pad-eight : b + 512 ≤ size → firstBlock size f + b / 64 < 2 ^ 20
-      → keystream (lock .key) (nonceOf (lock .keycount)) (firstBlock size f + b / 64) 8 ≡ padFrom lock f size b
+  -- 512 bytes, where the pad reaches so far
+  pub pad-eight : b + 512 ≤ size → streamFrom lock (firstBlock (cipherFor lock .unit) size f + b / cipherFor lock .unit) 0 512 ≡ padFrom lock f size b
   unfolding padFrom
-  pad-eight h l =
+  pad-eight h =
+      let n = firstBlock (cipherFor lock .unit) size f + b / cipherFor lock .unit in
       let zeros : List ℕ = replicate 512 0 in
-      let stream = keystream (lock .key) (nonceOf (lock .keycount)) (firstBlock size f + b / 64) 8 in
       let long : length zeros ≡ 512 = length-replicate {A = ℕ} 512 0 in
-      let count : blocks (b % 64 + length zeros) ≡ 8 = omega (arith, whole, long) in
-      let over : xorl zeros (drop (b % 64) (keystream (lock .key) (nonceOf (lock .keycount)) (firstBlock size f + b / 64) (blocks (b % 64 + length zeros)))) ≡ xorl zeros (drop b (padOf lock f size)) =
-      pad-from lock f size b zeros (rw long h) l in
-      sym (xorl-zeros stream 512 (length-keystream (lock .key) (nonceOf (lock .keycount)) (firstBlock size f + b / 64) 8)) ∙ (rw (count, whole) at over)
+      let over : xorl zeros (streamFrom lock n (b % cipherFor lock .unit) (length zeros)) ≡ xorl zeros (drop b (padOf lock f size)) =
+      pad-from lock f size b zeros (rw long h) in
+      sym (xorl-zeros (streamFrom lock n 0 512) 512 (length-stream lock n 0 512)) ∙ (rw (long, lawful (lock .cipher) .whole b whole) at over)
 
   -- what is left of it, over the first of the zeros
   pub pad-rest : (n : ℕ) {z : List ℕ} → n ≡ size - b → b ≤ size → n ≤ 512 → z ≡ xorl (take n (replicate 512 0)) (drop b (padOf lock f size))

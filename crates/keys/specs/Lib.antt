@@ -1,3 +1,4 @@
 pub mod Keys
+pub mod Ciphers
 pub mod Pads
 pub mod Tags

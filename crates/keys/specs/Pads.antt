@@ -1,25 +1,32 @@
 -- Document 01: "The pad of a flake is F bytes of ChaCha20 keystream: the nugget key, nonce of four zero bytes then the
--- keycount, block counter from flake × F / 64."
+-- keycount, block counter from flake × F / 64." Document 02, Item 8, for AES: "the block number from flake × F / 16".
 use mathlib.Core.Path.{_≡_}
-use mathlib.Core.List.{List, _++_}
+use mathlib.Core.List.{List}
 use Prim.Native.Nat.{ℕ, _+_, _*_, _/_, _%_, _^_, _<_, _≤_}
-use lib.ListN.{take, drop, replicate}
-use Rattle.words.specs.Le.{le}
+use lib.ListN.{drop, replicate}
+use Rattle.base.specs.Lists.{tab}
 use Rattle.words.specs.Xor.{xorl}
-use Rattle.chacha20.specs.ChaCha20.{blockOf, keystream, blocks}
 use Rattle.keys.specs.declared.Lock.{Lock}
+use Rattle.keys.specs.Ciphers.{Cipher, streamByte, cipherOf}
 
--- "nonce of four zero bytes then the keycount"
-unfoldable pub nonceOf : ℕ → List ℕ
-nonceOf k = replicate 4 0 ++ le 8 k
+-- the cipher of a lock, and how many bytes its block function gives
+abbrev pub cipherFor : Lock → Cipher
+cipherFor lock = cipherOf (lock .cipher)
 
--- "block counter from flake × F / 64"
-unfoldable pub firstBlock : ℕ → ℕ → ℕ
-firstBlock size f = f * size / 64
+abbrev pub unitOf : ℕ → ℕ
+unitOf cipher = cipherOf cipher .unit
 
--- "F bytes of ChaCha20 keystream"
+-- "from flake × F / 64", "from flake × F / 16"
+unfoldable pub firstBlock : ℕ → ℕ → ℕ → ℕ
+firstBlock unit size f = f * size / unit
+
+-- m bytes of a lock's keystream, from byte `skip` of block n on
+unfoldable pub streamFrom : Lock → ℕ → ℕ → ℕ → List ℕ
+streamFrom lock n skip m = tab m (λ i. streamByte (cipherFor lock) (lock .key) (lock .keycount) n (skip + i))
+
+-- "F bytes of [..] keystream"
 unfoldable pub padOf : Lock → ℕ → ℕ → List ℕ
-padOf lock f size = take size (keystream (lock .key) (nonceOf (lock .keycount)) (firstBlock size f) (blocks size))
+padOf lock f size = tab size (streamByte (cipherFor lock) (lock .key) (lock .keycount) (firstBlock (cipherFor lock .unit) size f))
 
 -- 512 bytes for it, from its byte b on: zeros with what is left of it laid over
 unfoldable pub padFrom : Lock → ℕ → ℕ → ℕ → List ℕ
@@ -35,7 +42,7 @@ pub record Size (size : ℕ) : Type 0 where
   pub most : size ≤ 4096
   pub whole : size % 64 ≡ 0
 
--- 64 bytes of keystream in a pad of a nugget: which keycount's and which flake's pad, and which 64 bytes of it
+-- a block of keystream in a pad of a nugget: which keycount's and which flake's pad, and which block of it
 pub record Stretch : Type 0 where
   pub keycount : ℕ
   pub flake : ℕ
@@ -46,19 +53,11 @@ abbrev pub stretchIn : Lock → ℕ → ℕ → Stretch
 stretchIn lock f j = record { keycount = lock .keycount; flake = f; place = j }
 
 -- the stretches there are
-pub record Lies (size : ℕ) (s : Stretch) : Type 0 where
+pub record Lies (c : Cipher) (size : ℕ) (s : Stretch) : Type 0 where
   pub count : s .keycount < 2 ^ 64
   pub few : s .flake < 64
-  pub inside : s .place < size / 64
+  pub inside : s .place < size / c .unit
 
--- what the block function is given beside the key
-pub record Input : Type 0 where
-  pub nonce : List ℕ
-  pub block : ℕ
-
-abbrev pub inputOf : ℕ → Stretch → Input
-inputOf size s = record { nonce = nonceOf (s .keycount); block = firstBlock size (s .flake) + s .place }
-
--- the 64 bytes that an input gives under a nugget's key
-abbrev pub streamOf : List ℕ → Input → List ℕ
-streamOf key x = blockOf key (x .nonce) (x .block)
+-- what the block function is given for it beside the key
+abbrev pub inputOf : (c : Cipher) → ℕ → Stretch → c .Input
+inputOf c size s = c .input (s .keycount) (firstBlock (c .unit) size (s .flake) + s .place)

@@ -1,25 +1,27 @@
 // Document 01's keys, pads and tags: which message is hashed for which key, and what is laid over a flake.
-// It touches `base`, `words`, `messages`, `chacha20`, `poly1305` and `blake2s`; no flake is copied, and no secret is kept.
+// It touches `words`, `chacha20`, `ctr`, `poly1305` and `blake2s`, and of `base`, `messages` and `aes` the definitions and laws alone; no
+// flake is copied, and no secret is kept.
 ghost use mathlib.Core.Path.{_≡_};
 ghost use mathlib.Core.List.{_∷_, _++_};
 ghost use Prim.Native.Nat.{_+_, _/_, _%_, _^_, _<_, _≤_};
 ghost use lib.ListN.{length, drop, replicate};
 ghost use Rattle.words.specs.Le.{le};
 ghost use Rattle.words.specs.Xor.{xorl};
-ghost use Rattle.chacha20.specs.ChaCha20.{keystream, blocks};
 ghost use Rattle.messages.specs.Messages.{tagLetter};
 ghost use Rattle.poly1305.specs.Poly1305.{poly1305};
 ghost use Rattle.blake2s.specs.Hash.{blake2s};
 ghost use Rattle.keys.specs.Keys.{nuggetKey, tagKey, checkOf, sealOf};
-ghost use Rattle.keys.specs.Pads.{nonceOf, firstBlock, padOf, padFrom};
+ghost use Rattle.keys.specs.Ciphers.{nonceOf};
+ghost use Rattle.keys.specs.Pads.{unitOf, firstBlock, streamFrom, padOf, padFrom};
 ghost use Rattle.keys.specs.Tags.{pad16, laidOut, named, tagOf};
 
-// Under what a nugget's flakes lie: the nugget, its key, its keycount, and the volume's version. Pads and tags are functions of it.
+// Under what a nugget's flakes lie: the nugget, its key, its keycount, and the volume's version and cipher. Pads and tags are functions of it.
 pub struct Lock {
     pub number: u32,
     pub key: [u8; 32],
     pub keycount: u64,
     pub version: u16,
+    pub cipher: u8,
 }
 
 // The hash of a letter and two parts, keyed.
@@ -87,38 +89,62 @@ fn nonce_of(k: u64) -> [u8; 12]
     r
 }
 
-// The block of the pad of flake f that byte b lies in.
-fn block_of(size: usize, f: u32, b: usize) -> u32
-    requires { ⌜ (size ≤ 4096) × (f < 64) × (b ≤ size) ⌝ }
-    ensures { λ r. ⌜ (r ≡ firstBlock size f + b / 64) × (r < 2 ^ 20) ⌝ }
+// How many bytes a block of keystream has.
+fn unit_of(cipher: u8) -> usize
+    ensures { λ r. ⌜ r ≡ unitOf cipher ⌝ }
 {
-    (f as usize * size / 64 + b / 64) as u32
+    if cipher == 16 { 16 } else { 64 }
 }
 
-// Keystream from byte `skip` of a block on laid over d: the first block by 64 bytes of scratch, whole blocks where they stand.
-fn lay_skewed(d: &mut [u8], key: [u8; 32], nonce: [u8; 12], block: u32, skip: usize)
-    requires { ⌜ (skip < 64) × (block < 2 ^ 20) ⌝ }
-    ensures { λ _. ⌜ now (d .exit) ≡ xorl (now (d .entry)) (drop skip (keystream key nonce block (blocks (skip + length (now (d .entry)))))) ⌝ }
+// The number of the block that byte b of the pad of flake f lies in.
+fn block_of(cipher: u8, size: usize, f: u32, b: usize) -> u32
+    requires { ⌜ (size ≤ 4096) × (f < 64) × (b ≤ size) ⌝ }
+    ensures { λ r. ⌜ (r ≡ firstBlock (unitOf cipher) size f + b / unitOf cipher) × (r < 2 ^ 20) ⌝ }
 {
-    let n = 64 - skip;
-    let first = chacha20::block(key, nonce, block);
-    if d.len() <= n {
+    let unit = unit_of(cipher);
+    (f as usize * size / unit + b / unit) as u32
+}
+
+// The keystream from block n on laid over d, by either cipher.
+fn lay_blocks(d: &mut [u8], lock: Lock, n: u32)
+    requires { ⌜ (n < 2 ^ 21) × (length (now d) ≤ 4096) ⌝ }
+    ensures { λ _. ⌜ now (d .exit) ≡ xorl (now (d .entry)) (streamFrom lock n 0 (length (now (d .entry)))) ⌝ }
+{
+    let key = lock.key;
+    if lock.cipher == 16 {
+        ctr::lay(&mut *d, key, lock.keycount, n as u64);
+    } else {
+        let nonce = nonce_of(lock.keycount);
+        chacha20::lay(&mut *d, key, nonce, n);
+    }
+}
+
+// The same from byte `skip` of block n on: the first 64 bytes of it by scratch, what is behind them where it stands.
+fn lay_skewed(d: &mut [u8], lock: Lock, n: u32, skip: usize)
+    requires { ⌜ (n < 2 ^ 20) × (skip < 64) × (length (now d) ≤ 4096) ⌝ }
+    ensures { λ _. ⌜ now (d .exit) ≡ xorl (now (d .entry)) (streamFrom lock n skip (length (now (d .entry)))) ⌝ }
+{
+    let mut first = [0u8; 64];
+    lay_blocks(&mut first, lock, n);
+    let m = 64 - skip;
+    if d.len() <= m {
         words::xor(&mut *d, &first[skip..64]);
         return;
     }
-    words::xor(&mut d[0..n], &first[skip..64]);
-    chacha20::lay(&mut d[n..], key, nonce, block + 1);
+    words::xor(&mut d[0..m], &first[skip..64]);
+    let more = (64 / unit_of(lock.cipher)) as u32;
+    lay_blocks(&mut d[m..], lock, n + more);
 }
 
 // The same; from a block's first byte on all of it is laid where it stands.
-fn lay_stream(d: &mut [u8], key: [u8; 32], nonce: [u8; 12], block: u32, skip: usize)
-    requires { ⌜ (skip < 64) × (block < 2 ^ 20) ⌝ }
-    ensures { λ _. ⌜ now (d .exit) ≡ xorl (now (d .entry)) (drop skip (keystream key nonce block (blocks (skip + length (now (d .entry)))))) ⌝ }
+fn lay_stream(d: &mut [u8], lock: Lock, n: u32, skip: usize)
+    requires { ⌜ (n < 2 ^ 20) × (skip < 64) × (length (now d) ≤ 4096) ⌝ }
+    ensures { λ _. ⌜ now (d .exit) ≡ xorl (now (d .entry)) (streamFrom lock n skip (length (now (d .entry)))) ⌝ }
 {
     if skip == 0 {
-        chacha20::lay(&mut *d, key, nonce, block);
+        lay_blocks(&mut *d, lock, n);
     } else {
-        lay_skewed(&mut *d, key, nonce, block, skip);
+        lay_skewed(&mut *d, lock, n, skip);
     }
 }
 
@@ -127,23 +153,34 @@ pub fn lay_from(d: &mut [u8], lock: Lock, size: usize, f: u32, b: usize)
     requires { ⌜ (size ≤ 4096) × (f < 64) × (b + length (now d) ≤ size) ⌝ }
     ensures { λ _. ⌜ now (d .exit) ≡ xorl (now (d .entry)) (drop b (padOf lock f size)) ⌝ }
 {
-    let key = lock.key;
-    let nonce = nonce_of(lock.keycount);
-    let block = block_of(size, f, b);
-    lay_stream(d, key, nonce, block, b % 64);
+    let n = block_of(lock.cipher, size, f, b);
+    lay_stream(d, lock, n, b % unit_of(lock.cipher));
 }
 
-// 512 bytes of scratch: the pad of flake f from its byte b on, and zeros behind its end. Eight blocks at once where it reaches so far.
+// 512 bytes of keystream from block n on into scratch; ChaCha20 makes them at once.
+fn eight_from(r: &mut [u8], lock: Lock, n: u32)
+    requires { ⌜ (length (now r) ≡ 512) × (n < 2 ^ 20) ⌝ }
+    ensures { λ _. ⌜ now (r .exit) ≡ streamFrom lock n 0 512 ⌝ }
+{
+    if lock.cipher == 16 {
+        words::clear(&mut *r);
+        lay_blocks(&mut *r, lock, n);
+        return;
+    }
+    let key = lock.key;
+    let nonce = nonce_of(lock.keycount);
+    chacha20::eight(&mut *r, key, nonce, n);
+}
+
+// 512 bytes of scratch: the pad of flake f from its byte b on, and zeros behind its end.
 pub fn pad_from(r: &mut [u8], lock: Lock, size: usize, f: u32, b: usize)
     requires { ⌜ (length (now r) ≡ 512) × (size ≤ 4096) × (f < 64) × (b ≤ size) × (b % 64 ≡ 0) ⌝ }
     ensures { λ _. ⌜ now (r .exit) ≡ padFrom lock f size b ⌝ }
 {
     let n = size - b;
     if 512 <= n {
-        let key = lock.key;
-        let nonce = nonce_of(lock.keycount);
-        let block = block_of(size, f, b);
-        chacha20::eight(&mut *r, key, nonce, block);
+        let block = block_of(lock.cipher, size, f, b);
+        eight_from(&mut *r, lock, block);
         return;
     }
     words::clear(&mut *r);

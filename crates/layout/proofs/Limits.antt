@@ -1,5 +1,5 @@
 -- What the limits say, as facts about the numbers.
-use mathlib.Core.Path.{_≡_, refl, sym, _∙_}
+use mathlib.Core.Path.{_≡_, refl, _∙_}
 use mathlib.Core.Bool.{Bool, true, false}
 use mathlib.Core.Logic.{_⊎_, inl, inr}
 use Prim.Native.Nat.{ℕ, _*_, _%_, _≤_}
@@ -9,7 +9,7 @@ use lib.Dec.{leb, eqb, lit≤}
 use borrow.Author.Tests.{leb-true, eqb-true}
 use Rattle.base.specs.Pick.{pick}
 use Rattle.base.proofs.PickLaws.{both-left, both-right, either-told}
-use Rattle.layout.specs.Shape.{shapeAs, sized, knownVersion, known, inLimits, widthOf, within, leaves}
+use Rattle.layout.specs.Shape.{sized, knownVersion, knownCipher, known, inLimits, widthOf, within, leaves}
 use Rattle.layout.proofs.Height.{leaves-least, leaves-enough, leaves-some}
 use Rattle.layout.specs.declared.Shape.{Shape}
 use mathlib.Core.List.{List}
@@ -125,22 +125,30 @@ version-le version e = go (either-told (eqb version 1) (eqb version 2) e)
     go (inl d) = omega (arith, eqb-true version 1 d)
     go (inr d) = omega (arith, eqb-true version 2 d)
 
--- a shape in limits has one
+-- and a cipher that there is leaves the state its place below
+pub cipher-is : (cipher : ℕ) → knownCipher cipher ≡ true → (cipher ≡ 0) ⊎ (cipher ≡ 16)
+unfolding knownCipher
+cipher-is cipher e = go (either-told (eqb cipher 0) (eqb cipher 16) e)
+  where
+    go : (eqb cipher 0 ≡ true) ⊎ (eqb cipher 16 ≡ true) → (cipher ≡ 0) ⊎ (cipher ≡ 16)
+    go (inl d) = inl (eqb-true cipher 0 d)
+    go (inr d) = inr (eqb-true cipher 16 d)
+
+pub cipher-le : (cipher : ℕ) → knownCipher cipher ≡ true → cipher ≤ 16
+cipher-le cipher e = go (cipher-is cipher e)
+  where
+    go : (cipher ≡ 0) ⊎ (cipher ≡ 16) → cipher ≤ 16
+    go (inl z) = omega (arith, z)
+    go (inr z) = omega (arith, z)
+
+-- a shape in limits has such ones
 pub version-known : (s : Shape) → inLimits s ≡ true → knownVersion (s .version) ≡ true
 unfolding inLimits known
-version-known s e = both-left (knownVersion (s .version)) (eqb (s .cipher) 0) (both-right (sized s) (known s) e)
+version-known s e = both-left (knownVersion (s .version)) (knownCipher (s .cipher)) (both-right (sized s) (known s) e)
 
--- and is its N, P and F under its version and the cipher that there is
-pub known-shape : (s : Shape) → inLimits s ≡ true → shapeAs (s .version) (s .n) (s .p) (s .f) ≡ s
+pub cipher-known : (s : Shape) → inLimits s ≡ true → knownCipher (s .cipher) ≡ true
 unfolding inLimits known
-known-shape s e =
-    let k = both-right (sized s) (known s) e in
-    let cipher : 0 ≡ s .cipher = sym (eqb-true (s .cipher) 0 (both-right (knownVersion (s .version)) (eqb (s .cipher) 0) k)) in
-    λ i. record { n = s .n; p = s .p; f = s .f; version = s .version; cipher = cipher i }
-
--- so what holds of every version, N, P and F holds of it
-pub by-numbers : (Q : Shape → Type 0) (s : Shape) → inLimits s ≡ true → Q (shapeAs (s .version) (s .n) (s .p) (s .f)) → Q s
-by-numbers Q s e x = rw (known-shape s e) at x
+cipher-known s e = both-right (knownVersion (s .version)) (knownCipher (s .cipher)) (both-right (sized s) (known s) e)
 
 -- a record has 18 bytes or 26
 pub width-is : (s : Shape) → (widthOf s ≡ 18) ⊎ (widthOf s ≡ 26)

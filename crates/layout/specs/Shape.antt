@@ -5,13 +5,13 @@ use lib.Dec.{leb, eqb}
 use Rattle.base.specs.Pick.{pick, both, either}
 use Rattle.layout.specs.declared.Shape.{Shape}
 
--- N, P and F under a version and ChaCha20
-abbrev pub shapeAs : ℕ → ℕ → ℕ → ℕ → Shape
-shapeAs version n p f = record { n = n; p = p; f = f; version = version; cipher = 0 }
+-- N, P and F under a version and a cipher
+abbrev pub shapeAs : ℕ → ℕ → ℕ → ℕ → ℕ → Shape
+shapeAs version cipher n p f = record { n = n; p = p; f = f; version = version; cipher = cipher }
 
--- and under version 1
+-- and under version 1 and ChaCha20
 abbrev pub shape : ℕ → ℕ → ℕ → Shape
-shape n p f = shapeAs 1 n p f
+shape n p f = shapeAs 1 0 n p f
 
 -- "Nuggets N: 1 to 16,384. Flakes per nugget P: 1 to 64. Flake size F: 64 to 4,096, a multiple of 64."
 unfoldable pub sized : Shape → Bool
@@ -28,9 +28,13 @@ isOne s = eqb (s .version) 1
 unfoldable pub knownVersion : ℕ → Bool
 knownVersion version = either (eqb version 1) (eqb version 2)
 
--- such a version, and ChaCha20 as the one cipher
+-- Item 8: "16 for AES, 0 for ChaCha20"
+unfoldable pub knownCipher : ℕ → Bool
+knownCipher cipher = either (eqb cipher 0) (eqb cipher 16)
+
+-- such a version and such a cipher
 unfoldable pub known : Shape → Bool
-known s = both (knownVersion (s .version)) (eqb (s .cipher) 0)
+known s = both (knownVersion (s .version)) (knownCipher (s .cipher))
 
 -- the numbers within their limits, the version and the cipher known
 unfoldable pub inLimits : Shape → Bool

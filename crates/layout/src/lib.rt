@@ -3,7 +3,7 @@
 ghost use mathlib.Core.Path.{_≡_};
 ghost use Prim.Native.Nat.{_+_, _*_, _<_, _^_};
 ghost use Rattle.base.specs.Pick.{pick};
-ghost use Rattle.layout.specs.Shape.{sized, knownVersion, known, inLimits, widthOf, heightOf, leaves, within};
+ghost use Rattle.layout.specs.Shape.{sized, knownVersion, knownCipher, known, inLimits, widthOf, heightOf, leaves, within};
 ghost use Rattle.layout.specs.Parts.{tagsAt, treeAt, flakesAt, lengthOf, recordAt, tagAt, nodeAt, flakeAt};
 ghost use Rattle.layout.specs.Spots.{spotAt, nowhere, offsetAt, capacity};
 
@@ -55,12 +55,19 @@ pub fn known_version(version: u16) -> bool
     if version == 1 { true } else { version == 2 }
 }
 
-// Whether the version and the cipher are ones that there are.
+// Whether the cipher is one that there is: ChaCha20 or AES.
+fn known_cipher(cipher: u8) -> bool
+    ensures { λ r. ⌜ r ≡ knownCipher cipher ⌝ }
+{
+    if cipher == 0 { true } else { cipher == 16 }
+}
+
+// Whether both are.
 fn are_known(s: Shape) -> bool
     ensures { λ r. ⌜ r ≡ known s ⌝ }
 {
     if known_version(s.version) {
-        s.cipher == 0
+        known_cipher(s.cipher)
     } else {
         false
     }

@@ -16,7 +16,7 @@ use Rattle.base.proofs.FoldLaws.{same-refl}
 use Rattle.answers.specs.declared.Answer.the-variants as A
 use Rattle.answers.specs.Numbers.{accepts}
 use Rattle.layout.specs.declared.Shape.{Shape}
-use Rattle.layout.specs.Shape.{sized, knownVersion, known, inLimits, leaves, widthOf}
+use Rattle.layout.specs.Shape.{sized, knownVersion, knownCipher, known, inLimits, leaves, widthOf}
 use Rattle.layout.specs.Parts.{recordAt, tagAt, nodeAt, lengthOf}
 use Rattle.layout.specs.Shaped.{Shaped}
 use Rattle.layout.proofs.Places.{record-room, records-above, parts-inside}
@@ -70,7 +70,7 @@ module _ (n : ℕ) (some : 1 ≤ n) (few : n ≤ 16384) (g : ℕ → Record) (co
   laid = laidTo s g n (zeros (lengthOf s))
 
   limited : inLimits (wideShape n) ≡ true
-  unfolding inLimits sized known knownVersion
+  unfolding inLimits sized known knownVersion knownCipher
   limited = both-on (both-on (le-leb 1 n some) (both-on (le-leb n 16384 few) refl)) refl
 
   zeros-lent : Shaped (wideShape n) (zeros (lengthOf (wideShape n)))

@@ -55,6 +55,7 @@ driveOver n g =
       p = 64;
       f = 64;
       version = 1;
+      cipher = 0;
       salt = zeros 16;
       state = Changing 1;
       epoch = 2;

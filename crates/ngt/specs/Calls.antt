@@ -35,10 +35,6 @@ pub record Tells (a : Answer) (number : ℕ) (answer : List ℕ) : Type 0 where
   pub told : number ≡ numberOf a
   pub shown : answer ≡ answerImage a
 
--- N, P and F under a version and a cipher
-abbrev pub shapeUnder : ℕ → ℕ → ℕ → ℕ → ℕ → Shape
-shapeUnder n p f version cipher = record { n = n; p = p; f = f; version = version; cipher = cipher }
-
 pub record Formatted (s : Shape) (salt secret : List ℕ) (outside : ℕ) (v : List ℕ) (number : ℕ) (vol image answer : List ℕ) : Type 0 where
   pub tells : Tells (formatDone s salt secret outside v .answer) number answer
   pub volume : vol ≡ formatVolume s salt secret outside v

@@ -10,13 +10,13 @@ use layout::Shape;
 ghost use mathlib.Core.Path.{_≡_};
 ghost use mathlib.Core.List.{_++_};
 ghost use Rattle.words.specs.Le.{le};
-ghost use Rattle.layout.specs.Shape.{shape};
+ghost use Rattle.layout.specs.Shape.{shape, shapeAs};
 ghost use Rattle.packed.specs.Image.{driveIn};
 ghost use Rattle.line.specs.Lines.{Put};
 ghost use Rattle.fleets.specs.Lines.{fleetLine};
 ghost use Rattle.changes.specs.Write.{writes};
 ghost use Rattle.ngt.specs.Twins.{Compared};
-ghost use Rattle.ngt.specs.Calls.{shapeUnder, Formatted, Mounted, Filled, Exported, Reported, Shown, spanImage, imageAfter, Begun, Swept, Finished, Written, Imported, counterRose, Discarded, QueuedBy};
+ghost use Rattle.ngt.specs.Calls.{Formatted, Mounted, Filled, Exported, Reported, Shown, spanImage, imageAfter, Begun, Swept, Finished, Written, Imported, counterRose, Discarded, QueuedBy};
 
 // Format, with the image of the drive that it hands back.
 #[no_mangle]
@@ -48,7 +48,7 @@ pub extern "C" fn ngt_format(
     answers::number(a)
 }
 
-// Format under a version and a cipher. "cipher is 0 until Item 8, else answered 1"
+// Format under a version and a cipher.
 #[no_mangle]
 pub extern "C" fn ngt_format_as(
     vol: &mut [u8],
@@ -63,7 +63,7 @@ pub extern "C" fn ngt_format_as(
     image: &mut [u8; 144],
     answer: &mut [u8; 16],
 ) -> u32
-    ensures { λ r. ⌜ Formatted (shapeUnder n p f version cipher) (now (salt .entry)) (now (secret .entry)) outside (now (vol .entry)) r (now (vol .exit)) (now (image .exit)) (now (answer .exit)) ⌝ }
+    ensures { λ r. ⌜ Formatted (shapeAs version cipher n p f) (now (salt .entry)) (now (secret .entry)) outside (now (vol .entry)) r (now (vol .exit)) (now (image .exit)) (now (answer .exit)) ⌝ }
 {
     let s = Shape {
         n,

@@ -24,7 +24,7 @@ secretFor d e = pick (eqb e (d .epoch)) (d .present) (d .old)
 
 -- under what the flakes of nugget n lie at keycount k: "Nugget key: keyed with the nugget's secret, `N`, salt, nugget (4 bytes)."
 abbrev pub lockBy : Shape → List ℕ → List ℕ → ℕ → ℕ → Lock
-lockBy s salt secret n k = record { number = n; key = nuggetKey secret salt n; keycount = k; version = s .version }
+lockBy s salt secret n k = record { number = n; key = nuggetKey secret salt n; keycount = k; version = s .version; cipher = s .cipher }
 
 -- the lock of an enciphering
 abbrev pub lockOf : Shape → List ℕ → Entry → Lock

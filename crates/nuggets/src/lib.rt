@@ -52,6 +52,7 @@ pub fn lock_by(s: Shape, salt: [u8; 16], secret: [u8; 32], n: u32, k: u64) -> Lo
         key: key,
         keycount: k,
         version: s.version,
+        cipher: s.cipher,
     }
 }
 

@@ -17,10 +17,9 @@ use Rattle.base.proofs.FoldLaws.{same-refl}
 use Rattle.answers.specs.declared.Answer.the-variants as A
 use Rattle.answers.specs.Numbers.{accepts}
 use Rattle.layout.specs.declared.Shape.{Shape}
-use Rattle.layout.specs.Shape.{shapeAs, inLimits, leaves, widthOf}
+use Rattle.layout.specs.Shape.{inLimits, leaves, widthOf}
 use Rattle.layout.specs.Parts.{recordAt, tagAt, nodeAt, lengthOf}
 use Rattle.drive.proofs.OpeningLaws.{opening-by}
-use Rattle.layout.proofs.Limits.{known-shape, by-numbers}
 use Rattle.layout.proofs.Places.{record-inside, records-above, parts-inside}
 use Rattle.records.specs.Record.{against, recordBytes, recordIn, Codes}
 use Rattle.records.proofs.BitLaws.{lies-self}
@@ -115,17 +114,14 @@ module _ (s : Shape) (limited : inLimits s ≡ true) where
     pub headed-whole : (counter : ℕ) → wholeOf s (against 1 false counter) (sets (planted s) 0 head) ≡ A.Accepted
     headed-whole counter = good-whole s (against 1 false counter) (sets (planted s) 0 head) headed-lent headed-good (headed-formed counter)
 
-module _ (version n p f : ℕ) (salt secret : List ℕ) (outside : ℕ) (salted : length salt ≡ 16) (limited : inLimits (shapeAs version n p f) ≡ true) where
-  abbrev s : Shape
-  s = shapeAs version n p f
-
+module _ (s : Shape) (salt secret : List ℕ) (outside : ℕ) (salted : length salt ≡ 16) (limited : inLimits s ≡ true) where
   head-long : length (headOf (freshDrive s salt secret outside)) ≡ 104
   unfolding freshDrive
   head-long = length-head (freshDrive s salt secret outside) salted
 
-  numbers-open : openingOf (freshDrive s salt secret outside) (freshVolume s salt secret outside) ≡ A.Accepted
+  pub fresh-opens : openingOf (freshDrive s salt secret outside) (freshVolume s salt secret outside) ≡ A.Accepted
   unfolding inForm headStands freshDrive freshVolume
-  numbers-open =
+  fresh-opens =
       let d = freshDrive s salt secret outside in
       let v = planted s in
       let size : length (sets v 0 (headOf d)) ≡ lengthOf s = length-sets v 0 (headOf d) ∙ length-planted s in
@@ -134,26 +130,9 @@ module _ (version n p f : ℕ) (salt secret : List ℕ) (outside : ℕ) (salted 
       opening-by d (sets v 0 (headOf d)) (both-on limited refl) size
       (both-on (ap (λ (l : List ℕ). same l (headOf d)) first ∙ same-refl (headOf d)) (ap (λ (l : List ℕ). same l (d .node)) node ∙ same-refl (d .node)))
 
-  numbers-whole : wholeIn (freshDrive s salt secret outside) (freshVolume s salt secret outside) ≡ A.Accepted
-  unfolding freshDrive freshVolume
-  numbers-whole = headed-whole s limited (headOf (freshDrive s salt secret outside)) head-long (outside + 1)
-
--- a shape in limits is its version, N, P and F under ChaCha20, and only such a one has been formatted
-pub fresh-by : (Q : Shape → Type 0) (s : Shape) → inLimits s ≡ true
-    → ((version n p f : ℕ) → inLimits (shapeAs version n p f) ≡ true → Q (shapeAs version n p f)) → Q s
-fresh-by Q s e x =
-    by-numbers Q s e (x (s .version) (s .n) (s .p) (s .f) (rw (known-shape s e) e))
-
-module _ (s : Shape) (salt secret : List ℕ) (outside : ℕ) (salted : length salt ≡ 16) (limited : inLimits s ≡ true) where
-  pub fresh-opens : openingOf (freshDrive s salt secret outside) (freshVolume s salt secret outside) ≡ A.Accepted
-  fresh-opens =
-      fresh-by (λ (z : Shape). openingOf (freshDrive z salt secret outside) (freshVolume z salt secret outside) ≡ A.Accepted) s limited
-      (λ version n p f l. numbers-open version n p f salt secret outside salted l)
-
   pub fresh-whole : wholeIn (freshDrive s salt secret outside) (freshVolume s salt secret outside) ≡ A.Accepted
-  fresh-whole =
-      fresh-by (λ (z : Shape). wholeIn (freshDrive z salt secret outside) (freshVolume z salt secret outside) ≡ A.Accepted) s limited
-      (λ version n p f l. numbers-whole version n p f salt secret outside salted l)
+  unfolding freshDrive freshVolume
+  fresh-whole = headed-whole s limited (headOf (freshDrive s salt secret outside)) head-long (outside + 1)
 
   fresh-handed : (old : List ℕ) → outside < counterTop → Handed (freshDrive s salt secret outside) old
   unfolding freshDrive

@@ -4,7 +4,7 @@ use mathlib.Core.Path.{_≡_, refl, sym, _∙_, ap}
 use mathlib.Core.Bool.{true, false}
 use mathlib.Core.Logic.{_⊎_, inl, inr}
 use mathlib.Core.List.{List}
-use Prim.Native.Nat.{ℕ, _≤_}
+use Prim.Native.Nat.{ℕ, _+_, _≤_}
 use native.Mathlib.Omega.{arith}
 use lib.Dec.{leb, eqb}
 use lib.ListN.{length}
@@ -25,7 +25,7 @@ use Rattle.keys.specs.Keys.{sealOf}
 use Rattle.drive.specs.declared.Drive.{Drive}
 use Rattle.drive.specs.Head.{mark, stateByte, checkIn, frontRow, frontValues, frontIn, headOf}
 use Rattle.drive.specs.Opening.{inForm, headStands, openingOf}
-use Rattle.opening.specs.Mount.{shapeIn, versionIn, stateByteIn, stateIn, epochIn, saltIn, counterIn, markFits, headFits, lengthFits, sealed, checked, wholeIn, openedDrive, formOf, keysOf, restOf, mountAnswer}
+use Rattle.opening.specs.Mount.{shapeIn, versionIn, kindIn, stateByteIn, cipherIn, stateIn, epochIn, saltIn, counterIn, markFits, headFits, lengthFits, sealed, checked, wholeIn, openedDrive, formOf, keysOf, restOf, mountAnswer}
 use Rattle.answers.proofs.StageLaws.{both-stages, passed, accepted-is}
 
 -- what the tests of an accepted mount tell
@@ -84,9 +84,9 @@ module _ (v present old : List ℕ) (outside : ℕ) (bytes : Bytes v) (e : mount
   unfolding markFits checked openedDrive
   front-values =
       let mark-is : part 0 3 v ≡ mark = same-true (part 0 3 v) mark (both-left (same (part 0 3 v) mark) _ (o .has-mark)) in
-      let state-is : stateByteIn v ≡ stateByte (stateIn v) = sym (state-back v low) in
+      let kind-is : kindIn v ≡ stateByte (stateIn v) + cipherIn v = omega (arith, state-back v low) in
       let check-is : part 40 32 v ≡ checkIn (openedDrive v present old) = same-true (part 40 32 v) (checkIn (openedDrive v present old)) (o .check) in
-      λ i. mark-is i & versionIn v & state-is i & epochIn v & num (part 8 4 v) & num (part 12 2 v) & num (part 14 2 v) & saltIn v & counterIn v & check-is i & tt
+      λ i. mark-is i & versionIn v & kind-is i & epochIn v & num (part 8 4 v) & num (part 12 2 v) & num (part 14 2 v) & saltIn v & counterIn v & check-is i & tt
 
   front-back : frontIn (openedDrive v present old) ≡ part 0 72 v
   unfolding frontIn

@@ -2,8 +2,9 @@
 use Prim.{tt}
 use mathlib.Core.Path.{_≡_, refl, sym, _∙_, ap}
 use mathlib.Core.Bool.{true}
+use mathlib.Core.Logic.{_⊎_, inl, inr}
 use mathlib.Core.List.{List}
-use Prim.Native.Nat.{ℕ, _-_, _+_, _^_, _<_, _≤_}
+use Prim.Native.Nat.{ℕ, _-_, _+_, _*_, _/_, _%_, _^_, _<_, _≤_}
 use native.Mathlib.Omega.{arith}
 use lib.Dec.{leb, eqb}
 use lib.ListN.{length, length-append, length-replicate}
@@ -19,9 +20,9 @@ use Rattle.answers.specs.declared.Answer.the-variants as A
 use Rattle.answers.specs.Numbers.{accepts}
 use Rattle.answers.proofs.StageLaws.{goes-on}
 use Rattle.layout.specs.declared.Shape.{Shape}
-use Rattle.layout.specs.Shape.{shapeAs, knownVersion, inLimits}
+use Rattle.layout.specs.Shape.{shapeAs, knownVersion, knownCipher, inLimits}
 use Rattle.layout.specs.Parts.{lengthOf, nodeAt}
-use Rattle.layout.proofs.Limits.{limits, version-le, version-known}
+use Rattle.layout.proofs.Limits.{limits, version-le, version-known, cipher-is, cipher-le, cipher-known}
 use Rattle.layout.proofs.Places.{parts-inside}
 use Rattle.keys.specs.Keys.{sealOf}
 use Rattle.keys.proofs.KeyLaws.{length-check as length-of-check, length-seal}
@@ -29,9 +30,9 @@ use Rattle.drive.specs.declared.Drive.{Drive}
 use Rattle.drive.specs.declared.State.{State}
 use Rattle.drive.specs.declared.State.the-variants.{Steady, Changing}
 use Rattle.drive.specs.Drive.{shapeOf, keptOld}
-use Rattle.drive.specs.Head.{mark, stateByte, checkFor, checkIn, frontRow, frontValues, frontIn, headOf}
+use Rattle.drive.specs.Head.{mark, stateByte, kindByte, checkFor, checkIn, frontRow, frontValues, frontIn, headOf}
 use Rattle.drive.specs.Opening.{stateFits, inForm, headStands, openingOf}
-use Rattle.opening.specs.Mount.{shapeIn, versionIn, stateByteIn, stateIn, epochIn, markFits, headFits, lengthFits, sealed, checked, wholeIn, openedDrive, formOf, keysOf, restOf, mountAnswer, mountDone}
+use Rattle.opening.specs.Mount.{shapeIn, versionIn, kindIn, stateByteIn, cipherIn, stateIn, epochIn, markFits, headFits, lengthFits, sealed, checked, wholeIn, openedDrive, formOf, keysOf, restOf, mountAnswer, mountDone}
 use Rattle.opening.proofs.MountLaws.{mount-on}
 use Rattle.drive.proofs.OpeningLaws.{Admitted, opening-told}
 
@@ -55,6 +56,14 @@ length-head d h = simp length-append (omega (arith, length-front d h, length-sea
 state-low : (s : State) → stateByte s ≤ 1
 state-low Steady = omega arith
 state-low (Changing left) = omega arith
+
+-- and so is the cipher above it
+kind-told : (b c : ℕ) → b ≤ 1 → knownCipher c ≡ true → ((b + c) % 16 ≡ b) × ((b + c) / 16 * 16 ≡ c)
+kind-told b c h e = go (cipher-is c e)
+  where
+    go : (c ≡ 0) ⊎ (c ≡ 16) → ((b + c) % 16 ≡ b) × ((b + c) / 16 * 16 ≡ c)
+    go (inl z) = (omega (arith, h, z), omega (arith, h, z))
+    go (inr z) = (omega (arith, h, z), omega (arith, h, z))
 
 state-told : (s : State) (b e : ℕ) → b ≡ stateByte s → stateFits s e ≡ true → pick (eqb b 0) Steady (Changing (e - 1)) ≡ s
 state-told Steady b e q f = rw q refl
@@ -102,7 +111,7 @@ module _ (d : Drive) (w old : List ℕ) (x : Handed d old) (opens : openingOf d 
       let l = limits (shapeOf d) in-limits in
       refl
       & omega (arith, version-le (d .version) (version-known (shapeOf d) in-limits))
-      & omega (arith, state-low (d .state))
+      & omega (arith, cipher-le (d .cipher) (cipher-known (shapeOf d) in-limits), state-low (d .state))
       & x .epoch-lt
       & omega (arith, l .few)
       & omega (arith, l .narrow)
@@ -123,14 +132,20 @@ module _ (d : Drive) (w old : List ℕ) (x : Handed d old) (opens : openingOf d 
   version-back : versionIn w ≡ d .version
   version-back i = has i .1 .0
 
+  kind-back : kindIn w ≡ kindByte d
+  kind-back i = has i .1 .1 .0
+
   byte-back : stateByteIn w ≡ stateByte (d .state)
-  byte-back i = has i .1 .1 .0
+  byte-back = ap (λ (x : ℕ). x % 16) kind-back ∙ kind-told (stateByte (d .state)) (d .cipher) (state-low (d .state)) (cipher-known (shapeOf d) in-limits) .0
+
+  cipher-back : cipherIn w ≡ d .cipher
+  cipher-back = ap (λ (x : ℕ). x / 16 * 16) kind-back ∙ kind-told (stateByte (d .state)) (d .cipher) (state-low (d .state)) (cipher-known (shapeOf d) in-limits) .1
 
   epoch-back : epochIn w ≡ d .epoch
   epoch-back i = has i .1 .1 .1 .0
 
   shape-back : shapeIn w ≡ shapeOf d
-  shape-back i = let z = has i .1 .1 .1 .1 in shapeAs (has i .1 .0) (z .0) (z .1 .0) (z .1 .1 .0)
+  shape-back i = let z = has i .1 .1 .1 .1 in shapeAs (has i .1 .0) (cipher-back i) (z .0) (z .1 .0) (z .1 .1 .0)
 
   check-back : part 40 32 w ≡ checkIn d
   check-back i = has i .1 .1 .1 .1 .1 .1 .1 .1 .1 .0
@@ -151,6 +166,7 @@ module _ (d : Drive) (w old : List ℕ) (x : Handed d old) (opens : openingOf d 
         p = z .1 .0;
         f = z .1 .1 .0;
         version = version-back i;
+        cipher = cipher-back i;
         salt = z .1 .1 .1 .0;
         state = state-back i;
         epoch = epoch-back i;

@@ -1,6 +1,6 @@
 -- Document 01: "Format takes N, P, F, salt, secret and the outside counter. Everything is zero but the head and tree;
 -- epochs are 1; the counter is the outside value plus 1." "Format: 1, 2, 13." Document 02, Item 4: "Format and the drive gain the
--- version", "1 for an unknown version".
+-- version", "1 for an unknown version"; Item 8: "A format option chooses the cipher of the volume".
 use Prim.Native.Nat.{ℕ, zero, suc, _+_}
 use mathlib.Core.List.{List}
 use lib.Dec.{eqb}
@@ -23,7 +23,7 @@ use Rattle.drive.specs.declared.State.the-variants.{Steady}
 use Rattle.drive.specs.Drive.{zeros, blankDrive, counterTop}
 use Rattle.drive.specs.Head.{headOf}
 
--- 1: N, P, F, version; 2: the length; 13: "counter at its top"
+-- 1: N, P, F, version, cipher; 2: the length; 13: "counter at its top"
 unfoldable pub formatAnswer : Shape → ℕ → List ℕ → Answer
 formatAnswer s outside v =
     pick (inLimits s)
@@ -58,6 +58,7 @@ freshDrive s salt secret outside =
       p = s .p;
       f = s .f;
       version = s .version;
+      cipher = s .cipher;
       salt = salt;
       state = Steady;
       epoch = 1;

@@ -1,6 +1,6 @@
 -- Document 01: "Mount takes both secrets (the old one unused when steady) and the outside counter. It changes nothing in
 -- the volume." "Mount: 2 (under 104 bytes), 3, 1, 2, 4, 5, 6, 7 whole."
-use Prim.Native.Nat.{ℕ, _-_}
+use Prim.Native.Nat.{ℕ, _-_, _*_, _/_, _%_}
 use mathlib.Core.Bool.{Bool}
 use mathlib.Core.List.{List}
 use lib.Dec.{leb, eqb}
@@ -27,21 +27,28 @@ use Rattle.drive.specs.Head.{mark, checkIn}
 use Rattle.drive.specs.Opening.{stateFits}
 
 -- the head's fields: "0-2 `NGT`; 3-4 version 1; 5 state (0 steady, 1 changing); 6-7 epoch; 8-11 N; 12-13 P; 14-15 F; 16-31
--- salt; 32-39 counter; 40-71 old-secret check (zeros when steady); 72-103 seal"
+-- salt; 32-39 counter; 40-71 old-secret check (zeros when steady); 72-103 seal"; Item 8: the cipher is "kept in head byte 5 above the
+-- state: 16 for AES, 0 for ChaCha20"
 abbrev pub markIn : List ℕ → List ℕ
 markIn v = part 0 3 v
 
 abbrev pub versionIn : List ℕ → ℕ
 versionIn v = num (part 3 2 v)
 
+abbrev pub kindIn : List ℕ → ℕ
+kindIn v = num (part 5 1 v)
+
 abbrev pub stateByteIn : List ℕ → ℕ
-stateByteIn v = num (part 5 1 v)
+stateByteIn v = kindIn v % 16
+
+abbrev pub cipherIn : List ℕ → ℕ
+cipherIn v = kindIn v / 16 * 16
 
 abbrev pub epochIn : List ℕ → ℕ
 epochIn v = num (part 6 2 v)
 
 abbrev pub shapeIn : List ℕ → Shape
-shapeIn v = shapeAs (versionIn v) (num (part 8 4 v)) (num (part 12 2 v)) (num (part 14 2 v))
+shapeIn v = shapeAs (versionIn v) (cipherIn v) (num (part 8 4 v)) (num (part 12 2 v)) (num (part 14 2 v))
 
 abbrev pub saltIn : List ℕ → List ℕ
 saltIn v = part 16 16 v
@@ -67,6 +74,7 @@ openedDrive v present old =
       p = num (part 12 2 v);
       f = num (part 14 2 v);
       version = versionIn v;
+      cipher = cipherIn v;
       salt = saltIn v;
       state = stateIn v;
       epoch = epochIn v;
@@ -80,7 +88,7 @@ openedDrive v present old =
 unfoldable pub markFits : List ℕ → Bool
 markFits v = both (same (markIn v) mark) (knownVersion (versionIn v))
 
--- 1: "N, P, F, state or epoch out of limits"
+-- 1: "N, P, F, state or epoch out of limits"; Item 8: "1 for any other value of byte 5"
 unfoldable pub headFits : List ℕ → Bool
 headFits v = both (inLimits (shapeIn v)) (both (leb (stateByteIn v) 1) (stateFits (stateIn v) (epochIn v)))
 

@@ -5,7 +5,7 @@ use layout::Shape;
 ghost use mathlib.Core.Path.{_≡_};
 ghost use Prim.Native.Nat.{_-_, _≤_};
 ghost use lib.ListN.{length};
-ghost use Rattle.opening.specs.Mount.{markFits, headFits, shapeIn, stateIn, epochIn, formOf};
+ghost use Rattle.opening.specs.Mount.{markFits, headFits, stateByteIn, cipherIn, shapeIn, stateIn, epochIn, formOf};
 
 // Test 3: "mark or version differs"
 fn has_mark(vol: &[u8]) -> bool
@@ -21,6 +21,21 @@ fn has_mark(vol: &[u8]) -> bool
     }
 }
 
+// Byte 5: "state (0 steady, 1 changing)", and "above the state" the cipher.
+fn state_byte_in(vol: &[u8]) -> u8
+    requires { ⌜ 104 ≤ length (now vol) ⌝ }
+    ensures { λ r. ⌜ r ≡ stateByteIn (now (vol .entry)) ⌝ }
+{
+    (words::load(vol, 5, 1) % 16) as u8
+}
+
+fn cipher_in(vol: &[u8]) -> u8
+    requires { ⌜ 104 ≤ length (now vol) ⌝ }
+    ensures { λ r. ⌜ r ≡ cipherIn (now (vol .entry)) ⌝ }
+{
+    (words::load(vol, 5, 1) / 16 * 16) as u8
+}
+
 pub fn shape_in(vol: &[u8]) -> Shape
     requires { ⌜ 104 ≤ length (now vol) ⌝ }
     ensures { λ r. ⌜ r ≡ shapeIn (now (vol .entry)) ⌝ }
@@ -30,7 +45,7 @@ pub fn shape_in(vol: &[u8]) -> Shape
         p: words::load(vol, 12, 2) as u32,
         f: words::load(vol, 14, 2) as u32,
         version: words::load(vol, 3, 2) as u16,
-        cipher: 0,
+        cipher: cipher_in(vol),
     }
 }
 
@@ -53,7 +68,7 @@ pub fn state_in(vol: &[u8]) -> State
     requires { ⌜ 104 ≤ length (now vol) ⌝ }
     ensures { λ r. ⌜ r ≡ stateIn (now (vol .entry)) ⌝ }
 {
-    if words::load(vol, 5, 1) == 0 {
+    if state_byte_in(vol) == 0 {
         return State::Steady;
     }
     State::Changing(one_below(epoch_in(vol)))
@@ -65,7 +80,7 @@ fn head_fits(vol: &[u8]) -> bool
     ensures { λ r. ⌜ r ≡ headFits (now (vol .entry)) ⌝ }
 {
     if layout::in_limits(shape_in(vol)) {
-        if 1 < words::load(vol, 5, 1) {
+        if 1 < state_byte_in(vol) {
             return false;
         }
         return drive::state_fits(state_in(vol), epoch_in(vol));

@@ -63,6 +63,7 @@ fn fresh_drive(vol: &[u8], s: Shape, salt: [u8; 16], secret: [u8; 32], outside: 
         p: s.p,
         f: s.f,
         version: s.version,
+        cipher: s.cipher,
         salt: salt,
         state: State::Steady,
         epoch: 1,
@@ -73,7 +74,7 @@ fn fresh_drive(vol: &[u8], s: Shape, salt: [u8; 16], secret: [u8; 32], outside: 
     }
 }
 
-// "Format takes N, P, F, salt, secret and the outside counter.", and by document 02, Item 4, the version.
+// "Format takes N, P, F, salt, secret and the outside counter.", and by document 02, Items 4 and 8, the version and the cipher.
 pub fn format(vol: &mut [u8], s: Shape, salt: [u8; 16], secret: [u8; 32], outside: u64) -> Done
     ensures { λ r. ⌜ (r ≡ formatDone s salt secret outside (now (vol .entry))) × (now (vol .exit) ≡ formatVolume s salt secret outside (now (vol .entry))) ⌝ }
 {
@@ -110,6 +111,7 @@ fn opened(vol: &[u8], present: [u8; 32], old: [u8; 32]) -> Drive
         p: s.p,
         f: s.f,
         version: s.version,
+        cipher: s.cipher,
         salt: salt,
         state: state,
         epoch: head::epoch_in(vol),

@@ -18,7 +18,7 @@ use Rattle.drive.specs.declared.State.the-variants.{Steady, Changing}
 use Rattle.drive.specs.Head.{stateByte}
 use Rattle.packed.specs.Image.{epochLeft, numbersImage, frontImage, wholeImage, driveRow, driveValues, driveImage, imageState, driveOf, driveIn, DriveFits, Made}
 
--- "0-3 N; 4-7 P; 8-11 F; 12 state; 13 zero; 14-15 epoch; 16-17 the epoch being left; 18-19 version; 20-23 zero; 24-39 salt; 40-47 counter;
+-- "0-3 N; 4-7 P; 8-11 F; 12 state; 13 cipher; 14-15 epoch; 16-17 the epoch being left; 18-19 version; 20-23 zero; 24-39 salt; 40-47 counter;
 -- 48-79 node 1; 80-111 present secret; 112-143 old secret"
 pub places : starts 0 driveRow ≡ 0 ∷ 4 ∷ 8 ∷ 12 ∷ 13 ∷ 14 ∷ 16 ∷ 18 ∷ 20 ∷ 24 ∷ 40 ∷ 48 ∷ 80 ∷ 112 ∷ []
 places = refl
@@ -40,7 +40,7 @@ drive-of d = no _ (known (d .state)) (rw (state-back (d .state)) refl)
 
 fit : (d : Drive) → DriveFits d → AllFit driveRow (driveValues d)
 fit d w =
-    w .nWidth & w .pWidth & w .fWidth & low (d .state) & refl & w .epochWidth & w .leftWidth & w .versionWidth & refl & w .saltLong & w .counterWidth & w .nodeLong & w .presentLong & w .oldLong & tt
+    w .nWidth & w .pWidth & w .fWidth & low (d .state) & w .cipherWidth & w .epochWidth & w .leftWidth & w .versionWidth & refl & w .saltLong & w .counterWidth & w .nodeLong & w .presentLong & w .oldLong & tt
 
 -- a drive that was packed is unpacked: every field, the state and both secrets as they were
 pub drive-back : (d : Drive) → DriveFits d → driveIn (driveImage d) ≡ d
@@ -49,7 +49,7 @@ drive-back d w = ap driveOf (row-only driveRow (driveValues d) (fit d w)) ∙ dr
 
 -- the code's three pieces are the row
 pub image-of : (d : Drive)
-    → wholeImage (frontImage (numbersImage (d .n) (d .p) (d .f) (stateByte (d .state)) (d .epoch) (epochLeft (d .state)) (d .version)) (d .salt) (d .counter)) (d .node) (d .present) (d .old)
+    → wholeImage (frontImage (numbersImage (d .n) (d .p) (d .f) (stateByte (d .state)) (d .cipher) (d .epoch) (epochLeft (d .state)) (d .version)) (d .salt) (d .counter)) (d .node) (d .present) (d .old)
     ≡ driveImage d
 unfolding numbersImage driveImage
 image-of d = simp append-assoc
@@ -70,7 +70,7 @@ values-of v m =
     let left = num (part 16 2 v) in
     let z = rowIn driveRow 0 0 v in
     rw (le-ltb 1 byte (m .known-byte))
-    (λ i. z .0 & z .1 .0 & z .1 .1 .0 & byte-of byte left (m .known-byte) i & sym (m .zero-byte) i & z .1 .1 .1 .1 .1 .0 & left-of byte left (m .zero-left) i & z .1 .1 .1 .1 .1 .1 .1 .0 & sym (m .zero-bytes) i & z .1 .1 .1 .1 .1 .1 .1 .1 .1)
+    (λ i. z .0 & z .1 .0 & z .1 .1 .0 & byte-of byte left (m .known-byte) i & z .1 .1 .1 .1 .0 & z .1 .1 .1 .1 .1 .0 & left-of byte left (m .zero-left) i & z .1 .1 .1 .1 .1 .1 .1 .0 & sym (m .zero-bytes) i & z .1 .1 .1 .1 .1 .1 .1 .1 .1)
 
 -- such an image comes back from its drive
 pub image-back : (v : List ℕ) → Bytes v → Made v → driveImage (driveIn v) ≡ part 0 144 v

@@ -20,14 +20,24 @@ fn epoch_left(state: State) -> u16
 }
 
 // Bytes 0 to 23.
-fn numbers_image(n: u32, p: u32, f: u32, state: u8, epoch: u16, left: u16, version: u16) -> [u8; 24]
-    ensures { λ r. ⌜ r ≡ numbersImage n p f state epoch left version ⌝ }
+fn numbers_image(
+    n: u32,
+    p: u32,
+    f: u32,
+    state: u8,
+    cipher: u8,
+    epoch: u16,
+    left: u16,
+    version: u16,
+) -> [u8; 24]
+    ensures { λ r. ⌜ r ≡ numbersImage n p f state cipher epoch left version ⌝ }
 {
     let mut out = [0u8; 24];
     words::store(&mut out, 0, 4, n as u64);
     words::store(&mut out, 4, 4, p as u64);
     words::store(&mut out, 8, 4, f as u64);
     words::store(&mut out, 12, 1, state as u64);
+    words::store(&mut out, 13, 1, cipher as u64);
     words::store(&mut out, 14, 2, epoch as u64);
     words::store(&mut out, 16, 2, left as u64);
     words::store(&mut out, 18, 2, version as u64);
@@ -66,6 +76,7 @@ pub fn pack(d: Drive) -> [u8; 144]
         d.p,
         d.f,
         drive::state_byte(state),
+        d.cipher,
         d.epoch,
         epoch_left(state),
         d.version,
@@ -102,6 +113,7 @@ fn drive_in(image: &[u8]) -> Drive
         p: words::load32(image, 4),
         f: words::load32(image, 8),
         version: words::load(image, 18, 2) as u16,
+        cipher: words::load(image, 13, 1) as u8,
         salt: words::sixteen(image, 24),
         state: state_in(image),
         epoch: words::load(image, 14, 2) as u16,

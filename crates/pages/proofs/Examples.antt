@@ -12,7 +12,7 @@ use Rattle.pages.specs.Page.{keyText, presentFlakes, others, flakesText,
 -- a drive with two flakes to a nugget
 abbrev pub drive : State → ℕ → Drive
 drive state epoch =
-    record { n = 3; p = 2; f = 64; version = 1; salt = []; state = state; epoch = epoch; counter = 5; node = []; present = []; old = [] }
+    record { n = 3; p = 2; f = 64; version = 1; cipher = 0; salt = []; state = state; epoch = epoch; counter = 5; node = []; present = []; old = [] }
 
 -- `nugget=2 key=old epoch=1 keycount=0 flakes=0,1`
 pub left : nuggetText (drive (Changing 1) 2) (record { keycount = 0; spent = 3; held = 3; epoch = 1 }) 2 ≡ 110 ∷ 117 ∷ 103 ∷ 103 ∷ 101 ∷ 116 ∷ 61 ∷ 50 ∷ 32 ∷ 107 ∷ 101 ∷ 121 ∷ 61 ∷ 111 ∷ 108 ∷ 100 ∷ 32 ∷ 101 ∷ 112 ∷ 111 ∷ 99 ∷ 104 ∷ 61 ∷ 49 ∷ 32 ∷ 107 ∷ 101 ∷ 121 ∷ 99 ∷ 111 ∷ 117 ∷ 110 ∷ 116 ∷ 61 ∷ 48 ∷ 32 ∷ 102 ∷ 108 ∷ 97 ∷ 107 ∷ 101 ∷ 115 ∷ 61 ∷ 48 ∷ 44 ∷ 49 ∷ []

@@ -18,9 +18,9 @@ use Rattle.tree.specs.Path.{pathOf}
 use Rattle.tree.specs.Whole.{wholeOf}
 use Rattle.tree.specs.Renewed.{renewed, built}
 
--- a lock by version, key, nugget and keycount
+-- a lock by version, key, nugget and keycount, under ChaCha20
 abbrev pub lockWith : ℕ → List ℕ → ℕ → ℕ → Lock
-lockWith version key n k = record { number = n; key = key; keycount = k; version = version }
+lockWith version key n k = record { number = n; key = key; keycount = k; version = version; cipher = 0 }
 
 -- the pad over a flake of at most 4,096 bytes, of the 64 flakes that a nugget can have; it doesn't look at version or nugget
 unfoldable pub laidBytes : List ℕ → ℕ → ℕ → List ℕ → List ℕ

@@ -29,6 +29,7 @@ pub extern "C" fn ngt_tag_key(version: u16, key: &[u8; 32], f: u32, k: u64, out:
         key: *key,
         keycount: k,
         version,
+        cipher: 0,
     };
     *out = keys::tag_key(lock, f);
 }
@@ -64,6 +65,7 @@ pub extern "C" fn ngt_tag(
         key: *key,
         keycount: k,
         version,
+        cipher: 0,
     };
     *out = keys::tag_of(stored, lock, f);
 }
@@ -103,6 +105,7 @@ pub extern "C" fn ngt_lay_pad(flake: &mut [u8], key: &[u8; 32], k: u64, f: u32)
                 key: *key,
                 keycount: k,
                 version: 1,
+                cipher: 0,
             };
             let size = flake.len();
             keys::lay_from(flake, lock, size, f, 0);

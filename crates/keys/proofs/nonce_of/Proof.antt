@@ -1,6 +1,6 @@
 use borrow.Author.Needs.{needs}
 use Rattle.words.specs.Le.{le}
-use Rattle.keys.specs.Pads.{nonceOf}
+use Rattle.keys.specs.Ciphers.{nonceOf}
 use Rattle.keys.proofs.nonce_of.Statement.{statement}
 use Rattle.keys.proofs.nonce_of.Tie as tie
 

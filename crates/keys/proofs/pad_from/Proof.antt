@@ -1,9 +1,8 @@
-use Rattle.keys.specs.Pads.{firstBlock}
-use Rattle.keys.proofs.StreamLaws.{pad-eight, pad-rest}
-use Prim.Native.Nat.{_+_, _-_, _/_, _<_, _^_}
+use Prim.Native.Nat.{_-_}
 use native.Mathlib.Omega.{arith}
 use mathlib.Core.Path.{_≡_, refl, _∙_}
 use lib.ListN.{replicate}
+use Rattle.keys.proofs.StreamLaws.{pad-eight, pad-rest}
 use borrow.Author.Needs.{needs}
 use Rattle.keys.proofs.pad_from.Statement.{statement}
 use Rattle.keys.proofs.pad_from.Tie as tie
@@ -11,26 +10,20 @@ use Rattle.keys.proofs.pad_from.Tie as tie
 sub-n : tie.Need-sub-n
 sub-n c = search needs
 
-nonce-of-requires : tie.Need-nonce-of-requires
-nonce-of-requires c κs = search needs
-
 block-of-requires : tie.Need-block-of-requires
 block-of-requires c κs = search needs
 
-eight-requires : tie.Need-eight-requires
-eight-requires c κs = search needs
+eight-from-requires : tie.Need-eight-from-requires
+eight-from-requires c κs = c .block-of .ensures .1
 
 same-length : tie.Need-same-length
 same-length c = search needs
 
 returns : tie.Need-returns
 returns c =
-    let a = c .before .before .before .before .before .before .before .before .before .args in
-    let pre = c .before .before .before .before .before .before .before .before .before .pre in
-    let b = c .before .before .before .before .block-of .ensures in
-    let low : firstBlock (a .size) (a .f) + a .b / 64 < 2 ^ 20 = rw (← (b .0)) (b .1) in
-    c .before .before .eight .ensures
-    ∙ rw (c .before .before .before .before .before .nonce-of .ensures, b .0) (pad-eight (a .lock) (a .f) (a .size) (a .b) (pre .4) (omega arith) low)
+    let a = c .before .before .before .before .before .before .before .args in
+    let pre = c .before .before .before .before .before .before .before .pre in
+    c .before .before .eight-from .ensures ∙ rw (c .before .before .before .before .block-of .ensures .0) (pad-eight (a .lock) (a .f) (a .size) (a .b) (pre .4) (omega arith))
 
 clear-requires : tie.Need-clear-requires
 clear-requires c κs = search needs
@@ -64,9 +57,8 @@ pad-from-spec =
     tie.close
     (tie.spec
     sub-n
-    nonce-of-requires
     block-of-requires
-    eight-requires
+    eight-from-requires
     same-length
     returns
     clear-requires

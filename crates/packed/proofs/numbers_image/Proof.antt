@@ -47,9 +47,15 @@ slice-aggregate-store-7 c = search needs
 store-requires-7 : tie.Need-store-requires-7
 store-requires-7 c κs = search needs
 
+slice-aggregate-store-8 : tie.Need-slice-aggregate-store-8
+slice-aggregate-store-8 c = search needs
+
+store-requires-8 : tie.Need-store-requires-8
+store-requires-8 c κs = search needs
+
 returns : tie.Need-returns
 unfolding numbersImage le
-returns c = c .before .store7 .ensures ∙ rw (c .before .before .before .before .store6 .ensures, c .before .before .before .before .before .before .before .store5 .ensures, c .before .before .before .before .before .before .before .before .before .before .store4 .ensures, c .before .before .before .before .before .before .before .before .before .before .before .before .before .store3 .ensures, c .before .before .before .before .before .before .before .before .before .before .before .before .before .before .before .before .store2 .ensures, c .before .before .before .before .before .before .before .before .before .before .before .before .before .before .before .before .before .before .before .store .ensures)
+returns c = c .before .store8 .ensures ∙ rw (c .before .before .before .before .store7 .ensures, c .before .before .before .before .before .before .before .store6 .ensures, c .before .before .before .before .before .before .before .before .before .before .store5 .ensures, c .before .before .before .before .before .before .before .before .before .before .before .before .before .store4 .ensures, c .before .before .before .before .before .before .before .before .before .before .before .before .before .before .before .before .store3 .ensures, c .before .before .before .before .before .before .before .before .before .before .before .before .before .before .before .before .before .before .before .store2 .ensures, c .before .before .before .before .before .before .before .before .before .before .before .before .before .before .before .before .before .before .before .before .before .before .store .ensures)
 
 pub numbers-image-spec : {M : Type 1} → statement M
 numbers-image-spec =
@@ -69,4 +75,6 @@ numbers-image-spec =
     store-requires-6
     slice-aggregate-store-7
     store-requires-7
+    slice-aggregate-store-8
+    store-requires-8
     returns)

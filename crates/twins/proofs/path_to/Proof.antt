@@ -1,4 +1,7 @@
 use Rattle.twins.proofs.StepLaws.{path-ends, path-other, path-stops}
+use mathlib.Core.Path.{sym, _∙_}
+use Prim.Native.Nat.{ℕ}
+use lib.ListN.{length-map}
 use borrow.Author.Needs.{needs}
 use Rattle.twins.proofs.path_to.Statement.{statement}
 use Rattle.twins.proofs.path_to.Tie as tie
@@ -23,8 +26,9 @@ slice-aggregate-equal c = search needs
 
 slice-aggregate-equal-2 : tie.Need-slice-aggregate-equal-2
 slice-aggregate-equal-2 c =
-    let drive = c .before .before .before .before .before .before .before .before .before .before .good .0 in
-    search (needs, drive .1 .1 .1 .1 .1 .1 .1 .1 .1 .1 .1 .1)
+    let start = c .before .before .before .before .before .before .before .before .before .before in
+    let long = sym (length-map (start .args .d .node) (λ (x : ℕ). x)) ∙ start .good .0 .1 .1 .1 .1 .1 .1 .1 .1 .1 .1 .1 .0 .1 .0 .1 in
+    search (needs, long)
 
 equal-requires : tie.Need-equal-requires
 equal-requires c κs = search needs

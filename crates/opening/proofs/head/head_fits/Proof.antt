@@ -18,12 +18,12 @@ shape-in-requires c κs = search needs
 in-limits-requires : tie.Need-in-limits-requires
 in-limits-requires c κs = search needs
 
-load-requires : tie.Need-load-requires
-load-requires c κs = search needs
+state-byte-in-requires : tie.Need-state-byte-in-requires
+state-byte-in-requires c κs = search needs
 
 returns : tie.Need-returns
 unfolding headFits
-returns c = sym (both-on (sym (ap (λ (s : Shape). inLimits s) (c .before .before .before .before .shape-in .ensures)) ∙ sym (c .before .before .before .in-limits .ensures) ∙ c .before .before .if1 .taken) (both-off _ (lt-leb (stateByteIn (c .before .before .before .before .before .before .args .vol .now)) 1 (omega (arith, c .if2 .taken, c .before .load .ensures .0)))))
+returns c = sym (both-on (sym (ap (λ (s : Shape). inLimits s) (c .before .before .before .before .shape-in .ensures)) ∙ sym (c .before .before .before .in-limits .ensures) ∙ c .before .before .if1 .taken) (both-off _ (lt-leb (stateByteIn (c .before .before .before .before .before .before .args .vol .now)) 1 (omega (arith, c .if2 .taken, c .before .state-byte-in .ensures)))))
 
 state-in-requires : tie.Need-state-in-requires
 state-in-requires c κs = search needs
@@ -37,7 +37,7 @@ state-fits-requires c κs = search needs
 returns-2 : tie.Need-returns-2
 unfolding headFits
 returns-2 c = c .state-fits .ensures ∙ ap₂ (λ (s : State) (e : ℕ). stateFits s e) (c .before .before .state-in .ensures) (c .before .epoch-in .ensures)
-    ∙ sym (both-on (sym (ap (λ (s : Shape). inLimits s) (c .before .before .before .before .before .before .before .shape-in .ensures)) ∙ sym (c .before .before .before .before .before .before .in-limits .ensures) ∙ c .before .before .before .before .before .if1 .taken) (both-on (le-leb (stateByteIn (c .before .before .before .before .before .before .before .before .before .args .vol .now)) 1 (omega (arith, c .before .before .before .if2 .left, c .before .before .before .before .load .ensures .0))) refl))
+    ∙ sym (both-on (sym (ap (λ (s : Shape). inLimits s) (c .before .before .before .before .before .before .before .shape-in .ensures)) ∙ sym (c .before .before .before .before .before .before .in-limits .ensures) ∙ c .before .before .before .before .before .if1 .taken) (both-on (le-leb (stateByteIn (c .before .before .before .before .before .before .before .before .before .args .vol .now)) 1 (omega (arith, c .before .before .before .if2 .left, c .before .before .before .before .state-byte-in .ensures))) refl))
 
 returns-3 : tie.Need-returns-3
 unfolding headFits
@@ -49,7 +49,7 @@ head-fits-spec =
     (tie.spec
     shape-in-requires
     in-limits-requires
-    load-requires
+    state-byte-in-requires
     returns
     state-in-requires
     epoch-in-requires

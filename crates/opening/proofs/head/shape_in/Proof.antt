@@ -23,9 +23,12 @@ load-requires-3 c κs = search needs
 cast-t8 : tie.Need-cast-t8
 cast-t8 c = search needs
 
+cipher-in-requires : tie.Need-cipher-in-requires
+cipher-in-requires c κs = search needs
+
 returns : tie.Need-returns
-returns c = rw (c .before .before .before .load32 .ensures, c .before .before .load .ensures .0, c .before .load2 .ensures .0, c .load3 .ensures .0)
+returns c = rw (c .before .before .before .before .load32 .ensures, c .before .before .before .load .ensures .0, c .before .before .load2 .ensures .0, c .before .load3 .ensures .0, c .cipher-in .ensures)
 
 pub shape-in-spec : {M : Type 1} → statement M
 shape-in-spec =
-    tie.close (tie.spec load32-requires load-requires cast-t4 load-requires-2 cast-t6 load-requires-3 cast-t8 returns)
+    tie.close (tie.spec load32-requires load-requires cast-t4 load-requires-2 cast-t6 load-requires-3 cast-t8 cipher-in-requires returns)
