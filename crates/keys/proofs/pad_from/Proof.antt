@@ -14,7 +14,7 @@ block-of-requires : tie.Need-block-of-requires
 block-of-requires c κs = search needs
 
 eight-from-requires : tie.Need-eight-from-requires
-eight-from-requires c κs = c .block-of .ensures .1
+eight-from-requires c κs = (c .before .before .before .before .pre .0, c .before .block-of .ensures .1)
 
 same-length : tie.Need-same-length
 same-length c = search needs
