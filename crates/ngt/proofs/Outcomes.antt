@@ -63,3 +63,9 @@ summary-ngt-summary-renew κs a x y u v p q = (agree (p .tells .told) (q .tells 
 
 pub summary-ngt-summary-report : OneOutcome fn.summary.ngt_summary_report.ended fn.summary.ngt_summary_report.Reads.Post
 summary-ngt-summary-report κs a x y u v p q = (agree (p .tells .told) (q .tells .told), refl ∥ refl ∥ refl ∥ agree (p .numbers) (q .numbers) ∥ agree (p .tells .shown) (q .tells .shown) ∥ refl)
+
+pub moves-ngt-move-up : OneOutcome fn.moves.ngt_move_up.ended fn.moves.ngt_move_up.Reads.Post
+moves-ngt-move-up κs a x y u v p q = (agree (p .tells .told) (q .tells .told), agree (p .drive) (q .drive) ∥ refl ∥ agree (p .volume) (q .volume) ∥ agree (p .tells .shown) (q .tells .shown) ∥ refl)
+
+pub moves-ngt-move-down : OneOutcome fn.moves.ngt_move_down.ended fn.moves.ngt_move_down.Reads.Post
+moves-ngt-move-down κs a x y u v p q = (agree (p .tells .told) (q .tells .told), agree (p .drive) (q .drive) ∥ refl ∥ agree (p .volume) (q .volume) ∥ agree (p .tells .shown) (q .tells .shown) ∥ refl)

@@ -1,5 +1,6 @@
 // The C interface of the drive: each call with its drive and its answer as bytes.
 // It touches the calls' crates, `packed` and `images` for the bytes, and `fleets` for the fleet's line.
+mod moves;
 mod summary;
 
 use answers::Answer;
