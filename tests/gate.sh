@@ -60,6 +60,7 @@ counts "two volumes compared agree with the second program through the C interfa
 counts "a filesystem goes through import, export and a reader of its own" python3 tests/crypt.py
 counts "histories of calls agree with the second program to the byte" python3 tests/histories.py
 counts "summaries agree with the second program to the byte" python3 tests/summaries.py
+counts "moves between versions agree with the second program to the byte" python3 tests/moves.py
 counts "a host in C links the archive and runs" bash tests/host.sh
 counts "memory holds contents in the caller's buffer alone, and no byte of the volume is stored twice" bash tests/snapshot.sh target/staticlib/libngt.a
 counts "calls that may store nothing run where nothing can be stored" python3 tests/readonly.py
