@@ -11,7 +11,7 @@
  * answered 1, and so is another cipher than 0 or 16 and another version than 1 or 2. Version and cipher are chosen at the format and
  * stay; every call works on both, but for discard.
  * The answer's image, 16 bytes: 0-3 number; 4-7 kind of place (0 none, 1 head, 2 record, 3 node, 4 flake); 8-11 first value
- * (record, node, nugget of a flake; for answer 11 how many are left); 12-15 second value (the flake). What isn't carried is
+ * (record, node, nugget of a flake; for answer 11 how many are left, for 16 its nugget); 12-15 second value (the flake). What isn't carried is
  * zero. After each accepted change the outside counter to keep is bytes 40-47 of the drive's image.
  * All numbers are little-endian. */
 #ifndef NGT_H
@@ -61,6 +61,16 @@ uint32_t ngt_discard(uint8_t drive[144], uint8_t *vol, size_t vol_len, uint32_t 
  * changed it. */
 uint32_t ngt_queue(uint8_t drive[144], uint8_t *vol, size_t vol_len, const uint8_t *requests, size_t requests_len,
                    const uint8_t *bytes, size_t bytes_len, uint8_t done[8], uint8_t answer[16]);
+
+/* Document 02, Item 6: the volume moved to the other version, into a second buffer: up from version 1 to 2, down from 2 to 1. Contents,
+ * keycounts, epochs, state and stored flakes stay; tags of flakes that are held are made anew once the old ones have passed, those of
+ * absent ones are copied. The volume is only read. Accepted, the drive becomes the second buffer's, its counter plus 1, and every
+ * byte of second is stored; the volume that was left is stale once the outside counter is advanced. Refused, no byte of drive or
+ * second is stored. 1; 2 for the volume, then for second, whose length is that of the version to enter; 7 head; 9 if the drive isn't
+ * of the version to leave; 7 whole; 7 flakes, those that are held, ascending; moving down 16 with the lowest nugget that has a spent
+ * flake which isn't held (discarded, and its nugget not rekeyed since); 13. */
+uint32_t ngt_move_up(uint8_t drive[144], const uint8_t *vol, size_t vol_len, uint8_t *second, size_t second_len, uint8_t answer[16]);
+uint32_t ngt_move_down(uint8_t drive[144], const uint8_t *vol, size_t vol_len, uint8_t *second, size_t second_len, uint8_t answer[16]);
 
 /* Document 02, Item 12: the contents as XTS-AES with two 256-bit keys after IEEE 1619, sectors of 512 bytes, numbered from 0: what a
  * plain dm-crypt device reads as aes-xts-plain64 with the 512-bit key data, tweak. data is the key for sectors, tweak the one for

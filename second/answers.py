@@ -19,14 +19,15 @@ class Place(NamedTuple):
 
 
 class Answer(NamedTuple):
-    """Number 0 is acceptance. `left` is what answer 11 carries."""
+    """Number 0 is acceptance. `left` is what answer 11 carries, `nugget` what 16 does."""
     number: int
     place: Place = Place(NOWHERE)
     left: int = 0
+    nugget: int = 0
 
     def image(self):
         """The 16 bytes of the C interface."""
-        first = self.left if self.number == 11 else self.place.first
+        first = {11: self.left, 16: self.nugget}.get(self.number, self.place.first)
         return (le(self.number, 4) + le(self.place.kind, 4) + le(first, 4)
                 + le(self.place.second, 4))
 

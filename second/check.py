@@ -11,7 +11,7 @@ import traceback
 
 from checks.tally import Tally
 
-GROUPS = ("vectors", "figures", "refusals", "edges", "discards", "queues", "twins", "summaries", "handing",
+GROUPS = ("vectors", "figures", "refusals", "edges", "discards", "queues", "twins", "summaries", "handing", "moves",
           "flips", "places", "garbage", "histories", "programs")
 SHOWN = 20
 

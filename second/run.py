@@ -9,6 +9,7 @@ import hashlib
 import sys
 
 import calls
+import moving
 from drive import BLANK
 
 MOST_BYTES = 64 << 20
@@ -68,8 +69,17 @@ class Machine:
     def keep(self, name):
         self.kept[name] = self.volume
 
+    def move(self, call, length):
+        """Into a second buffer of that length, which becomes the volume if the move is accepted."""
+        result = call(self.drive, self.volume, bytes(length))
+        self.drive = result.drive
+        self.volume = self.volume if result.answer.number else result.buffer
+        return result._replace(volume=self.volume)
+
     def call(self, name, values):
         """Makes a call and takes over what it leaves."""
+        if name in ("up", "down"):
+            return self.move(getattr(moving, name), *values)
         if name in ("format", "format_as", "mount"):
             result = getattr(calls, name[:6])(self.volume, *values)
         else:
@@ -93,6 +103,8 @@ CALLS = {
     "sweep": ("u32",),
     "finish": (),
     "discard": ("u32", "u32", "u32"),
+    "up": ("size",),
+    "down": ("size",),
     "report": (),
     "stored_flake": ("u32", "u32"),
 }
@@ -109,6 +121,8 @@ def told(name, result):
     words = [name, f"answer={answer.number}", f"place={answer.place.words() or '-'}"]
     if answer.number == 11:
         words.append(f"left={answer.left}")
+    if answer.number == 16:
+        words.append(f"nugget={answer.nugget}")
     words += [f"counter={result.drive.counter}", f"drive={short(result.drive.image())}",
               f"volume={short(result.volume)}"]
     pads = [f"{pad.nugget}/{pad.keycount}/{pad.flake}/{short(pad.secret)}" for pad in result.pads]

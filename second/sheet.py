@@ -11,7 +11,7 @@ LEAST, MOST = 72, 72 + 61440
 def class_of(answer_number):
     """The class of an answer; None for a number that is none: 14 is given to no answer."""
     for last, name in ((0, None), (3, "form"), (6, "key"), (7, "altered"), (12, "request"),
-                       (13, "spent"), (14, None), (15, "spent")):
+                       (13, "spent"), (14, None), (15, "spent"), (16, "request")):
         if answer_number <= last:
             return name
     return None

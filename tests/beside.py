@@ -13,10 +13,12 @@ from proved import ROOT, left, room
 
 sys.path.insert(0, str(ROOT / "second"))
 import calls  # noqa: E402
+import moving  # noqa: E402
 from drive import STEADY  # noqa: E402
 
 U8, U16, U32, U64, SIZE = ctypes.c_uint8, ctypes.c_uint16, ctypes.c_uint32, ctypes.c_uint64, ctypes.c_size_t
 NAMES = ("format", "mount", "read", "write", "queue", "export", "take_in", "begin", "sweep", "finish", "discard", "report", "stored_flake")
+MOVES = ("up", "down")
 
 
 def given_image(drive):
@@ -40,8 +42,9 @@ class Beside:
 
     def __init__(self, proved, tally):
         self.proved, self.tally, self.met = proved, tally, collections.Counter()
-        for name in NAMES:
-            setattr(calls, name, self.both(name, getattr(calls, name), getattr(self, name)))
+        for module, names in ((calls, NAMES), (moving, MOVES)):
+            for name in names:
+                setattr(module, name, self.both(name, getattr(module, name), getattr(self, name)))
 
     def both(self, name, second, mine):
         def call(*words):
@@ -125,3 +128,14 @@ class Beside:
 
     def discard(self, want, drive, volume, nugget, first, count):
         return self.changes(self.proved.ngt_discard, want, drive, volume, U32(nugget), U32(first), U32(count))
+
+    def moves(self, call, want, drive, volume, second):
+        mine = room(second)
+        given, got = self.on_drive(call, drive, volume, (mine, SIZE(len(second))), [mine])
+        return got, (left_image(given, drive, want), volume, want.buffer)
+
+    def up(self, want, drive, volume, second):
+        return self.moves(self.proved.ngt_move_up, want, drive, volume, second)
+
+    def down(self, want, drive, volume, second):
+        return self.moves(self.proved.ngt_move_down, want, drive, volume, second)

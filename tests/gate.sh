@@ -116,6 +116,7 @@ beside "histories of calls agree with the second program to the byte" python3 te
 beside "two volumes compared agree with the second program through the C interface" python3 tests/twins.py
 beside "a filesystem goes through import, export and a reader of its own" python3 tests/crypt.py
 beside "summaries agree with the second program to the byte" python3 tests/summaries.py
+beside "moves between versions agree with the second program to the byte" python3 tests/moves.py
 beside "lengths and lines agree with the second program through the C interface" python3 tests/lines.py
 beside "memory holds contents in the caller's buffer alone, and no byte of the volume is stored twice" bash tests/snapshot.sh
 beside "calls that may store nothing run where nothing can be stored" python3 tests/readonly.py

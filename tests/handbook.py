@@ -72,14 +72,14 @@ def main():
     tally = Tally()
     Beside(library("ngt"), tally)
     found = list(rows())
-    tally.same("a row an answer", "numbers", [number for number, _, _ in found], list(range(1, 16)))
+    tally.same("a row an answer", "numbers", [number for number, _, _ in found], list(range(1, 17)))
     for number, name, how in found:
         tally.same("its class", number, name, class_of(number) or "-")
         lines = re.fullmatch(r"`(.*)`", how)
         if lines:
             provoked(tally, number, lines.group(1))
     shown = [number for number, _, how in found if how.startswith("`")]
-    tally.same("rows with lines", "numbers", shown, list(range(1, 14)))
+    tally.same("rows with lines", "numbers", shown, [*range(1, 14), 16])
     program(tally)
     cited(tally, PAGE)
     hosts_say(tally)

@@ -22,3 +22,4 @@ no-fourteen (A.Left k) e = omega arith
 no-fourteen A.Moved e = omega arith
 no-fourteen A.CounterTop e = omega arith
 no-fourteen A.EpochTop e = omega arith
+no-fourteen (A.Discarded n) e = omega arith

@@ -53,6 +53,7 @@ refuses (A.Left x) h = refl
 refuses A.Moved h = refl
 refuses A.CounterTop h = refl
 refuses A.EpochTop h = refl
+refuses (A.Discarded x) h = refl
 
 -- a test of an accepted answer held, and what comes behind it is accepted
 pub granted : (b : Bool) (x r : Answer) → accepts r ≡ false → pick b x r ≡ A.Accepted → (b ≡ true) × (x ≡ A.Accepted)
@@ -76,6 +77,7 @@ accepted-is (A.Left k) e = absurd (clash e refl)
 accepted-is A.Moved e = absurd (clash e refl)
 accepted-is A.CounterTop e = absurd (clash e refl)
 accepted-is A.EpochTop e = absurd (clash e refl)
+accepted-is (A.Discarded n) e = absurd (clash e refl)
 
 -- a stage before one that accepts has the last word
 pub first-answers : (a next : Answer) → next ≡ A.Accepted → andThen a next ≡ a

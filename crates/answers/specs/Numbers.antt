@@ -7,7 +7,7 @@ use Rattle.answers.specs.declared.Answer.the-variants as A
 use Rattle.answers.specs.declared.Carried.{Carried}
 use Rattle.answers.specs.declared.Carried.the-variants as C
 
--- "A refusal carries one of fifteen numbers"; 0 is acceptance. Document 02, Item 7: "14 goes and stays unassigned."
+-- "A refusal carries one of fifteen numbers"; 0 is acceptance. Document 02, Item 7: "14 goes and stays unassigned." Item 6: "then 16".
 abbrev pub numberOf : Answer → ℕ
 numberOf A.Accepted = 0
 numberOf A.Limits = 1
@@ -24,8 +24,9 @@ numberOf (A.Left k) = 11
 numberOf A.Moved = 12
 numberOf A.CounterTop = 13
 numberOf A.EpochTop = 15
+numberOf (A.Discarded n) = 16
 
--- 7: "altered, with its place"; 11: "carries how many"; the others carry nothing
+-- 7: "altered, with its place"; 11: "carries how many"; 16: "some nugget .. (lowest reported)"; the others carry nothing
 abbrev pub carriedOf : Answer → Carried
 carriedOf A.Accepted = C.Nothing
 carriedOf A.Limits = C.Nothing
@@ -42,6 +43,7 @@ carriedOf (A.Left k) = C.Many k
 carriedOf A.Moved = C.Nothing
 carriedOf A.CounterTop = C.Nothing
 carriedOf A.EpochTop = C.Nothing
+carriedOf (A.Discarded n) = C.Nugget n
 
 -- the call is accepted
 abbrev pub accepts : Answer → Bool

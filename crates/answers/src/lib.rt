@@ -13,6 +13,7 @@ pub enum Place {
 }
 
 // A case for acceptance and one for each number that is given, in their order. Document 02, Item 7: "14 goes and stays unassigned."
+// Item 6: "then 16 (class request) when moving down and some nugget has a spent flake that isn't held (lowest reported)".
 pub enum Answer {
     Accepted,
     Limits,
@@ -29,16 +30,19 @@ pub enum Answer {
     Moved,
     CounterTop,
     EpochTop,
+    Discarded(u32),
 }
 
-// What an answer carries: 7 its place, 11 how many are left, the others nothing.
+// What an answer carries: 7 its place, 11 how many are left, 16 its nugget, the others nothing.
 pub enum Carried {
     Nothing,
     At(Place),
     Many(u32),
+    Nugget(u32),
 }
 
-// "Classes: answers 1 to 3 form, 4 to 6 key, 7 altered, 8 to 12 request, 13 to 15 spent." 14 is the number of no refusal (document 02, Item 7).
+// "Classes: answers 1 to 3 form, 4 to 6 key, 7 altered, 8 to 12 request, 13 to 15 spent." 14 is the number of no refusal, and 16 is of
+// class request (document 02, Items 7 and 6).
 pub enum Class {
     Nothing,
     Form,
@@ -68,6 +72,7 @@ pub fn number(a: Answer) -> u32
         Answer::Moved => 12,
         Answer::CounterTop => 13,
         Answer::EpochTop => 15,
+        Answer::Discarded(_) => 16,
     }
 }
 
@@ -91,6 +96,7 @@ pub fn carried_by(a: Answer) -> Carried
         Answer::Moved => Carried::Nothing,
         Answer::CounterTop => Carried::Nothing,
         Answer::EpochTop => Carried::Nothing,
+        Answer::Discarded(n) => Carried::Nugget(n),
     }
 }
 
@@ -112,6 +118,7 @@ pub fn class_of(number: u32) -> Class
         8..=12 => Class::Request,
         13 => Class::Spent,
         15 => Class::Spent,
+        16 => Class::Request,
         _ => Class::Nothing,
     }
 }

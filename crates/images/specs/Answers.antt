@@ -1,6 +1,6 @@
 -- The answer's image, 16 bytes: "0-3 number (0 accepted); 4-7 kind of place (0 none, 1 head, 2 record, 3 node, 4 flake); 8-11
--- first value (record, node, nugget of a flake; for 11 how many are left); 12-15 second value (the flake). What isn't carried
--- is zero."
+-- first value (record, node, nugget of a flake; for 11 how many are left; for 16 the nugget); 12-15 second value (the flake). What
+-- isn't carried is zero."
 use Prim.{tt}
 use Prim.Native.Nat.{ℕ}
 use mathlib.Core.List.{List, [], _∷_}
@@ -34,16 +34,19 @@ abbrev pub kindOf : Carried → ℕ
 kindOf K.Nothing = 0
 kindOf (K.At p) = kindAt p
 kindOf (K.Many k) = 0
+kindOf (K.Nugget n) = 0
 
 abbrev pub firstOf : Carried → ℕ
 firstOf K.Nothing = 0
 firstOf (K.At p) = firstAt p
 firstOf (K.Many k) = k
+firstOf (K.Nugget n) = n
 
 abbrev pub secondOf : Carried → ℕ
 secondOf K.Nothing = 0
 secondOf (K.At p) = secondAt p
 secondOf (K.Many k) = 0
+secondOf (K.Nugget n) = 0
 
 -- number, kind of place, first value, second value
 abbrev pub answerRow : List Field

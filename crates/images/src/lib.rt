@@ -24,6 +24,7 @@ fn kind(c: Carried) -> u32
             Place::Flake(_, _) => 4,
         },
         Carried::Many(_) => 0,
+        Carried::Nugget(_) => 0,
     }
 }
 
@@ -40,6 +41,7 @@ fn first(c: Carried) -> u32
             Place::Flake(n, _) => n,
         },
         Carried::Many(k) => k,
+        Carried::Nugget(n) => n,
     }
 }
 
@@ -56,6 +58,7 @@ fn second(c: Carried) -> u32
             Place::Flake(_, f) => f,
         },
         Carried::Many(_) => 0,
+        Carried::Nugget(_) => 0,
     }
 }
 

@@ -65,6 +65,7 @@ pub carried-le : (k : Carried) → length (carriedText k) ≤ 40
 carried-le K.Nothing = lit≤ tt
 carried-le (K.At p) = place-le p
 carried-le (K.Many k) = lit≤ tt
+carried-le (K.Nugget n) = lit≤ tt
 
 pub put-as : {s x : List ℕ} {at r : ℕ} (p q : List ℕ) → p ≡ q → Put s at p r x → Put s at q r x
 put-as p q e f = record { behind = rw e at (f .behind); stored = rw e at (f .stored) }

@@ -57,6 +57,7 @@ abbrev pub carriedText : Carried → List ℕ
 carriedText K.Nothing = []
 carriedText (K.At p) = placeText p
 carriedText (K.Many k) = []
+carriedText (K.Nugget n) = []
 
 -- `refused=6 class=key`
 unfoldable pub refusalLine : Answer → List ℕ

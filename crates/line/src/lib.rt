@@ -179,6 +179,7 @@ fn put_carried(out: &mut [u8], at: usize, carried: Carried) -> usize
         Carried::Nothing => at,
         Carried::At(p) => put_place(out, at, p),
         Carried::Many(_) => at,
+        Carried::Nugget(_) => at,
     }
 }
 

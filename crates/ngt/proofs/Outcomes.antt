@@ -78,3 +78,9 @@ lines-ngt-sheet-line κs a x y u v p q = (agree (p .put .behind) (q .put .behind
 
 pub lines-ngt-nugget-line : OneOutcome fn.lines.ngt_nugget_line.ended fn.lines.ngt_nugget_line.Reads.Post
 lines-ngt-nugget-line κs a x y u v p q = (agree (p .put .behind) (q .put .behind), refl ∥ refl ∥ refl ∥ agree (p .put .stored) (q .put .stored) ∥ agree (p .shown) (q .shown) ∥ refl)
+
+pub moves-ngt-move-up : OneOutcome fn.moves.ngt_move_up.ended fn.moves.ngt_move_up.Reads.Post
+moves-ngt-move-up κs a x y u v p q = (agree (p .tells .told) (q .tells .told), agree (p .drive) (q .drive) ∥ refl ∥ agree (p .volume) (q .volume) ∥ agree (p .tells .shown) (q .tells .shown) ∥ refl)
+
+pub moves-ngt-move-down : OneOutcome fn.moves.ngt_move_down.ended fn.moves.ngt_move_down.Reads.Post
+moves-ngt-move-down κs a x y u v p q = (agree (p .tells .told) (q .tells .told), agree (p .drive) (q .drive) ∥ refl ∥ agree (p .volume) (q .volume) ∥ agree (p .tells .shown) (q .tells .shown) ∥ refl)

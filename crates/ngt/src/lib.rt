@@ -1,6 +1,7 @@
 // The C interface of the drive: each call with its drive and its answer as bytes.
 // It touches the calls' crates, `packed` and `images` for the bytes, and `fleets` for the fleet's line.
 mod lines;
+mod moves;
 mod summary;
 
 use answers::Answer;

@@ -49,6 +49,9 @@ enum-told-12 c = search needs
 enum-told-13 : tie.Need-enum-told-13
 enum-told-13 c = search needs
 
+enum-known-a-3 : tie.Need-enum-known-a-3
+enum-known-a-3 c = search needs
+
 returns : tie.Need-returns
 returns c = search needs
 
@@ -94,6 +97,9 @@ returns-14 c = search needs
 returns-15 : tie.Need-returns-15
 returns-15 c = search needs
 
+returns-16 : tie.Need-returns-16
+returns-16 c = sym (ap carriedOf (c .before .a3 .given .1))
+
 pub carried-by-spec : {M : Type 1} → statement M
 carried-by-spec =
     tie.close
@@ -113,6 +119,7 @@ carried-by-spec =
     enum-told-11
     enum-told-12
     enum-told-13
+    enum-known-a-3
     returns
     returns-2
     returns-3
@@ -127,4 +134,5 @@ carried-by-spec =
     returns-12
     returns-13
     returns-14
-    returns-15)
+    returns-15
+    returns-16)

@@ -24,8 +24,14 @@ same-length c = search needs
 returns-2 : tie.Need-returns-2
 returns-2 c = rw (c .before .before .before .before .before .carried .given .1) (c .before .before .put-place .ensures)
 
+enum-told-3 : tie.Need-enum-told-3
+enum-told-3 c = search needs
+
 returns-3 : tie.Need-returns-3
 returns-3 c = rw (c .enum-told2 .given .1) (put-none _ _)
+
+returns-4 : tie.Need-returns-4
+returns-4 c = rw (c .enum-told3 .given .1) (put-none _ _)
 
 pub put-carried-spec : {M : Type 1} → statement M
 put-carried-spec =
@@ -35,7 +41,9 @@ put-carried-spec =
     enum-known-carried
     put-place-requires
     enum-told-2
+    enum-told-3
     returns
     same-length
     returns-2
-    returns-3)
+    returns-3
+    returns-4)

@@ -1,0 +1,5 @@
+pub mod Parts
+pub mod After
+pub mod Back
+pub mod Moves
+pub mod Journeys

@@ -1,0 +1,4 @@
+pub mod AnswerLaws
+pub mod CarryLaws
+pub mod Outcomes
+pub mod Refusals
