@@ -61,7 +61,7 @@ def carried(drive, volume, after):
             stored = stored_bytes(volume, lay, n, f)
             tag = volume[lay.tag_at(n, f):lay.tag_at(n, f) + TAG]
             if record.held >> f & 1:
-                tag = keys.tag(key_of(after, record, n), record.keycount, f, stored)
+                tag = keys.tag(after.version, key_of(after, record, n), n, record.keycount, f, stored)
             work[entered.flake_at(n, f):entered.flake_at(n, f) + lay.f] = stored
             work[entered.tag_at(n, f):entered.tag_at(n, f) + TAG] = tag
     work[entered.tree:entered.flakes] = tree.build(work, entered)

@@ -42,7 +42,7 @@ def lines(tally):
                          (Place(NODE, 32767), "node 32767"), (Place(RECORD, 0), "record 0")):
         tally.same(f"line of 7 {words}", sheet.refusal_line(Answer(7, place)),
                    f"refused=7 class=altered place={words}")
-    for number in (-1, 0, 14, 16, 255):
+    for number in (-1, 0, 14, 17, 255):
         tally.same(f"class of {number}", sheet.class_of(number), None)
 
 

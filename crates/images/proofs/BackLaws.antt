@@ -33,6 +33,7 @@ of-values (A.Left k) = refl
 of-values A.Moved = refl
 of-values A.CounterTop = refl
 of-values A.EpochTop = refl
+of-values (A.Discarded n) = refl
 
 pub answer-read : (a : Answer) → AllFit answerRow (answerValues a) → answerIn (answerImage a) ≡ a
 unfolding answerIn

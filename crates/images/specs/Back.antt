@@ -1,5 +1,5 @@
 -- "The refusal's line of an answer's image": the refusal that an image tells. It "looks at kind and values for number 7 alone",
--- 11's count apart, which no line shows.
+-- 11's count and 16's nugget apart, which no line shows.
 use Prim.Native.Nat.{ℕ}
 use mathlib.Core.List.{List}
 use lib.Dec.{eqb}
@@ -32,7 +32,7 @@ refusalIn n kind a b =
     (pick (eqb n 10) A.SameSecret
     (pick (eqb n 11) (A.Left a)
     (pick (eqb n 12) A.Moved
-    (pick (eqb n 13) A.CounterTop (pick (eqb n 15) A.EpochTop A.Accepted)))))))))))))
+    (pick (eqb n 13) A.CounterTop (pick (eqb n 15) A.EpochTop (pick (eqb n 16) (A.Discarded a) A.Accepted))))))))))))))
 
 -- the four numbers of 16 bytes, read as the image has them
 unfoldable pub answerIn : List ℕ → Answer

@@ -126,6 +126,7 @@ fn refusal_in(n: u32, kind: u32, a: u32, b: u32) -> Answer
         12 => Answer::Moved,
         13 => Answer::CounterTop,
         15 => Answer::EpochTop,
+        16 => Answer::Discarded(a),
         _ => Answer::Accepted,
     }
 }

@@ -66,22 +66,27 @@ returns-14 c = rw (c .match .keys14) refl
 
 returns-15 : tie.Need-returns-15
 unfolding refusalIn
-returns-15 c =
+returns-15 c = rw (c .match .keys15) refl
+
+returns-16 : tie.Need-returns-16
+unfolding refusalIn
+returns-16 c =
     rw (
-      ne-eqb (c .before .args .n) 1 (c .match .rest .0 .0 .0 .0 .0 .0 .0 .0 .0 .0 .0 .0 .0 .1),
-      ne-eqb (c .before .args .n) 2 (c .match .rest .0 .0 .0 .0 .0 .0 .0 .0 .0 .0 .0 .0 .1),
-      ne-eqb (c .before .args .n) 3 (c .match .rest .0 .0 .0 .0 .0 .0 .0 .0 .0 .0 .0 .1),
-      ne-eqb (c .before .args .n) 4 (c .match .rest .0 .0 .0 .0 .0 .0 .0 .0 .0 .0 .1),
-      ne-eqb (c .before .args .n) 5 (c .match .rest .0 .0 .0 .0 .0 .0 .0 .0 .0 .1),
-      ne-eqb (c .before .args .n) 6 (c .match .rest .0 .0 .0 .0 .0 .0 .0 .0 .1),
-      ne-eqb (c .before .args .n) 7 (c .match .rest .0 .0 .0 .0 .0 .0 .0 .1),
-      ne-eqb (c .before .args .n) 8 (c .match .rest .0 .0 .0 .0 .0 .0 .1),
-      ne-eqb (c .before .args .n) 9 (c .match .rest .0 .0 .0 .0 .0 .1),
-      ne-eqb (c .before .args .n) 10 (c .match .rest .0 .0 .0 .0 .1),
-      ne-eqb (c .before .args .n) 11 (c .match .rest .0 .0 .0 .1),
-      ne-eqb (c .before .args .n) 12 (c .match .rest .0 .0 .1),
-      ne-eqb (c .before .args .n) 13 (c .match .rest .0 .1),
-      ne-eqb (c .before .args .n) 15 (c .match .rest .1),
+      ne-eqb (c .before .args .n) 1 (c .match .rest .0 .0 .0 .0 .0 .0 .0 .0 .0 .0 .0 .0 .0 .0 .1),
+      ne-eqb (c .before .args .n) 2 (c .match .rest .0 .0 .0 .0 .0 .0 .0 .0 .0 .0 .0 .0 .0 .1),
+      ne-eqb (c .before .args .n) 3 (c .match .rest .0 .0 .0 .0 .0 .0 .0 .0 .0 .0 .0 .0 .1),
+      ne-eqb (c .before .args .n) 4 (c .match .rest .0 .0 .0 .0 .0 .0 .0 .0 .0 .0 .0 .1),
+      ne-eqb (c .before .args .n) 5 (c .match .rest .0 .0 .0 .0 .0 .0 .0 .0 .0 .0 .1),
+      ne-eqb (c .before .args .n) 6 (c .match .rest .0 .0 .0 .0 .0 .0 .0 .0 .0 .1),
+      ne-eqb (c .before .args .n) 7 (c .match .rest .0 .0 .0 .0 .0 .0 .0 .0 .1),
+      ne-eqb (c .before .args .n) 8 (c .match .rest .0 .0 .0 .0 .0 .0 .0 .1),
+      ne-eqb (c .before .args .n) 9 (c .match .rest .0 .0 .0 .0 .0 .0 .1),
+      ne-eqb (c .before .args .n) 10 (c .match .rest .0 .0 .0 .0 .0 .1),
+      ne-eqb (c .before .args .n) 11 (c .match .rest .0 .0 .0 .0 .1),
+      ne-eqb (c .before .args .n) 12 (c .match .rest .0 .0 .0 .1),
+      ne-eqb (c .before .args .n) 13 (c .match .rest .0 .0 .1),
+      ne-eqb (c .before .args .n) 15 (c .match .rest .0 .1),
+      ne-eqb (c .before .args .n) 16 (c .match .rest .1),
     ) refl
 
 pub refusal-in-spec : {M : Type 1} → statement M
@@ -103,4 +108,5 @@ refusal-in-spec =
     returns-12
     returns-13
     returns-14
-    returns-15)
+    returns-15
+    returns-16)
