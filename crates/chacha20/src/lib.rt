@@ -1,5 +1,5 @@
 // The stream cipher ChaCha20: RFC 8439, sections 2.1 to 2.4.
-// It touches `words`, and of `base` the definitions alone.
+// It touches `words`, and of `base` and `streams` the definitions and laws alone.
 mod lanes;
 
 ghost use mathlib.Core.Path.{_≡_};

@@ -1,15 +1,15 @@
 use borrow.Author.Needs.{needs}
 use mathlib.Core.Path.{_≡_, refl, _∙_}
-use Prim.Native.Nat.{_<_, _+_, _-_, _^_}
+use Prim.Native.Nat.{_+_, _-_}
 use native.Mathlib.Omega.{arith}
 use lib.ListN.{length}
 use borrow.Rule.Slice.PartMut.{same-len-mid}
-use Rattle.chacha20.proofs.LayLaws.{Left, left-none, left-more, left-on, left-all}
+use Rattle.chacha20.proofs.LayLaws.{Left, left-none, left-more, left-all}
 use Rattle.chacha20.proofs.lay_rest.Statement.{statement}
 use Rattle.chacha20.proofs.lay_rest.Tie as tie
 
 abbrev Inv-loop : tie.InvT-loop
-Inv-loop d₀ counter s₀ c₀ at₀ d s c at = (length d ≡ length d₀) × (c < 2 ^ 32) × Left s₀ counter d₀ s c at d
+Inv-loop d₀ counter s₀ c₀ at₀ d s c at = (length d ≡ length d₀) × Left s₀ counter d₀ s c at d
 
 abbrev μ-loop : tie.MeasureT-loop
 μ-loop d₀ counter s₀ c₀ at₀ d s c at = length d₀ - at
@@ -18,7 +18,7 @@ start-state-requires : tie.Need-start-state-requires Inv-loop μ-loop
 start-state-requires c κs = search needs
 
 loop-holds : tie.Need-loop-holds Inv-loop μ-loop
-loop-holds c = (refl, search needs, left-none _ _ _)
+loop-holds c = (refl, left-none _ _ _)
 
 block-from-requires : tie.Need-block-from-requires Inv-loop μ-loop
 block-from-requires c κs = search needs
@@ -62,16 +62,14 @@ loop-again c =
     let n = c .before .before .before .before .before .before .room .result in
     let long = same-len-mid (s .at) (s .at + n - s .at) (s .d) (c .before .before .before .xor .last .0) (c .before .before .before .xor .kept .0) in (
       long ∙ s .inv .0,
-      omega arith,
-      left-on _ (s .at) n _ (omega arith) (λ few. omega arith)
-          (left-more (s .d) (s .c) (s .at) n (s .at + n - s .at) (s .inv .2) (s .inv .1) (c .before .before .before .before .before .before .room .ensures) (omega arith) (omega arith) (c .before .before .before .before .before .before .before .block-from .ensures) (c .before .before .before .xor .ensures) (c .wrapping-add-u32 .ensures)),
+      left-more (s .d) (s .c) (s .at) n (s .at + n - s .at) (s .inv .1) (c .before .before .before .before .before .before .room .ensures) (omega arith) (omega arith) (c .before .before .before .before .before .before .before .block-from .ensures) (c .before .before .before .xor .ensures) (c .wrapping-add-u32 .ensures),
     )
 
 same-length : tie.Need-same-length Inv-loop μ-loop
 same-length c = search needs
 
 returns : tie.Need-returns Inv-loop μ-loop
-returns c = left-all _ _ _ _ _ (c .before .loop .inv .2) (omega arith) (c .before .before .start-state .ensures)
+returns c = left-all _ _ _ _ _ (c .before .loop .inv .1) (omega arith) (c .before .before .start-state .ensures) (search needs)
 
 pub lay-rest-spec : {M : Type 1} → statement M
 lay-rest-spec =
