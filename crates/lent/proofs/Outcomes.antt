@@ -99,3 +99,15 @@ queue-at-post κs a r e = claim (λ w. fn.queue_at.clauses (w .𝓤) (w .H) (w .
 
 pub queue-at : OneOutcome fn.queue_at.ended queue-at-post
 queue-at κs a x y u v p q = (agree (p .0) (q .0), agree (p .1 .0) (q .1 .0) ∥ agree (p .1 .1) (q .1 .1) ∥ refl)
+
+abbrev up-at-post : Promise fn.up_at.ended
+up-at-post κs a r e = claim (λ w. fn.up_at.clauses (w .𝓤) (w .H) (w .𝓖 .A) (w .𝓜 .mem) (w .𝓡 .run) κs a .ensures tt r e) (λ w. r-last _) (λ w. refl)
+
+pub up-at : OneOutcome fn.up_at.ended up-at-post
+up-at κs a x y u v p q = (agree (p .0) (q .0), agree (p .1 .0) (q .1 .0) ∥ refl ∥ agree (p .1 .1) (q .1 .1) ∥ refl)
+
+abbrev down-at-post : Promise fn.down_at.ended
+down-at-post κs a r e = claim (λ w. fn.down_at.clauses (w .𝓤) (w .H) (w .𝓖 .A) (w .𝓜 .mem) (w .𝓡 .run) κs a .ensures tt r e) (λ w. r-last _) (λ w. refl)
+
+pub down-at : OneOutcome fn.down_at.ended down-at-post
+down-at κs a x y u v p q = (agree (p .0) (q .0), agree (p .1 .0) (q .1 .0) ∥ refl ∥ agree (p .1 .1) (q .1 .1) ∥ refl)

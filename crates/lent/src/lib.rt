@@ -1,5 +1,5 @@
 // The calls on a drive that is lent: "The open drive is one record that the calls change where it stands".
-// It touches `opening`, `reading`, `reports`, `writing`, `rekeying`, `discarding` and `queues`, whose by-value calls the functions here wrap, and `drive`, `layout` and `answers`.
+// It touches `opening`, `reading`, `reports`, `writing`, `rekeying`, `discarding`, `moving` and `queues`, whose by-value calls the functions here wrap, and `drive`, `layout` and `answers`.
 use answers::Answer;
 use discarding::Freed;
 use drive::Drive;
@@ -20,6 +20,7 @@ ghost use Rattle.changes.specs.Rekey.{beginDone, beginVolume, sweepDone, sweepV
 ghost use Rattle.handing.specs.Handing.{exportAnswer, exportBuffer, importDone, importVolume};
 ghost use Rattle.changes.specs.Discard.{discardDone, discardVolume};
 ghost use Rattle.queues.specs.Queue.{queueDone, queueVolume};
+ghost use Rattle.moving.specs.Move.{upDone, upSecond, downDone, downSecond};
 
 // "Format takes N, P, F, salt, secret and the outside counter."
 pub fn format_at(
@@ -180,4 +181,28 @@ pub fn queue_at(d: &mut Drive, vol: &mut [u8], rs: &[Request], bytes: &[u8]) -> 
     let r = queues::queue(c, vol, rs, bytes);
     *d = r.drive;
     r.outcome
+}
+
+// Document 02, Item 6: "Moving up copies a version 1 volume into a second lent buffer as version 2": the drive becomes the second buffer's.
+pub fn up_at(d: &mut Drive, vol: &[u8], second: &mut [u8]) -> Answer
+    ensures { λ r. ⌜ (r ≡ upDone (now (d .entry)) (now (vol .entry)) (length (now (second .entry))) .answer)
+        × ((now (d .exit) ≡ upDone (now (d .entry)) (now (vol .entry)) (length (now (second .entry))) .drive)
+        × (now (second .exit) ≡ upSecond (now (d .entry)) (now (vol .entry)) (now (second .entry)))) ⌝ }
+{
+    let c = *d;
+    let r = moving::up(c, vol, second);
+    *d = r.drive;
+    r.answer
+}
+
+// "Moving down is the reverse."
+pub fn down_at(d: &mut Drive, vol: &[u8], second: &mut [u8]) -> Answer
+    ensures { λ r. ⌜ (r ≡ downDone (now (d .entry)) (now (vol .entry)) (length (now (second .entry))) .answer)
+        × ((now (d .exit) ≡ downDone (now (d .entry)) (now (vol .entry)) (length (now (second .entry))) .drive)
+        × (now (second .exit) ≡ downSecond (now (d .entry)) (now (vol .entry)) (now (second .entry)))) ⌝ }
+{
+    let c = *d;
+    let r = moving::down(c, vol, second);
+    *d = r.drive;
+    r.answer
 }

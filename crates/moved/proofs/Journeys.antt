@@ -14,6 +14,7 @@ use Rattle.answers.specs.declared.Answer.{Answer}
 use Rattle.answers.specs.declared.Answer.the-variants as A
 use Rattle.answers.specs.Numbers.{accepts}
 use Rattle.answers.proofs.StageLaws.{goes-on}
+use Rattle.layout.specs.declared.Shape.{Shape}
 use Rattle.layout.specs.Shape.{knownVersion}
 use Rattle.layout.specs.Parts.{lengthOf}
 use Rattle.records.specs.declared.Record.{Record}
@@ -46,12 +47,13 @@ use Rattle.history.proofs.Sound.{Sound, counter-room, same-keeps}
 use Rattle.history.proofs.Steps.{start-sound, step-sound, mount-back}
 use Rattle.history.proofs.Table.{exactly}
 use Rattle.history.proofs.Columns.{follows}
-use Rattle.history.proofs.Counters.{run-raised, head-counter}
+use Rattle.history.proofs.Counters.{step-base, run-raised, head-counter}
+use Rattle.history.proofs.Demands.{begun-base}
 use Rattle.moving.specs.Carry.{entered, movedDrive, movedVolume}
 use Rattle.moving.specs.Move.{ascending, heldTests, partsTests, leaveTests, moveAnswer, moveDone}
 use Rattle.moving.proofs.AnswerLaws.{Leaves, move-told, all-accepted}
 use Rattle.moved.specs.Moves.{Typed}
-use Rattle.moved.specs.Journeys.{Turn, does, up, down, moveWorld, turn, travel, journey, moveDue, MovesExactly, CallsExactly, JourneyMounts, JourneyLists, JourneyUnderLastPad, changesTurn, amongTurns, JourneyStale}
+use Rattle.moved.specs.Journeys.{Turn, does, up, down, moveWorld, turn, travel, journey, sizesOf, JourneySizes, moveDue, MovesExactly, CallsExactly, JourneyMounts, JourneyLists, JourneyUnderLastPad, changesTurn, amongTurns, JourneyStale}
 use Rattle.moved.proofs.After as After
 
 -- what a state keeps of the old secret it keeps again
@@ -145,6 +147,30 @@ travel-sound w (t ∷ turns) s = travel-sound (turn w t) turns (turn-sound w t s
 
 pub sound : (start : Start) (turns : List Turn) → Sound (journey start turns)
 sound start turns = travel-sound (begun start) turns (start-sound start)
+
+-- a move changes the version alone
+move-sizes : (leave enter : ℕ) (w : World) (second : List ℕ) → let d = moveWorld leave enter w second .drive in sizesOf (shapeOf d) (d .salt) ≡ sizesOf (shapeOf (w .drive)) (w .drive .salt)
+unfolding moveWorld moveDone worldAfter advanced
+move-sizes leave enter w second = go (accepts (moveAnswer leave enter (w .drive) (w .vol) (length second)))
+  where
+    go : (b : Bool) → let d = pick b (movedDrive enter (w .drive) (w .vol)) (w .drive) in sizesOf (shapeOf d) (d .salt) ≡ sizesOf (shapeOf (w .drive)) (w .drive .salt)
+    go true = refl
+    go false = refl
+
+turn-sizes : (w : World) (t : Turn) → Sound w → let d = turn w t .drive in sizesOf (shapeOf d) (d .salt) ≡ sizesOf (shapeOf (w .drive)) (w .drive .salt)
+unfolding turn
+turn-sizes w (does c) s = ap (λ (b : Shape × List ℕ). sizesOf (b .0) (b .1)) (step-base w c s)
+turn-sizes w (up second) s = move-sizes 1 2 w second
+turn-sizes w (down second) s = move-sizes 2 1 w second
+
+travel-sizes : (w : World) (turns : List Turn) → Sound w → let d = travel w turns .drive in sizesOf (shapeOf d) (d .salt) ≡ sizesOf (shapeOf (w .drive)) (w .drive .salt)
+unfolding travel
+travel-sizes w [] s = refl
+travel-sizes w (t ∷ turns) s = travel-sizes (turn w t) turns (turn-sound w t s) ∙ turn-sizes w t s
+
+pub journey-sizes : JourneySizes
+journey-sizes start turns =
+    travel-sizes (begun start) turns (start-sound start) ∙ ap (λ (b : Shape × List ℕ). sizesOf (b .0) (b .1)) (begun-base start)
 
 -- no test of an untouched volume fails but those of the table
 due-exactly : (w : World) → Sound w → (leave enter len : ℕ) → moveAnswer leave enter (w .drive) (w .vol) len ≡ moveDue leave enter w len

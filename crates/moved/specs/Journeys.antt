@@ -10,6 +10,7 @@ use Rattle.base.specs.Pick.{pick, either}
 use Rattle.answers.specs.declared.Answer.{Answer}
 use Rattle.answers.specs.declared.Answer.the-variants as A
 use Rattle.answers.specs.Numbers.{accepts}
+use Rattle.layout.specs.declared.Shape.{Shape}
 use Rattle.layout.specs.Parts.{lengthOf}
 use Rattle.records.specs.Journal.{bit}
 use Rattle.records.specs.Record.{recordOf}
@@ -49,6 +50,17 @@ travel w (t ∷ turns) = travel (turn w t) turns
 
 abbrev pub journey : Start → List Turn → World
 journey start turns = travel (begun start) turns
+
+-- N, P, F and salt
+abbrev pub sizesOf : Shape → List ℕ → ℕ × (ℕ × (ℕ × List ℕ))
+sizesOf s salt = (s .n, (s .p, (s .f, salt)))
+
+-- They stay through every journey. The version is the last move's, or the format's.
+abbrev pub JourneySizes : Type 0
+JourneySizes =
+    (start : Start) (turns : List Turn)
+    → let d = journey start turns .drive in
+    sizesOf (shapeOf d) (d .salt) ≡ sizesOf (start .shape) (start .salt)
 
 -- the table: 2: the second buffer; 9: another version; 16: a spent flake that isn't held, the lowest nugget; 13: counter at its top
 abbrev pub moveDue : ℕ → ℕ → World → ℕ → Answer
