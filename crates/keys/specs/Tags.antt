@@ -13,11 +13,11 @@ use Rattle.keys.specs.declared.Lock.{Lock}
 use Rattle.keys.specs.Keys.{tagKey}
 use Rattle.keys.specs.Pads.{Size}
 
--- RFC 8439 2.8: "the padding is up to 15 zero bytes, and it brings the total length so far to an integral multiple of 16"
+-- RFC 8439 2.8: behind each of the two go zeros, up to a multiple of 16 bytes; whole blocks come before both
 unfoldable pub pad16 : List ℕ → List ℕ
 pad16 l = replicate ((16 - length l % 16) % 16) 0
 
--- 2.8: "the AAD", "padding1", "the ciphertext", "padding2", and the length of each "(as a 64-bit little-endian integer)"
+-- 2.8: the associated data and its padding, the text and its padding, and how long the two are, in 8 bytes each
 unfoldable pub laidOut : List ℕ → List ℕ → List ℕ
 laidOut ad text = (ad ++ pad16 ad) ++ (text ++ (pad16 text ++ (le 8 (length ad) ++ le 8 (length text))))
 

@@ -46,7 +46,7 @@ abbrev pub OneMessage : Type 0
 OneMessage = (a b : Message) → Wide a → Wide b → bytesOf a ≡ bytesOf b → a ≡ b
 
 -- No tag key of version 1 has the message of one of a later version: a nugget key, a flake and a keycount that a volume of each has alike
--- give two tag keys, so neither is used for two messages.
+-- make two messages, and so, unless BLAKE2s is broken, two tag keys.
 abbrev pub VersionsApart : Type 0
 VersionsApart =
     (first later f g k l : ℕ) → isFirst first ≡ true → isFirst later ≡ false → tagMessage (tagLetter first) f k ≡ tagMessage (tagLetter later) g l → ⊥
