@@ -1,75 +1,47 @@
 -- The example, by the theorems over histories: no hash is computed.
 use mathlib.Core.Path.{_≡_, refl, sym, ap, _∙_}
-use mathlib.Core.Bool.{true, false, not}
+use mathlib.Core.Bool.{Bool, true, false, not}
 use mathlib.Core.List.{List, [], _∷_}
 use Prim.Native.Nat.{ℕ, _+_, _*_, _<_}
 use native.Mathlib.Omega.{arith}
-use lib.ListN.{getD}
-use borrow.Author.Tests.{eq-eqb, lt-ltb, le-leb}
+use lib.Dec.{leb, ltb}
+use borrow.Author.Tests.{eq-eqb, ne-eqb, lt-ltb, le-leb}
+use Rattle.base.specs.Pick.{both, either}
 use Rattle.base.specs.Lists.{tab, same}
-use Rattle.base.proofs.PickLaws.{yes, clash, both-on}
-use Rattle.base.proofs.TabLaws.{tab-ext}
+use Rattle.base.proofs.PickLaws.{yes, no, both-left, both-right, both-on, both-no}
 use Rattle.answers.specs.declared.Answer.the-variants as A
 use Rattle.answers.specs.Numbers.{accepts}
 use Rattle.layout.specs.declared.Shape.{Shape}
-use Rattle.layout.specs.Shape.{shape}
-use Rattle.drive.specs.declared.Drive.{Drive}
+use Rattle.layout.specs.Shape.{shapeAs}
 use Rattle.drive.specs.Drive.{shapeOf, counterTop}
-use Rattle.drive.specs.Opening.{openingOf}
-use Rattle.drive.proofs.OpeningLaws.{blank-measure, blank-limits}
 use Rattle.opening.specs.Format.{freshDrive}
 use Rattle.records.specs.Record.{recordOf}
-use Rattle.reading.specs.Read.{readAnswer, readBuffer}
-use Rattle.reports.specs.Report.{reportAnswer}
-use Rattle.reports.specs.Stored.{storedAnswer}
-use Rattle.reports.proofs.Exact.{stored-shown}
-use Rattle.answers.specs.Stages.{andThen}
-use Rattle.changes.specs.Write.{writeAnswer}
-use Rattle.changes.specs.Rekey.{beginAnswer, sweepAnswer, finishAnswer}
-use Rattle.changes.specs.Discard.{discardAnswer}
+use Rattle.reading.specs.Read.{readBuffer}
+use Rattle.answers.proofs.StageLaws.{accepted-is}
+use Rattle.changes.specs.Discard.{discardsAt}
 use Rattle.history.specs.World.{World, Call, mount, write, begin, sweep, finish, discard, asks, read, report, stored}
-use Rattle.history.specs.Step.{answerTo, step}
+use Rattle.history.specs.Step.{answerTo, step, altersAt}
 use Rattle.history.specs.History.{Start, begun, run, history, among}
-use Rattle.history.specs.Answers.{changing, hasMoved, isLeft, nuggetsLeft, Columns, columns, columnsOf, columnsAfter, allAccepted, reportOn}
+use Rattle.history.specs.Answers.{changing, hasMoved, isLeft, nuggetsLeft, noneHeld, Columns, columns, columnsOf, columnsAfter, allAccepted, reportOn}
 use Rattle.history.proofs.Counts.{many-none}
-use Rattle.history.proofs.Starts.{one-nugget}
+use Rattle.history.proofs.Starts.{one-nugget-two}
 use Rattle.history.proofs.Sound.{Sound}
 use Rattle.history.proofs.Steps.{start-sound, begun-drive, step-sound, sound, mount-same}
 use Rattle.history.proofs.Table.{exactly}
-use Rattle.history.proofs.Written.{write-accepted}
+use Rattle.history.proofs.Written.{alike, write-accepted}
+use Rattle.history.proofs.Complete.{accepted-append}
 use Rattle.history.proofs.Counters.{run-base}
-use Rattle.history.proofs.Demands.{shape-kept, reads-back, written-last, share-full}
+use Rattle.history.proofs.Demands.{shape-kept, reads-back, written-last, discarded-reads-zero, share-full}
 use Rattle.history.proofs.Moves.{begin-accepted, sweep-accepted, finish-accepted, begin-moves-none, swept-own}
 use Rattle.history.proofs.Columns.{follows, columns-start}
 use Rattle.history.proofs.Told.{report-tells}
 use Rattle.history.proofs.Old.{old-secret-needed}
-use Rattle.assurances.specs.Example.{secretOf, example, Example, FullIsNotFree, takesDrive, BlankRefused, StoredShows}
-
-pub blank-refused : BlankRefused
-unfolding readAnswer writeAnswer beginAnswer sweepAnswer finishAnswer discardAnswer reportAnswer storedAnswer andThen
-blank-refused w c e h = go c h
-  where
-    shut : openingOf (w .drive) (w .vol) ≡ A.Limits
-    shut = ap (λ (d : Drive). openingOf d (w .vol)) e ∙ blank-limits (w .vol)
-
-    go : (c : Call) → takesDrive c ≡ true → answerTo w c ≡ A.Limits
-    go (mount any) q = absurd (clash q refl)
-    go (write o bytes) q = rw shut refl
-    go (begin secret) q = rw shut refl
-    go (sweep n) q = rw shut refl
-    go finish q = rw shut refl
-    go (discard n first count) q = rw shut refl
-    go (asks (read o buffer)) q = rw shut refl
-    go (asks report) q = rw shut refl
-    go (asks (stored n f)) q = rw (e, blank-measure (w .vol)) refl
-
-pub stored-shows : StoredShows
-stored-shows w n f e = stored-shown (w .drive) (w .vol) n f e
+use Rattle.assurances.specs.Example.{secretOf, example, Example, FullIsNotFree}
 
 -- what a step of the example is made on
 record At (w : World) (k : Columns) : Type 0 where
   sounds : Sound w
-  shaped : shapeOf (w .drive) ≡ shape 1 2 64
+  shaped : shapeOf (w .drive) ≡ shapeAs 2 1 2 64
   tells : columnsOf w ≡ k
 
 at-next : (w : World) (k : Columns) (c : Call) → At w k → answerTo w c ≡ A.Accepted → At (step w c) (columnsAfter w k c)
@@ -96,6 +68,9 @@ module _ (w : World) (k : Columns) (x : At w k) where
   f-is : w .drive .f ≡ 64
   f-is = ap (λ (s : Shape). s .f) (x .shaped)
 
+  version-is : w .drive .version ≡ 2
+  version-is = ap (λ (s : Shape). s .version) (x .shaped)
+
   low : k .counter < 9 → w .drive .counter < counterTop
   low h = let c = ap (λ (z : Columns). z .counter) (x .tells) in omega (arith, c, h)
 
@@ -111,9 +86,27 @@ module _ (w : World) (k : Columns) (x : At w k) where
 abbrev bytes : List ℕ
 bytes = 1 ∷ 2 ∷ 3 ∷ []
 
+-- the discard, and the calls up to it
+abbrev rest₅ : List Call
+rest₅ = discard 0 1 1 ∷ mount (secretOf 9) ∷ []
+
+abbrev before : List Call
+before =
+    write 63 bytes
+    ∷ mount (secretOf 9)
+    ∷ begin (secretOf 7)
+    ∷ mount (secretOf 9)
+    ∷ sweep 0
+    ∷ mount (secretOf 9)
+    ∷ finish
+    ∷ mount (secretOf 9)
+    ∷ asks report
+    ∷ asks (stored 0 1)
+    ∷ []
+
 -- what comes after the write, the begin, the sweep and the finish, each with its mount
 abbrev rest₄ : List Call
-rest₄ = asks report ∷ asks (stored 0 1) ∷ []
+rest₄ = asks report ∷ asks (stored 0 1) ∷ rest₅
 
 abbrev rest₃ : List Call
 rest₃ = finish ∷ mount (secretOf 9) ∷ rest₄
@@ -190,11 +183,19 @@ module _ (w : World) (x : At w (columns false 1 1 (secretOf 0))) where
   x₄ : At w₄ k₄
   x₄ = at-next w₃ k₃ finish x₃ ok₄
 
+  ok₅ : answerTo w₄ (discard 0 1 1) ≡ A.Accepted
+  ok₅ =
+      exactly w₄ (x₄ .sounds) (discard 0 1 1)
+      ∙ no _ (ne-eqb (w₄ .drive .version) 1 (λ e. omega (arith, e, version-is w₄ k₄ x₄)))
+      (yes A.PastEnd (both-on (lt-ltb 0 (w₄ .drive .n) (rw (n-is w₄ k₄ x₄) (omega arith))) (le-leb 2 (w₄ .drive .p) (rw (p-is w₄ k₄ x₄) (omega arith))))
+      (alike (noneHeld w₄ 0 1 1) (no _ (ne-eqb (w₄ .drive .counter) counterTop (λ e. omega (arith, e, low w₄ k₄ x₄ (omega arith)))) refl)))
+
   end : allAccepted w₄ rest₄ ≡ true
   unfolding allAccepted step
   end =
       let shown = exactly w₄ (x₄ .sounds) (asks (stored 0 1)) ∙ yes A.PastEnd (both-on (lt-ltb 0 (w₄ .drive .n) (rw (n-is w₄ k₄ x₄) (omega arith))) (lt-ltb 1 (w₄ .drive .p) (rw (p-is w₄ k₄ x₄) (omega arith)))) refl in
-      both-on (ap accepts (exactly w₄ (x₄ .sounds) (asks report))) (both-on (ap accepts shown) refl)
+      both-on (ap accepts (exactly w₄ (x₄ .sounds) (asks report))) (both-on (ap accepts shown)
+      (both-on (ap accepts ok₅) (mounted-on (step w₄ (discard 0 1 1)) (secretOf 9) [] (step-sound w₄ (discard 0 1 1) (x₄ .sounds)) refl)))
 
   all-accepted : allAccepted w example ≡ true
   unfolding allAccepted
@@ -209,28 +210,62 @@ module _ (w : World) (x : At w (columns false 1 1 (secretOf 0))) where
 
 -- there is such a drive
 fresh : Start
-fresh = one-nugget (secretOf 0)
+fresh = one-nugget-two (secretOf 0)
 
 at-start : At (begun fresh) (columns false 1 1 (secretOf 0))
-unfolding freshDrive one-nugget fresh
+unfolding freshDrive one-nugget-two fresh
 at-start = record { sounds = start-sound fresh; shaped = ap shapeOf (begun-drive fresh); tells = columns-start fresh }
 
-reads : let w = history fresh example in
-    readBuffer (w .drive) (w .vol) 63 (0 ∷ 0 ∷ 0 ∷ []) ≡ bytes
-unfolding run among tab one-nugget fresh
-reads =
+abbrev nines : List ℕ
+nines = 9 ∷ 9 ∷ 9 ∷ []
+
+read-ok : answerTo (history fresh example) (asks (read 63 nines)) ≡ A.Accepted
+unfolding one-nugget-two fresh
+read-ok =
     let w = history fresh example in
     let s = shape-kept fresh example .0 in
     let n-is = ap (λ (z : Shape). z .n) s in
     let p-is = ap (λ (z : Shape). z .p) s in
     let f-is = ap (λ (z : Shape). z .f) s in
-    let ok = exactly w (sound fresh example) (asks (read 63 (0 ∷ 0 ∷ 0 ∷ []))) ∙ yes A.PastEnd (le-leb 66 (w .drive .n * w .drive .p * w .drive .f) (rw (n-is, p-is, f-is) (omega arith))) refl in
-    reads-back fresh example 63 (0 ∷ 0 ∷ 0 ∷ []) ok
-    ∙ tab-ext 3 (λ i. w .contents (63 + i)) (λ i. getD bytes i 0) (λ i h. written-last fresh [] (mount (secretOf 9) ∷ rest₁) 63 bytes i h (ok₁ (begun fresh) at-start) refl)
+    exactly w (sound fresh example) (asks (read 63 nines)) ∙ yes A.PastEnd (le-leb 66 (w .drive .n * w .drive .p * w .drive .f) (rw (n-is, p-is, f-is) (omega arith))) refl
+
+-- the discard is accepted where it is made
+freed : answerTo (history fresh before) (discard 0 1 1) ≡ A.Accepted
+unfolding allAccepted
+freed =
+    let w = history fresh before in
+    let each = sym (accepted-append (begun fresh) before rest₅) ∙ all-accepted (begun fresh) at-start in
+    accepted-is (answerTo w (discard 0 1 1)) (both-left _ _ (both-right (allAccepted (begun fresh) before) (allAccepted w rest₅) each))
+
+-- its range are the offsets 64 to 127
+ranged : (a : ℕ) → discardsAt (shapeOf (history fresh before .drive)) 0 1 1 a ≡ both (leb 64 a) (ltb a 128)
+unfolding discardsAt one-nugget-two fresh
+ranged a = ap (λ (s : Shape). discardsAt s 0 1 1 a) (shape-kept fresh before .0)
+
+-- byte 63 is what was written, the two after it are gone
+kept : history fresh example .contents 63 ≡ 1
+unfolding run among
+kept = written-last fresh [] (mount (secretOf 9) ∷ rest₁) 63 bytes 0 (omega arith) (ok₁ (begun fresh) at-start) later
+  where
+    later : among (altersAt 63) (step (begun fresh) (write 63 bytes)) (mount (secretOf 9) ∷ rest₁) ≡ false
+    later = rw (ranged 63) (ap (λ (b : Bool). either b false) (both-no (accepts (answerTo (history fresh before) (discard 0 1 1)))))
+
+gone : (a : ℕ) → both (leb 64 a) (ltb a 128) ≡ true → history fresh example .contents a ≡ 0
+unfolding among
+gone a inside = discarded-reads-zero fresh before (mount (secretOf 9) ∷ []) 0 1 1 a freed (ranged a ∙ inside) refl
+
+reads : let w = history fresh example in readBuffer (w .drive) (w .vol) 63 nines ≡ 1 ∷ 0 ∷ 0 ∷ []
+unfolding tab
+reads =
+    let w = history fresh example in
+    let a = kept in
+    let b = gone 64 refl in
+    let c = gone 65 refl in
+    reads-back fresh example 63 nines read-ok ∙ (λ i. a i ∷ b i ∷ c i ∷ [])
 
 pub exampled : Example
-unfolding one-nugget fresh
-exampled = (fresh, refl, all-accepted (begun fresh) at-start, reads)
+unfolding one-nugget-two fresh
+exampled = (fresh, refl, all-accepted (begun fresh) at-start, (read-ok, reads))
 
 -- the example up to its sweep
 abbrev half : List Call

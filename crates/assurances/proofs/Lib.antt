@@ -2,4 +2,5 @@ pub mod SameReads
 pub mod Absent
 pub mod Steady
 pub mod OldUnseen
+pub mod Blank
 pub mod Example

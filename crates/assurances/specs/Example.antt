@@ -7,13 +7,13 @@ use mathlib.Core.Logic.{_⊎_}
 use mathlib.Core.List.{List, [], _∷_}
 use lib.ListN.{replicate}
 use Rattle.answers.specs.declared.Answer.the-variants as A
-use Rattle.layout.specs.Shape.{shape}
+use Rattle.layout.specs.Shape.{shapeAs}
 use Rattle.drive.specs.Drive.{shapeOf, blankDrive}
 use Rattle.opening.specs.Mount.{mountAnswer}
 use Rattle.nuggets.specs.Nugget.{storedIn}
 use Rattle.reading.specs.Read.{readBuffer}
 use Rattle.reports.specs.Stored.{storedFlake}
-use Rattle.history.specs.World.{World, Call, mount, write, begin, sweep, finish, discard, asks, report, stored}
+use Rattle.history.specs.World.{World, Call, mount, write, begin, sweep, finish, discard, asks, read, report, stored}
 use Rattle.history.specs.Step.{answerTo}
 use Rattle.history.specs.History.{Start, begun, history}
 use Rattle.history.specs.Answers.{nuggetsLeft, allAccepted, checkedText, KeyCollision, reportOn}
@@ -22,7 +22,8 @@ use Rattle.history.specs.Answers.{nuggetsLeft, allAccepted, checkedText, KeyCol
 abbrev pub secretOf : ℕ → List ℕ
 secretOf b = replicate 32 b
 
--- three bytes written, the secret changed, with a mount after each change; anything is brought as old secret of a steady drive
+-- three bytes written over the end of a flake, the secret changed, the second flake discarded, with a mount after each change;
+-- anything is brought as old secret of a steady drive
 abbrev pub example : List Call
 example =
     write 63 (1 ∷ 2 ∷ 3 ∷ [])
@@ -35,14 +36,18 @@ example =
     ∷ mount (secretOf 9)
     ∷ asks report
     ∷ asks (stored 0 1)
+    ∷ discard 0 1 1
+    ∷ mount (secretOf 9)
     ∷ []
 
--- There is a drive of one nugget with two flakes on which all of them are accepted, and so is a read that then gives the three bytes.
+-- There is a drive of version 2, one nugget with two flakes, on which all of them are accepted, and so is a read that then gives
+-- the byte of the first flake, and zeros for those of the second.
 abbrev pub Example : Type 0
 Example =
-    (start : Start) × (start .shape ≡ shape 1 2 64)
+    (start : Start) × (start .shape ≡ shapeAs 2 1 2 64)
     × (allAccepted (begun start) example ≡ true)
-    × (let w = history start example in readBuffer (w .drive) (w .vol) 63 (0 ∷ 0 ∷ 0 ∷ []) ≡ 1 ∷ 2 ∷ 3 ∷ [])
+    × (let w = history start example in
+    (answerTo w (asks (read 63 (9 ∷ 9 ∷ 9 ∷ []))) ≡ A.Accepted) × (readBuffer (w .drive) (w .vol) 63 (9 ∷ 9 ∷ 9 ∷ []) ≡ 1 ∷ 0 ∷ 0 ∷ []))
 
 -- A share of 100.00 isn't leave to destroy the old secret: there is a history, all its calls accepted, after which the report
 -- says 100.00 with nothing left, and a mount with another old secret is refused with 5, or the two are a collision.

@@ -9,7 +9,7 @@ use native.Mathlib.Omega.{arith}
 use lib.Dec.{eqb, leb, ltb}
 use borrow.Author.Tests.{eqb-false, leb-true, leb-false, ltb-true, ltb-false, le-leb, lt-ltb}
 use Rattle.base.specs.Pick.{pick, both}
-use Rattle.base.proofs.PickLaws.{told, clash, no, both-left, both-right, both-on}
+use Rattle.base.proofs.PickLaws.{told, clash, no, both-left, both-right, both-on, both-no}
 use Rattle.layout.specs.declared.Shape.{Shape}
 use Rattle.layout.specs.Shape.{isOne}
 use Rattle.layout.specs.Shaped.{Shaped}
@@ -32,7 +32,7 @@ use Rattle.nuggets.specs.Nugget.{contentsOf}
 use Rattle.nuggets.specs.Tests.{pathFor}
 use Rattle.changes.specs.Laid.{laid}
 use Rattle.changes.specs.Change.{padsFor, marked, markedTo, tended, tendedTo, worked}
-use Rattle.changes.specs.Discard.{rangeFits, clearsNone, clearTests, discardAnswer, clears, discardWays, discardWork, discardsAt}
+use Rattle.changes.specs.Discard.{rangeFits, clearsNone, clearTests, discardAnswer, clears, discardWays, discardWork, discardDone, discardVolume, discardsAt}
 use Rattle.changes.proofs.SweepLaws.{only-pads, only-marks, only-tends}
 
 -- what an accepted discard says
@@ -76,6 +76,20 @@ clears-room d v n first count e =
     off : (b : Bool) → not b ≡ true → b ≡ false
     off true h = absurd (clash h refl)
     off false h = refl
+
+-- where nothing is cleared drive and volume come back to the bit, whatever is answered
+module _ (d : Drive) (v : List ℕ) (n first count : ℕ) where
+  pub clears-off : clears d v n first count ≡ false
+      → (discardDone d v n first count ≡ record { answer = discardAnswer d v n first count; drive = d }) × (discardVolume d v n first count ≡ v)
+  unfolding discardDone discardVolume
+  clears-off off = (rw off refl, rw off refl)
+
+  pub clears-not : clearsNone d v n first count ≡ true → clears d v n first count ≡ false
+  clears-not none = rw none (both-no (accepts (discardAnswer d v n first count)))
+
+  pub discard-idle : clearsNone d v n first count ≡ true
+      → (discardDone d v n first count ≡ record { answer = discardAnswer d v n first count; drive = d }) × (discardVolume d v n first count ≡ v)
+  discard-idle none = clears-off (clears-not none)
 
 -- nothing is listed, and the record, its leaf and its path are all that is stored before the head
 module _ (d : Drive) (v : List ℕ) (n first count : ℕ) (h : n < d .n) where

@@ -32,11 +32,13 @@ rangeFits s n first count = both (ltb n (s .n)) (leb (first + count) (s .p))
 abbrev pub clearsNone : Drive → List ℕ → ℕ → ℕ → ℕ → Bool
 clearsNone d v n first count = shareNone (recordOf (shapeOf d) v n .held) (flakeRange first count)
 
+-- "13 unless nothing is cleared"
+abbrev pub clearRoom : Drive → List ℕ → ℕ → ℕ → ℕ → Answer
+clearRoom d v n first count = pick (clearsNone d v n first count) A.Accepted (pick (eqb (d .counter) counterTop) A.CounterTop A.Accepted)
+
 -- "7 path, 13 unless nothing is cleared"
 unfoldable pub clearTests : Drive → List ℕ → ℕ → ℕ → ℕ → Answer
-clearTests d v n first count =
-    andThen (pathFor d v n)
-    (pick (clearsNone d v n first count) A.Accepted (pick (eqb (d .counter) counterTop) A.CounterTop A.Accepted))
+clearTests d v n first count = andThen (pathFor d v n) (clearRoom d v n first count)
 
 -- "Discard, after 7 head: 9 on version 1, 8 for a nugget or range past the end, 7 path, 13 unless nothing is cleared."
 unfoldable pub discardAnswer : Drive → List ℕ → ℕ → ℕ → ℕ → Answer

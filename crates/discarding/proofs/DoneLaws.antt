@@ -4,13 +4,14 @@ use mathlib.Core.Bool.{Bool, true, false, not}
 use mathlib.Core.List.{List}
 use Prim.Native.Nat.{ℕ}
 use Rattle.base.specs.Pick.{pick, both}
-use Rattle.base.proofs.PickLaws.{both-on, both-off, both-no}
+use Rattle.base.proofs.PickLaws.{both-on, both-off}
 use Rattle.answers.specs.declared.Answer.{Answer}
 use Rattle.answers.specs.Numbers.{accepts}
 use Rattle.drive.specs.declared.Drive.{Drive}
 use Rattle.drive.specs.declared.Done.{Done}
 use Rattle.changes.specs.Change.{advanced, settled}
 use Rattle.changes.specs.Discard.{clearsNone, discardAnswer, clears, discardWork, discardedDrive, discardDone, discardVolume}
+use Rattle.changes.proofs.DiscardLaws.{clears-off}
 
 module _ (d : Drive) (v : List ℕ) (n first count : ℕ) {a : Answer} (e : discardAnswer d v n first count ≡ a) where
   pub clears-on : accepts a ≡ true → clearsNone d v n first count ≡ false → clears d v n first count ≡ true
@@ -26,11 +27,9 @@ module _ (d : Drive) (v : List ℕ) (n first count : ℕ) {a : Answer} (e : disc
 
   pub done-off : clears d v n first count ≡ false
       → (_≡_ {A = Done} (record { answer = a; drive = d }) (discardDone d v n first count)) × (v ≡ discardVolume d v n first count)
-  unfolding discardDone discardVolume
-  done-off c = (rw c (λ i. record { answer = sym e i; drive = d }), rw c refl)
-
-  pub clears-not : clearsNone d v n first count ≡ true → clears d v n first count ≡ false
-  clears-not none = rw none (both-no (accepts (discardAnswer d v n first count)))
+  done-off c =
+      let off = clears-off d v n first count c in
+      ((λ i. record { answer = sym e i; drive = d }) ∙ sym (off .0), sym (off .1))
 
   pub clears-refused : accepts a ≡ false → clears d v n first count ≡ false
   clears-refused t = both-off _ (ap accepts e ∙ t)

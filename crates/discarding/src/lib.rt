@@ -8,7 +8,8 @@ ghost use mathlib.Core.Path.{_≡_};
 ghost use Prim.Native.Nat.{_+_, _<_, _≤_};
 ghost use Rattle.layout.specs.Shaped.{Shaped};
 ghost use Rattle.drive.specs.Drive.{shapeOf};
-ghost use Rattle.changes.specs.Discard.{rangeFits, clearsNone, clearTests, discardAnswer, discardWork, discardDone, discardVolume};
+ghost use Rattle.answers.specs.Stages.{andThen};
+ghost use Rattle.changes.specs.Discard.{rangeFits, clearsNone, clearRoom, clearTests, discardAnswer, discardWork, discardDone, discardVolume};
 
 // "a flake range of one nugget": the flakes from the first on, as many as the count.
 pub struct Freed {
@@ -39,22 +40,38 @@ fn clears_none(d: Drive, vol: &[u8], freed: Freed) -> bool
     records::share_none(r.held, range)
 }
 
+// "13 unless nothing is cleared"
+fn test_room(d: Drive, vol: &[u8], freed: Freed) -> Answer
+    requires { ⌜ Shaped (shapeOf d) (now vol) × (freed .nugget < d .n) × (freed .first + freed .count ≤ d .p) ⌝ }
+    ensures { λ r. ⌜ r ≡ clearRoom d (now (vol .entry)) (freed .nugget) (freed .first) (freed .count) ⌝ }
+{
+    if clears_none(d, vol, freed) {
+        return Answer::Accepted;
+    }
+    if d.counter == 0xffff_ffff_ffff_ffff {
+        return Answer::CounterTop;
+    }
+    Answer::Accepted
+}
+
+// The first answer that refuses.
+fn in_order(first: Answer, next: Answer) -> Answer
+    ensures { λ r. ⌜ r ≡ andThen first next ⌝ }
+{
+    if answers::accepted(first) {
+        return next;
+    }
+    first
+}
+
 // "7 path, 13 unless nothing is cleared"
 fn clear_tests(d: Drive, vol: &[u8], freed: Freed) -> Answer
     requires { ⌜ Shaped (shapeOf d) (now vol) × (freed .nugget < d .n) × (freed .first + freed .count ≤ d .p) ⌝ }
     ensures { λ r. ⌜ r ≡ clearTests d (now (vol .entry)) (freed .nugget) (freed .first) (freed .count) ⌝ }
 {
-    let a = nuggets::test_path(d, vol, freed.nugget);
-    if answers::accepted(a) {
-        if clears_none(d, vol, freed) {
-            return Answer::Accepted;
-        }
-        if d.counter == 0xffff_ffff_ffff_ffff {
-            return Answer::CounterTop;
-        }
-        return Answer::Accepted;
-    }
-    a
+    let path = nuggets::test_path(d, vol, freed.nugget);
+    let room = test_room(d, vol, freed);
+    in_order(path, room)
 }
 
 // "9 on version 1, 8 for a nugget or range past the end, 7 path, 13 unless nothing is cleared"

@@ -34,7 +34,7 @@ both-assoc true b c = refl
 both-assoc false b c = refl
 
 -- calls accepted, then calls accepted
-accepted-append : (w : World) (a b : List Call) → allAccepted w (a ++ b) ≡ both (allAccepted w a) (allAccepted (run w a) b)
+pub accepted-append : (w : World) (a b : List Call) → allAccepted w (a ++ b) ≡ both (allAccepted w a) (allAccepted (run w a) b)
 unfolding allAccepted run
 accepted-append w [] b = refl
 accepted-append w (c ∷ a) b =

@@ -18,9 +18,9 @@ use Rattle.records.specs.declared.Record.{Record}
 use Rattle.records.specs.declared.Way.the-variants.{Idle, Clear}
 use Rattle.records.specs.Journal.{bit, shareNone, flakeRange}
 use Rattle.records.specs.Record.{recordOf}
-use Rattle.records.specs.Rule.{clearedBy, enciphered, turned}
+use Rattle.records.specs.Rule.{clearedBy, enciphered, heldAfter, turned}
 use Rattle.records.specs.Listing.{Entry}
-use Rattle.records.proofs.BitLaws.{bit-empty, share-none-bits}
+use Rattle.records.proofs.BitLaws.{bit-without, bit-empty, share-none-bits}
 use Rattle.records.proofs.MaskLaws.{bit-range}
 use Rattle.records.proofs.RuleLaws.{idle-keeps, cleared-keeps}
 use Rattle.drive.specs.Drive.{shapeOf, zeros}
@@ -53,6 +53,16 @@ not-both false q on = refl
 -- a flake of the range is in its set
 range-set : (first count f : ℕ) → f < 64 → first ≤ f → f < first + count → bit (flakeRange first count) f ≡ true
 range-set first count f few from to = rw (bit-range first count f) (both-on (lt-ltb f 64 few) (both-on (le-leb first f from) (lt-ltb f (first + count) to)))
+
+-- a flake that isn't cleared stays held, or not
+held-by : (own : Bool) (m f : ℕ) (r : Record) → bit (clearedBy (pick own (Clear m) Idle)) f ≡ false → bit (heldAfter (pick own (Clear m) Idle) r) f ≡ bit (r .held) f
+unfolding heldAfter
+held-by true m f r off = bit-without (r .held) m f ∙ ap (λ (b : Bool). both (bit (r .held) f) (not b)) off ∙ stays (bit (r .held) f)
+  where
+    stays : (b : Bool) → both b true ≡ b
+    stays true = refl
+    stays false = refl
+held-by false m f r off = refl
 
 -- nothing is enciphered
 none-chosen : (own : Bool) (m f : ℕ) (r : Record) → bit (enciphered (pick own (Clear m) Idle) r) f ≡ false
@@ -141,7 +151,7 @@ module _ (w : World) (x : Sound w) (n first count : ℕ) where
 
     -- each nugget keeps all but held bits
     pub cleared-kept : (m : ℕ) → m < w .drive .n
-        → KeptButHeld (shapeOf (w .drive)) (w .vol) (settled (discardedDrive (w .drive) (w .vol) n first count) (discardWork (w .drive) (w .vol) n first count)) m
+        → KeptButHeld (shapeOf (w .drive)) (w .vol) (settled (discardedDrive (w .drive) (w .vol) n first count) (discardWork (w .drive) (w .vol) n first count)) m (clearedBy (discardWays n first count m))
     cleared-kept m h =
         let r = recordOf (shapeOf (w .drive)) (w .vol) m in
         let turns = cleared-turns m h in
@@ -149,6 +159,7 @@ module _ (w : World) (x : Sound w) (n first count : ℕ) where
         record {
           keycount = ap (λ (q : Record). q .keycount) turns ∙ keycount;
           spent = ap (λ (q : Record). q .spent) turns ∙ spent;
+          held = λ f off. ap (λ (q : Record). bit (q .held) f) turns ∙ held-by (eqb m n) (flakeRange first count) f r off;
           epoch = ap (λ (q : Record). q .epoch) turns ∙ epoch;
           stored = λ f l. worked-same w x (discardWays n first count) (contentsOf (w .drive) (w .vol)) after ready m f h l (none-chosen (eqb m n) (flakeRange first count) f r) .stored;
           tags = λ f l. worked-same w x (discardWays n first count) (contentsOf (w .drive) (w .vol)) after ready m f h l (none-chosen (eqb m n) (flakeRange first count) f r) .tag;

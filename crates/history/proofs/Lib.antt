@@ -18,6 +18,7 @@ pub mod Demands
 pub mod Pads
 pub mod Clears
 pub mod Moves
+pub mod Rekeyed
 pub mod Columns
 pub mod Told
 pub mod Complete

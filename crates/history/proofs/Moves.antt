@@ -85,7 +85,7 @@ module _ (w : World) (x : Sound w) where
     sweep-tells = sweep-told (w .drive) (w .vol) n taken
 
     -- each record is the one turned in its nugget's way
-    swept-record : (m : ℕ) → m < w .drive .n → recordOf (shapeOf (step w (sweep n) .drive)) (step w (sweep n) .vol) m ≡ turned (sweepWays n m) (w .drive .epoch) (recordOf (shapeOf (w .drive)) (w .vol) m)
+    pub swept-record : (m : ℕ) → m < w .drive .n → recordOf (shapeOf (step w (sweep n) .drive)) (step w (sweep n) .vol) m ≡ turned (sweepWays n m) (w .drive .epoch) (recordOf (shapeOf (w .drive)) (w .vol) m)
     unfolding step worldAfter sweepVolume sweepDone advanced
     swept-record m h = rw taken (swept-turns w x n sweep-tells m h)
 

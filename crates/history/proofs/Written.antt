@@ -4,11 +4,11 @@ use mathlib.Core.Bool.{Bool, true, false}
 use mathlib.Core.List.{List, _++_}
 use Prim.Native.Nat.{ℕ, _+_, _<_, _≤_}
 use native.Mathlib.Omega.{arith}
-use lib.Dec.{eqb}
+use lib.Dec.{eqb, ltb}
 use lib.ListN.{length}
-use borrow.Author.Tests.{le-leb, lt-ltb, ne-eqb}
+use borrow.Author.Tests.{le-leb, lt-ltb, ltb-true, ne-eqb}
 use Rattle.base.specs.Pick.{pick}
-use Rattle.base.proofs.PickLaws.{yes, no, both-on}
+use Rattle.base.proofs.PickLaws.{yes, no, both-left, both-right, both-on}
 use Rattle.answers.specs.declared.Answer.{Answer}
 use Rattle.answers.specs.declared.Answer.the-variants as A
 use Rattle.answers.specs.Numbers.{accepts}
@@ -27,9 +27,20 @@ use Rattle.history.proofs.Table.{exactly}
 use Rattle.history.proofs.Ways.{written-turns}
 
 -- accepted either way
-alike : (b : Bool) {a : Answer} → a ≡ A.Accepted → pick b A.Accepted a ≡ A.Accepted
+pub alike : (b : Bool) {a : Answer} → a ≡ A.Accepted → pick b A.Accepted a ≡ A.Accepted
 alike true e = refl
 alike false e = e
+
+-- after an accepted write of some bytes each record is the one turned in its nugget's way
+module _ (w : World) (x : Sound w) (o : ℕ) (bytes : List ℕ) (taken : writes (answerTo w (write o bytes)) bytes ≡ true) where
+  pub turned-by : (n : ℕ) → n < w .drive .n
+      → recordOf (shapeOf (step w (write o bytes) .drive)) (step w (write o bytes) .vol) n ≡ turned (writeWay (w .drive) (w .vol) o (length bytes) n) (w .drive .epoch) (recordOf (shapeOf (w .drive)) (w .vol) n)
+  unfolding step worldAfter writeVolume writeDone advanced
+  turned-by n h =
+      let accepted = both-left (accepts (answerTo w (write o bytes))) (ltb 0 (length bytes)) taken in
+      let some = ltb-true 0 (length bytes) (both-right (accepts (answerTo w (write o bytes))) (ltb 0 (length bytes)) taken) in
+      rw taken
+      (written-turns w x o bytes (write-told (w .drive) (w .vol) o (length bytes) some accepted) (λ a. over o bytes a (w .contents a)) (λ a. refl) n h)
 
 module _ (w : World) (x : Sound w) (low : w .drive .counter < counterTop) where
   module _ (o : ℕ) (bytes : List ℕ) (fits : o + length bytes ≤ capacity (shapeOf (w .drive))) where
@@ -47,13 +58,9 @@ module _ (w : World) (x : Sound w) (low : w .drive .counter < counterTop) where
       unfolding step worldAfter writeDone
       written-drive = yes _ taken refl
 
-      -- each record is the one turned in its nugget's way
       pub written-record : (n : ℕ) → n < w .drive .n
           → recordOf (shapeOf (step w (write o bytes) .drive)) (step w (write o bytes) .vol) n ≡ turned (writeWay (w .drive) (w .vol) o (length bytes) n) (w .drive .epoch) (recordOf (shapeOf (w .drive)) (w .vol) n)
-      unfolding step worldAfter writeVolume writeDone advanced
-      written-record n h =
-          rw taken
-          (written-turns w x o bytes (write-told (w .drive) (w .vol) o (length bytes) some (ap accepts write-accepted)) (λ a. over o bytes a (w .contents a)) (λ a. refl) n h)
+      written-record n h = turned-by w x o bytes taken n h
 
       pub written-listing : step w (write o bytes) .listing ≡ w .listing ++ padsFor (w .drive) (w .vol) (writeWay (w .drive) (w .vol) o (length bytes))
       unfolding step worldAfter writePads

@@ -12,11 +12,12 @@
 -- A → B, A × B, A ⊎ B, A → ⊥       if A then B; both; one of the two; never A
 use Prim.Native.Nat.{ℕ, _+_, _<_, _≤_}
 use mathlib.Core.Path.{_≡_}
-use mathlib.Core.Bool.{true, false}
+use mathlib.Core.Bool.{Bool, true, false}
 use mathlib.Core.Logic.{_⊎_, _↔_}
 use mathlib.Core.List.{List, _∷_, _++_}
 use mathlib.Core.Option.{some}
 use lib.ListN.{length, getD}
+use Rattle.base.specs.Pick.{both}
 use Rattle.base.specs.Lists.{tab, part}
 use Rattle.words.specs.Xor.{xorl}
 use Rattle.answers.specs.declared.Answer.the-variants as A
@@ -25,6 +26,7 @@ use Rattle.layout.specs.declared.Shape.{Shape}
 use Rattle.layout.specs.Parts.{tagAt}
 use Rattle.layout.specs.Spots.{offsetAt}
 use Rattle.records.specs.Journal.{bit}
+use Rattle.records.specs.Rule.{clearedBy, rekeys}
 use Rattle.records.specs.Listing.{Entry}
 use Rattle.poly1305.specs.Poly1305.{poly1305}
 use Rattle.keys.specs.Keys.{tagKey}
@@ -36,9 +38,11 @@ use Rattle.nuggets.specs.Nugget.{secretFor, lockOf, storedIn}
 use Rattle.reading.specs.Read.{readBuffer}
 use Rattle.reports.specs.Report.{reportOf}
 use Rattle.ledger.specs.Listing.{lastOf, NoneTwice}
-use Rattle.history.specs.World.{World, Call, asks, read, write, discard}
+use Rattle.history.specs.World.{World, Call, mount, write, begin, sweep, finish, discard, asks, read}
 use Rattle.ledger.specs.Totals.{spentIn}
-use Rattle.changes.specs.Discard.{clearsNone, discardsAt}
+use Rattle.changes.specs.Write.{writeWay}
+use Rattle.changes.specs.Rekey.{sweepWays}
+use Rattle.changes.specs.Discard.{clearsNone, discardWays, discardsAt}
 use Rattle.history.specs.Step.{oldFor, answerTo, step, changesBy, writesAt, altersAt}
 use Rattle.history.specs.History.{Start, begun, history, among}
 use Rattle.records.specs.Record.{recordOf}
@@ -90,10 +94,11 @@ DiscardedReadsZero =
     → among (writesAt a) (step w (discard n first count)) later ≡ false
     → history start (calls ++ (discard n first count ∷ later)) .contents a ≡ 0
 
--- what a discard leaves of a nugget's record, flakes and tags
-pub record KeptButHeld (s : Shape) (v u : List ℕ) (n : ℕ) : Type 0 where
+-- what a discard leaves of a nugget's record, flakes and tags: all but the held bits of the flakes gone
+pub record KeptButHeld (s : Shape) (v u : List ℕ) (n gone : ℕ) : Type 0 where
   pub keycount : recordOf s u n .keycount ≡ recordOf s v n .keycount
   pub spent : recordOf s u n .spent ≡ recordOf s v n .spent
+  pub held : (f : ℕ) → bit gone f ≡ false → bit (recordOf s u n .held) f ≡ bit (recordOf s v n .held) f
   pub epoch : recordOf s u n .epoch ≡ recordOf s v n .epoch
   pub stored : (f : ℕ) → f < s .p → storedIn s u n f ≡ storedIn s v n f
   pub tags : (f : ℕ) → f < s .p → part (tagAt s n f) 16 u ≡ part (tagAt s n f) 16 v
@@ -103,7 +108,7 @@ abbrev pub DiscardKeeps : Type 0
 DiscardKeeps =
     (start : Start) (calls : List Call) (n first count m : ℕ)
     → let w = history start calls in
-    m < w .drive .n → KeptButHeld (shapeOf (w .drive)) (w .vol) (step w (discard n first count) .vol) m
+    m < w .drive .n → KeptButHeld (shapeOf (w .drive)) (w .vol) (step w (discard n first count) .vol) m (clearedBy (discardWays n first count m))
 
 -- "A discard that clears nothing adds nothing to the counter": drive and volume to the bit, whatever it answers
 abbrev pub DiscardIdle : Type 0
@@ -112,6 +117,24 @@ DiscardIdle =
     → let w = history start calls in
     clearsNone (w .drive) (w .vol) n first count ≡ true
     → (step w (discard n first count) .drive ≡ w .drive) × (step w (discard n first count) .vol ≡ w .vol)
+
+-- an accepted change that rekeys nugget n
+abbrev pub rekeysIn : World → Call → ℕ → Bool
+rekeysIn w (mount any) n = false
+rekeysIn w (write o bytes) n = both (changesBy w (write o bytes)) (rekeys (writeWay (w .drive) (w .vol) o (length bytes) n))
+rekeysIn w (begin secret) n = false
+rekeysIn w (sweep m) n = both (changesBy w (sweep m)) (rekeys (sweepWays m n))
+rekeysIn w finish n = false
+rekeysIn w (discard m first count) n = false
+rekeysIn w (asks q) n = false
+
+-- "A rekey enciphers held and touched flakes, and sets both masks to those": after it what is spent is what is held
+abbrev pub RekeyEvens : Type 0
+RekeyEvens =
+    (start : Start) (calls : List Call) (c : Call) (n : ℕ)
+    → let w = history start calls in
+    let u = step w c in
+    n < w .drive .n → rekeysIn w c n ≡ true → recordOf (shapeOf (u .drive)) (u .vol) n .spent ≡ recordOf (shapeOf (u .drive)) (u .vol) n .held
 
 -- 2. "List every enciphering by nugget, keycount and flake. No entry comes twice." What that means for the keystream: Pads.antt.
 abbrev pub NoEntryTwice : Type 0

@@ -24,10 +24,10 @@ use Rattle.drive.specs.Head.{headOf}
 use Rattle.opening.proofs.Reopens.{length-head}
 use Rattle.nuggets.specs.Nugget.{contentsOf}
 use Rattle.changes.specs.Laid.{laid}
-use Rattle.changes.specs.Change.{idles, padsFor, markedTo, advanced}
+use Rattle.changes.specs.Change.{idles, onlyAt, padsFor, markedTo, advanced}
 use Rattle.changes.specs.Write.{writeWay, writeAnswer, writes, newContents, writtenDrive}
-use Rattle.changes.specs.Rekey.{beginAnswer, begunDrive, sweepAnswer, sweepWays, sweptDrive, finishAnswer, finishedDrive}
-use Rattle.changes.specs.Discard.{discardAnswer, clears, discardWays, discardedDrive}
+use Rattle.changes.specs.Rekey.{beginAnswer, begunDrive, sweepAnswer, sweptDrive, finishAnswer, finishedDrive}
+use Rattle.changes.specs.Discard.{discardAnswer, clears, discardedDrive}
 use Rattle.changes.proofs.LaidLaws.{Long}
 use Rattle.changes.proofs.SweepLaws.{way-other}
 use Rattle.changes.proofs.AnswerLaws.{sweep-told, write-told}
@@ -77,6 +77,13 @@ module _ (d e : Drive) (v : List ℕ) (way : ℕ → Way) (new : ℕ → ℕ →
       rw (times-append (flakes ++ (marks ++ tends)) (headStores e) a, times-append flakes (marks ++ tends) a, times-append marks tends a, times-head e a salted)
       (omega (arith, rw ends at one, two, tree marked, front, tags, nodes, all, hits-le 0 (flakeAt s (d .n) 0) a))
 
+-- a change of one nugget, its contents kept
+times-only : (d e : Drive) (v : List ℕ) (n : ℕ) (way : Way) → length (e .salt) ≡ 16 → Shaped (shapeOf d) v → (a : ℕ)
+    → storedTimes (workStores d v (onlyAt n way) (contentsOf d v) ++ headStores e) a ≤ 1
+times-only d e v n way salted lent a =
+    times-change d e v (onlyAt n way) (contentsOf d v) salted lent (long-same d v lent) a
+    (λ u. times-alone (shapeOf d) a v lent (onlyAt n way) n (d .n) u (omega arith) (λ m q. ap idles (way-other n way m q)) .0)
+
 pub sweep-once : SweepOnce
 unfolding storesOf sweepStores advanced
 sweep-once start calls n a =
@@ -84,9 +91,7 @@ sweep-once start calls n a =
     let d = w .drive in
     let v = w .vol in
     times-pick (accepts (sweepAnswer d v n)) _ a (λ ok.
-    let t = sweep-told d v n ok in
-    times-change d (sweptDrive d v n) v (sweepWays n) (contentsOf d v) (sound start calls .handed .salt-long) (t .lent) (long-same d v (t .lent)) a
-    (λ u. times-alone (shapeOf d) a v (t .lent) (sweepWays n) n (d .n) u (omega arith) (λ m q. ap idles (way-other n sweepWay m q)) .0))
+    times-only d (sweptDrive d v n) v n sweepWay (sound start calls .handed .salt-long) (sweep-told d v n ok .lent) a)
 
 pub discard-once : DiscardOnce
 unfolding storesOf discardStores advanced
@@ -96,8 +101,7 @@ discard-once start calls n first count a =
     let v = w .vol in
     times-pick (clears d v n first count) _ a (λ ok.
     let t = discard-told d v n first count (both-left (accepts (discardAnswer d v n first count)) _ ok) in
-    times-change d (discardedDrive d v n first count) v (discardWays n first count) (contentsOf d v) (sound start calls .handed .salt-long) (t .lent) (long-same d v (t .lent)) a
-    (λ u. times-alone (shapeOf d) a v (t .lent) (discardWays n first count) n (d .n) u (omega arith) (λ m q. ap idles (way-other n (Clear (flakeRange first count)) m q)) .0))
+    times-only d (discardedDrive d v n first count) v n (Clear (flakeRange first count)) (sound start calls .handed .salt-long) (t .lent) a)
 
 -- a write of a history, by the stores that it makes in the tree
 times-write : (start : Start) (calls : List Call) (o : ℕ) (bytes : List ℕ) (a : ℕ) → let w = history start calls in let s = shapeOf (w .drive) in

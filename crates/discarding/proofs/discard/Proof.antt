@@ -1,5 +1,5 @@
-use Rattle.changes.proofs.DiscardLaws.{discard-told, clears-room}
-use Rattle.discarding.proofs.DoneLaws.{clears-on, done-on, done-off, clears-not, clears-refused}
+use Rattle.changes.proofs.DiscardLaws.{discard-told, clears-room, clears-not}
+use Rattle.discarding.proofs.DoneLaws.{clears-on, done-on, done-off, clears-refused}
 use Rattle.answers.specs.Numbers.{accepts}
 use native.Mathlib.Omega.{arith}
 use mathlib.Core.Path.{sym, _∙_, ap}
@@ -26,7 +26,7 @@ returns : tie.Need-returns
 returns c =
     let a = c .before .before .before .before .before .before .before .before .args in
     let answer = sym (c .before .before .before .before .before .admit .ensures) in
-    let off = clears-not (a .d) (a .vol .now) (a .freed .nugget) (a .freed .first) (a .freed .count) answer (sym (c .before .clears-none .ensures) ∙ c .if2 .taken) in
+    let off = clears-not (a .d) (a .vol .now) (a .freed .nugget) (a .freed .first) (a .freed .count) (sym (c .before .clears-none .ensures) ∙ c .if2 .taken) in
     done-off (a .d) (a .vol .now) (a .freed .nugget) (a .freed .first) (a .freed .count) answer off
 
 clear-requires : tie.Need-clear-requires
