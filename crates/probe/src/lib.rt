@@ -88,6 +88,7 @@ pub extern "C" fn ngt_named_tag(
         key: *key,
         keycount: k,
         version: 2,
+        cipher: 0,
     };
     let name = keys::name_of(lock, f);
     *out = keys::tag_laid_out(*key, &name, stored);
