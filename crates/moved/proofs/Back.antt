@@ -192,7 +192,7 @@ module _ (leave enter : ℕ) (d : Drive) (v : List ℕ) (len : ℕ) (known : kno
   -- back in the version that was left
   pub shape-back : entered leave e ≡ s
   unfolding advanced
-  shape-back = λ i. shapeAs (sym (x .left) i) (d .n) (d .p) (d .f)
+  shape-back = λ i. shapeAs (sym (x .left) i) (d .cipher) (d .n) (d .p) (d .f)
 
   untouched : Untouched e u
   untouched = After.moved-untouched leave enter d v len known′ (typed .salted) codes x

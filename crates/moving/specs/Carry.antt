@@ -29,6 +29,7 @@ entering e d =
       p = d .p;
       f = d .f;
       version = e;
+      cipher = d .cipher;
       salt = d .salt;
       state = d .state;
       epoch = d .epoch;

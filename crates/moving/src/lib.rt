@@ -30,6 +30,7 @@ fn entering(d: Drive, version: u16) -> Drive
         p: d.p,
         f: d.f,
         version: version,
+        cipher: d.cipher,
         salt: salt,
         state: state,
         epoch: d.epoch,

@@ -7,10 +7,6 @@ use Rattle.layout.specs.declared.Shape.{Shape}
 use Rattle.images.specs.Answers.{answerImage}
 use Rattle.line.specs.Lines.{Put}
 
--- N, P and F under a version, and ChaCha20
-abbrev pub shapeAs : ℕ → ℕ → ℕ → ℕ → Shape
-shapeAs n p f version = record { n = n; p = p; f = f; version = version; cipher = 0 }
-
 -- the line in the first bytes, "the answer's number is then in the answer's image alone", and "the bytes of `line` after the
 -- line are left as given"
 pub record Lined (a : Answer) (text s : List ℕ) (count : ℕ) (last answer : List ℕ) : Type 0 where

@@ -2,7 +2,7 @@
 // It touches `telling` for the lines, `layout` for the lengths, and `packed` and `images` for the bytes.
 use layout::Shape;
 ghost use mathlib.Core.Path.{_≡_};
-ghost use Rattle.layout.specs.Shape.{shape, within};
+ghost use Rattle.layout.specs.Shape.{shapeAs, shape, within};
 ghost use Rattle.layout.specs.Parts.{lengthOf};
 ghost use Rattle.layout.specs.Spots.{capacity};
 ghost use Rattle.images.specs.Back.{answerIn};
@@ -11,12 +11,12 @@ ghost use Rattle.line.specs.Lines.{Put};
 ghost use Rattle.sheets.specs.Sheet.{reportedLine};
 ghost use Rattle.reports.specs.Report.{reportOf};
 ghost use Rattle.telling.specs.Told.{refusalText, nuggetAnswer, nuggetTold};
-ghost use Rattle.ngt.specs.Lines.{shapeAs, Lined};
+ghost use Rattle.ngt.specs.Lines.{Lined};
 
 // "Length of a volume [..] for a shape and version; 0 if out of limits."
 #[no_mangle]
 pub extern "C" fn ngt_length(n: u32, p: u32, f: u32, version: u16) -> u64
-    ensures { λ r. ⌜ r ≡ within (shapeAs n p f version) (lengthOf (shapeAs n p f version)) ⌝ }
+    ensures { λ r. ⌜ r ≡ within (shapeAs version 0 n p f) (lengthOf (shapeAs version 0 n p f)) ⌝ }
 {
     let s = Shape {
         n,
