@@ -1,9 +1,8 @@
--- What the functions beside the calls leave: lengths of a shape, and lines with an answer beside them.
+-- What the lines beside the calls leave: the line, with an answer beside it.
 use Prim.Native.Nat.{ℕ}
 use mathlib.Core.Path.{_≡_}
 use mathlib.Core.List.{List}
 use Rattle.answers.specs.declared.Answer.{Answer}
-use Rattle.layout.specs.declared.Shape.{Shape}
 use Rattle.images.specs.Answers.{answerImage}
 use Rattle.line.specs.Lines.{Put}
 
