@@ -1,6 +1,6 @@
 /* A host in C that links the archive as it is shipped: it formats, mounts, reads, writes, queues writes, changes the secret, reports
  * and shows a stored flake, sees refusals leave everything as it came, compares two volumes, keeps a summary, hands its contents to
- * dm-crypt and back, discards in version 2, and makes a fleet's line. Its last line counts the checks. */
+ * dm-crypt and back, discards in version 2, moves between versions, and makes a fleet's line. Its last line counts the checks. */
 #include "../include/ngt.h"
 #include <stdio.h>
 #include <string.h>
@@ -265,6 +265,31 @@ static void ciphers(void) {
           && memcmp(text + 20, vol + number(shown, 8) + 20, F - 20) != 0);
 }
 
+/* Up, down, and what a discard keeps from moving down. */
+static void moves(void) {
+    static uint8_t wide[LENGTH + 8 * N], back[LENGTH];
+    uint8_t text[F], byte = 9, changed[144];
+    holds("version 1 is formatted", ngt_format(vol, LENGTH, N, P, F, salt, secret, 5, drive, answer) == 0);
+    holds("and written", ngt_write(drive, vol, LENGTH, 0, &byte, 1, answer) == 0);
+    keep();
+    memset(wide, 7, sizeof wide);
+    holds("a second buffer of another length is refused by 2", ngt_move_up(drive, vol, LENGTH, wide, sizeof wide - 1, answer) == 2 && as_kept() && wide[0] == 7);
+    holds("down from version 1 is refused by 9", ngt_move_down(drive, vol, LENGTH, back, LENGTH, answer) == 9 && as_kept());
+    holds("moving up is accepted", ngt_move_up(drive, vol, LENGTH, wide, sizeof wide, answer) == 0);
+    holds("the volume is only read", memcmp(copy, vol, LENGTH) == 0);
+    holds("the drive is the second buffer's", number(drive + 18, 2) == 2 && number(drive + 40, 8) == 8 && number(wide + 32, 8) == 8);
+    holds("it mounts", ngt_mount(wide, sizeof wide, secret, other, 8, changed, answer) == 0 && memcmp(changed, drive, 144) == 0);
+    holds("the contents are there", ngt_read(drive, wide, sizeof wide, 0, text, F, answer) == 0 && text[0] == 9);
+    memcpy(changed, drive, 144);
+    holds("moving down is accepted", ngt_move_down(drive, wide, sizeof wide, back, LENGTH, answer) == 0 && number(drive + 40, 8) == 9);
+    holds("but for counter and seal it is the first volume", memcmp(back, vol, 32) == 0 && memcmp(back + 40, vol + 40, 32) == 0 && memcmp(back + 104, vol + 104, LENGTH - 104) == 0);
+    memcpy(drive, changed, 144);
+    holds("a flake is discarded", ngt_discard(drive, wide, sizeof wide, 0, 0, 1, answer) == 0);
+    holds("then 16 with its nugget", ngt_move_down(drive, wide, sizeof wide, back, LENGTH, answer) == 16 && number(answer, 4) == 16 && number(answer + 4, 8) == 0);
+    holds("a write there rekeys", ngt_write(drive, wide, sizeof wide, 0, &byte, 1, answer) == 0);
+    holds("and the volume moves down", ngt_move_down(drive, wide, sizeof wide, back, LENGTH, answer) == 0);
+}
+
 static void fleet(void) {
     static const char lines[] = "nuggets=3 moved=1 left=2 flakes=2 share=50.00 done=1\nnuggets=1 moved=1 left=0 flakes=0 share=100.00 done=0\n";
     static const char both[] = "drives=2 nuggets=4 moved=2 left=2 flakes=2 share=50.00 done=1 last=1\n";
@@ -291,6 +316,7 @@ int main(void) {
     discards();
     discards_left();
     ciphers();
+    moves();
     fleet();
     printf("%d passed, %d failed\n", passed, failed);
     return failed ? 1 : 0;

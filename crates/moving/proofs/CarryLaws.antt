@@ -1,17 +1,15 @@
 -- What a move stores, step by step as the code stores it, and its lengths.
-use mathlib.Core.Path.{_≡_, refl, sym, ap, _∙_}
+use mathlib.Core.Path.{_≡_, refl, sym, _∙_}
 use mathlib.Core.Bool.{true, false}
 use mathlib.Core.List.{List}
-use Prim.Native.Nat.{ℕ, zero, suc, _+_, _-_, _<_, _≤_}
+use Prim.Native.Nat.{ℕ, zero, suc, _+_, _-_}
 use native.Mathlib.Numerals.{add-one}
-use native.Mathlib.Omega.{arith}
 use lib.ListN.{length, length-replicate}
 use lib.Seq.{sets, length-sets}
 use Rattle.base.specs.Lists.{part}
 use Rattle.base.proofs.PickLaws.{yes, no}
 use Rattle.base.proofs.PartLaws.{part-to}
 use Rattle.layout.specs.declared.Shape.{Shape}
-use Rattle.layout.specs.Shaped.{Shaped}
 use Rattle.layout.specs.Parts.{tagAt, flakeAt, recordAt, flakesAt, lengthOf}
 use Rattle.layout.specs.Spots.{capacity}
 use Rattle.records.specs.declared.Record.{Record}

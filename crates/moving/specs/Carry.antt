@@ -1,7 +1,7 @@
 -- Document 02, Item 6: "Moving up copies a version 1 volume into a second lent buffer as version 2: same contents, keycounts, epochs
 -- and stored flakes; held equals spent; present flakes' tags made anew after the old ones pass; absent ones' copied. Moving down is
 -- the reverse. Each adds 1 to the counter".
-use Prim.Native.Nat.{ℕ, zero, suc, _+_}
+use Prim.Native.Nat.{ℕ, zero, suc}
 use mathlib.Core.Path.{_≡_}
 use mathlib.Core.List.{List}
 use lib.Seq.{sets}

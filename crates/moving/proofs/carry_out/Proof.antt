@@ -1,4 +1,4 @@
-use mathlib.Core.Path.{_≡_, _∙_}
+use mathlib.Core.Path.{_∙_}
 use Rattle.moving.proofs.AnswerLaws.{entered-sizes}
 use Rattle.moving.proofs.CarryLaws.{move-made}
 use borrow.Author.Needs.{needs}

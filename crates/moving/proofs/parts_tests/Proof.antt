@@ -1,6 +1,4 @@
-use mathlib.Core.Path.{_≡_, refl, sym, ap, _∙_}
-use borrow.Author.Tests.{eq-eqb, ne-eqb}
-use Rattle.base.proofs.PickLaws.{yes, no}
+use mathlib.Core.Path.{_≡_, sym, ap, _∙_}
 use Rattle.answers.specs.Numbers.{accepts}
 use Rattle.answers.proofs.StageLaws.{goes-on, stops}
 use Rattle.tree.specs.Whole.{wholeOf}

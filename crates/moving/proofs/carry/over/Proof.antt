@@ -1,4 +1,4 @@
-use mathlib.Core.Path.{_≡_, _∙_}
+use mathlib.Core.Path.{_∙_}
 use Rattle.moving.proofs.CarryLaws.{overs}
 use borrow.Author.Needs.{needs}
 use Rattle.moving.proofs.carry.over.Statement.{statement}
