@@ -284,9 +284,9 @@ static void moves(void) {
     holds("moving down is accepted", ngt_move_down(drive, wide, sizeof wide, back, LENGTH, answer) == 0 && number(drive + 40, 8) == 9);
     holds("but for counter and seal it is the first volume", memcmp(back, vol, 32) == 0 && memcmp(back + 40, vol + 40, 32) == 0 && memcmp(back + 104, vol + 104, LENGTH - 104) == 0);
     memcpy(drive, changed, 144);
-    holds("a flake is discarded", ngt_discard(drive, wide, sizeof wide, 0, 0, 1, answer) == 0);
-    holds("then 16 with its nugget", ngt_move_down(drive, wide, sizeof wide, back, LENGTH, answer) == 16 && number(answer, 4) == 16 && number(answer + 4, 8) == 0);
-    holds("a write there rekeys", ngt_write(drive, wide, sizeof wide, 0, &byte, 1, answer) == 0);
+    holds("another flake is written and discarded", ngt_write(drive, wide, sizeof wide, P * F, &byte, 1, answer) == 0 && ngt_discard(drive, wide, sizeof wide, 1, 0, 1, answer) == 0);
+    holds("then 16 with its nugget", ngt_move_down(drive, wide, sizeof wide, back, LENGTH, answer) == 16 && number(answer, 4) == 16 && number(answer + 4, 4) == 0 && number(answer + 8, 4) == 1);
+    holds("a write there rekeys", ngt_write(drive, wide, sizeof wide, P * F, &byte, 1, answer) == 0);
     holds("and the volume moves down", ngt_move_down(drive, wide, sizeof wide, back, LENGTH, answer) == 0);
 }
 

@@ -32,4 +32,4 @@ one-nugget secret = start-of (shape 1 2 64) refl secret
 -- under version 2
 unfoldable pub one-nugget-two : List ℕ → Start
 unfolding formatAnswer inLimits sized known knownVersion knownCipher widthOf heightOf heightFrom
-one-nugget-two secret = start-of (shapeAs 2 1 2 64) refl secret
+one-nugget-two secret = start-of (shapeAs 2 0 1 2 64) refl secret
