@@ -41,7 +41,7 @@ use Rattle.assurances.specs.Example.{secretOf, example, Example, FullIsN
 -- what a step of the example is made on
 record At (w : World) (k : Columns) : Type 0 where
   sounds : Sound w
-  shaped : shapeOf (w .drive) ≡ shapeAs 2 1 2 64
+  shaped : shapeOf (w .drive) ≡ shapeAs 2 0 1 2 64
   tells : columnsOf w ≡ k
 
 at-next : (w : World) (k : Columns) (c : Call) → At w k → answerTo w c ≡ A.Accepted → At (step w c) (columnsAfter w k c)

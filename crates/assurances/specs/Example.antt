@@ -44,7 +44,7 @@ example =
 -- the byte of the first flake, and zeros for those of the second.
 abbrev pub Example : Type 0
 Example =
-    (start : Start) × (start .shape ≡ shapeAs 2 1 2 64)
+    (start : Start) × (start .shape ≡ shapeAs 2 0 1 2 64)
     × (allAccepted (begun start) example ≡ true)
     × (let w = history start example in
     (answerTo w (asks (read 63 (9 ∷ 9 ∷ 9 ∷ []))) ≡ A.Accepted) × (readBuffer (w .drive) (w .vol) 63 (9 ∷ 9 ∷ 9 ∷ []) ≡ 1 ∷ 0 ∷ 0 ∷ []))
