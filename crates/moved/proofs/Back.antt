@@ -39,7 +39,7 @@ use Rattle.drive.specs.declared.Drive.{Drive}
 use Rattle.drive.specs.declared.State.{State}
 use Rattle.drive.specs.declared.State.the-variants.{Steady, Changing}
 use Rattle.drive.specs.Drive.{shapeOf, gaugeOf, keptOld, counterTop}
-use Rattle.drive.specs.Head.{mark, stateByte, numbersRow, numbersOf, checkFor, checkIn, frontIn, headOf}
+use Rattle.drive.specs.Head.{mark, kindByte, numbersRow, numbersOf, checkFor, checkIn, frontIn, headOf}
 use Rattle.drive.proofs.HeadLaws.{front-pieces}
 use Rattle.nuggets.specs.Nugget.{lockFor, storedIn}
 use Rattle.changes.specs.Change.{advanced}
@@ -115,11 +115,11 @@ tags-decide s a b n h =
 
 -- the head's pieces that a move keeps
 abbrev numbersIn : Drive → List ℕ
-numbersIn d = numbersOf (d .version) (d .n) (d .p) (d .f) (stateByte (d .state)) (d .epoch)
+numbersIn d = numbersOf (d .version) (d .n) (d .p) (d .f) (kindByte d) (d .epoch)
 
 length-numbers : (d : Drive) → length (numbersIn d) ≡ 16
 unfolding numbersOf
-length-numbers d = length-row numbersRow (mark & d .version & stateByte (d .state) & d .epoch & d .n & d .p & d .f & tt) (refl & tt & tt & tt & tt & tt & tt & tt)
+length-numbers d = length-row numbersRow (mark & d .version & kindByte d & d .epoch & d .n & d .p & d .f & tt) (refl & tt & tt & tt & tt & tt & tt & tt)
 
 length-check : (s : State) (old salt : List ℕ) (epoch : ℕ) → length (checkFor s old salt epoch) ≡ 32
 length-check Steady old salt epoch = length-replicate {A = ℕ} 32 0
@@ -279,7 +279,7 @@ module _ (leave enter : ℕ) (d : Drive) (v : List ℕ) (len : ℕ) (known : kno
     back-same =
         let was = head-right d v (x .opens) .head in
         record {
-          front = front-in e₂ u₂ back-salted back-head ∙ ap (λ (z : ℕ). numbersOf z (d .n) (d .p) (d .f) (stateByte (d .state)) (d .epoch) ++ d .salt) (sym (x .left)) ∙ sym (front-in d v (typed .salted) was);
+          front = front-in e₂ u₂ back-salted back-head ∙ ap (λ (z : ℕ). numbersOf z (d .n) (d .p) (d .f) (kindByte d) (d .epoch) ++ d .salt) (sym (x .left)) ∙ sym (front-in d v (typed .salted) was);
           check =
               check-in e₂ u₂ back-salted back-head
               ∙ check-kept (d .state) (keptOld (d .state) (d .old)) (d .salt) (d .epoch)
