@@ -28,7 +28,8 @@ uint32_t ngt_format(uint8_t *vol, size_t vol_len, uint32_t n, uint32_t p, uint32
                     const uint8_t secret[32], uint64_t outside, uint8_t drive[144], uint8_t answer[16]);
 /* The same under a version, 1 or 2, and a cipher, 0 (ChaCha20) or 16 (AES-256 in counter mode); any other is answered 1. ngt_format
  * is version 1 under cipher 0. A record has 18 bytes in version 1 and 26 in version 2, so a volume of version 2 is 8 bytes longer for
- * each nugget. The AES here looks up a table at secret places, so its time depends on them; ChaCha20's doesn't. */
+ * each nugget, and its tags are over nugget, flake and keycount too, under keys of their own. The AES here looks up a table at secret
+ * places, so its time depends on them; ChaCha20's doesn't. */
 uint32_t ngt_format_as(uint8_t *vol, size_t vol_len, uint32_t n, uint32_t p, uint32_t f, uint16_t version, uint8_t cipher,
                        const uint8_t salt[16], const uint8_t secret[32], uint64_t outside, uint8_t drive[144], uint8_t answer[16]);
 uint32_t ngt_mount(const uint8_t *vol, size_t vol_len, const uint8_t present[32], const uint8_t old[32],

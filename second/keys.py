@@ -1,4 +1,4 @@
-"""Keys, pads and hashes, each after its line of document 01."""
+"""Keys, pads, tags and hashes, each after its line of document 01 or 02."""
 
 from functools import lru_cache
 

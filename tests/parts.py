@@ -1,6 +1,7 @@
 """Keys, pads, tags, leaves, nodes, path and whole: the proved code against the second program.
 
-Random volumes of several shapes, whole and damaged, of version 1: `probe` has no other; `calls.py` and `histories.py` have both.
+Tag keys and tags of both versions. Random volumes of several shapes, whole and damaged, of version 1: `probe` has no other;
+`calls.py` and `histories.py` have both.
 NGT_SEED sets the seed; a failure prints it with the case.
 """
 import ctypes

@@ -2,7 +2,7 @@
 
 Its ChaCha20-Poly1305 enciphers a text with nugget, flake and keycount as associated data. Under the one-time key, the front of its
 own ChaCha20's block 0 (2.6), our tag over its ciphertext has to be its tag. A whole tag, with its key, is held against hashlib's
-BLAKE2s and its Poly1305 over the bytes that reading 42 names. NGT_SEED sets the seed; a failure prints it with the case.
+BLAKE2s and its Poly1305 over the bytes that document 02, Item 5, names. NGT_SEED sets the seed; a failure prints it with the case.
 """
 import ctypes
 import hashlib

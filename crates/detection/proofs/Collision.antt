@@ -3,18 +3,18 @@ use mathlib.Core.Path.{_≡_, refl, sym, ap, _∙_}
 use mathlib.Core.Bool.{true, false}
 use mathlib.Core.Logic.{_⊎_, inl, inr, ⊎-elim}
 use mathlib.Core.List.{List}
-use Prim.Native.Nat.{ℕ, _+_, _*_, _<_, _≤_}
+use Prim.Native.Nat.{ℕ, _+_, _*_, _^_, _<_, _≤_}
 use native.Mathlib.Omega.{arith}
-use lib.ListN.{length, getD}
+use lib.ListN.{length, length-take, drop, getD}
 use Rattle.records.proofs.RecordLaws.{record-told}
 use Rattle.base.specs.Lists.{part, tab, same}
 use Rattle.base.proofs.PickLaws.{yes, told, clash}
 use Rattle.base.proofs.FoldLaws.{same-true, same-refl}
 use Rattle.base.proofs.PartLaws.{part-part}
 use Rattle.base.proofs.TabLaws.{getD-tab}
-use Rattle.layout.specs.Parts.{recordAt, tagAt}
+use Rattle.layout.specs.Parts.{recordAt, tagAt, flakeAt}
 use Rattle.layout.specs.Spots.{spotAt}
-use Rattle.layout.proofs.Limits.{limits}
+use Rattle.layout.proofs.Limits.{Limits, limits}
 use Rattle.layout.proofs.Places.{Inside}
 use Rattle.answers.specs.declared.Answer.the-variants as A
 use Rattle.answers.specs.Numbers.{accepts}
@@ -25,22 +25,25 @@ use Rattle.records.specs.Record.{recordOf}
 use Rattle.drive.specs.declared.Drive.{Drive}
 use Rattle.drive.specs.Drive.{shapeOf, gaugeOf}
 use Rattle.drive.proofs.OpeningLaws.{opening-lent}
-use Rattle.nuggets.specs.Nugget.{storedIn, contentsIn, byteOf}
+use Rattle.nuggets.specs.Nugget.{lockFor, storedIn, contentsIn, byteOf}
 use Rattle.reading.specs.Read.{readAnswer, readBuffer}
 use Rattle.reading.proofs.TestedLaws.{read-tests}
 use Rattle.detection.specs.Right.{SaysPresent}
 use Rattle.twins.specs.Collision.{Collision}
 use Rattle.twins.proofs.Excludes.{path-excludes}
 use Rattle.detection.specs.Collision.{Forgery, OneDriveOneTree, OneDriveOneTag, OneDriveOneRead}
-use Rattle.detection.proofs.RightLaws.{head-right}
+use Rattle.detection.proofs.RightLaws.{head-right, covered-told}
 use Rattle.detection.proofs.TouchedLaws.{spot-within}
 use Rattle.detection.proofs.Detection.{read-detected}
+
+-- the drive's limits are kept
+limits-read : (d : Drive) (v : List ℕ) (o len a : ℕ) → readAnswer d v o len ≡ A.Accepted → o ≤ a → a < o + len → Limits (shapeOf d)
+limits-read d v o len a e h k = limits (shapeOf d) (opening-lent d v (ap accepts (read-tests d v o len e a h k .opens)) .limited)
 
 -- the byte's nugget and flake are there
 spot-read : (d : Drive) (v : List ℕ) (o len a : ℕ) → readAnswer d v o len ≡ A.Accepted → o ≤ a → a < o + len → Inside (shapeOf d) a
 spot-read d v o len a e h k =
-    let t = read-tests d v o len e a h k in
-    spot-within (shapeOf d) o len a (limits (shapeOf d) (opening-lent d v (ap accepts (t .opens)) .limited)) h k (t .fits)
+    spot-within (shapeOf d) o len a (limits-read d v o len a e h k) h k (read-tests d v o len e a h k .fits)
 
 -- two lists are equal or not
 decided : (a b : List ℕ) → (a ≡ b) ⊎ (a ≡ b → ⊥)
@@ -123,10 +126,16 @@ module _ (d : Drive) (v w : List ℕ) (o len a : ℕ) (ev : readAnswer d v o len
       let at = spotAt s a in
       (byteOf d v a ≡ byteOf d w a) ⊎ (Collision s v w (at .nugget) ⊎ Forgery d v w (at .nugget) (at .flake))
 
+  short : (u : List ℕ) (n f : ℕ) → length (storedIn (shapeOf d) u n f) < 2 ^ 64
+  short u n f = omega (arith, length-take (d .f) (drop (flakeAt (shapeOf d) n f) u), limits-read d v o len a ev h k .short)
+
   by-stored : (let s = shapeOf d in let at = spotAt s a in Alike s v w (at .nugget) → SaysPresent d v (at .nugget) (at .flake)
       → (storedIn s v (at .nugget) (at .flake) ≡ storedIn s w (at .nugget) (at .flake)) ⊎ (storedIn s v (at .nugget) (at .flake) ≡ storedIn s w (at .nugget) (at .flake) → ⊥) → Told)
   by-stored x p (inl e) = inl (stored-byte d v w a x e)
-  by-stored x p (inr differ) = inr (inr (record { differ = differ; alike = one-drive-one-tag d v w o len a ev ew h k x p }))
+  by-stored x p (inr differ) =
+      let at = spotAt (shapeOf d) a in
+      let told = covered-told (lockFor d v (at .nugget)) (at .flake) _ _ (short v (at .nugget) (at .flake)) (short w (at .nugget) (at .flake)) in
+      inr (inr (record { differ = λ e. differ (told e); alike = one-drive-one-tag d v w o len a ev ew h k x p }))
 
   by-bit : (let s = shapeOf d in let at = spotAt s a in Alike s v w (at .nugget)
       → (bit (recordOf (shapeOf d) v (at .nugget) .held) (at .flake) ≡ true) ⊎ (bit (recordOf (shapeOf d) v (at .nugget) .held) (at .flake) ≡ false) → Told)

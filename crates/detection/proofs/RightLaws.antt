@@ -1,14 +1,16 @@
 -- From the tests to the bytes: an accepted path, an accepted test of flakes, an accepted whole and an accepted opening.
 use mathlib.Core.Path.{_≡_, refl, sym, ap, _∙_}
-use mathlib.Core.Bool.{true, false}
+use mathlib.Core.Bool.{Bool, true, false}
 use mathlib.Core.Logic.{_⊎_, inl, inr}
 use mathlib.Core.List.{List}
 use Prim.Native.Nat.{ℕ, zero, suc, _+_, _/_, _^_, _<_, _≤_}
 use native.Mathlib.Nat.{pow-succ', div-div-eq-div-mul}
 use native.Mathlib.Omega.{arith}
-use lib.Dec.{eqb}
+use lib.Dec.{eqb, lit<}
+use lib.ListN.{length}
 use borrow.Author.Tests.{eqb-true, eqb-false, eq-eqb}
 use Rattle.base.specs.Lists.{part, same}
+use Rattle.base.specs.Pick.{pick}
 use Rattle.base.proofs.PickLaws.{yes, no, told, either-left, either-right, both-left, both-right}
 use Rattle.base.proofs.FoldLaws.{same-true}
 use Rattle.layout.specs.declared.Shape.{Shape}
@@ -24,9 +26,13 @@ use Rattle.records.specs.Journal.{bit}
 use Rattle.records.specs.Record.{wellFormed, recordOf}
 use Rattle.records.proofs.BitLaws.{none-above, lies-bits}
 use Rattle.records.proofs.RuleLaws.{formed-spent, formed-lies, formed-epoch, formed-keycount}
+use Rattle.words.specs.Le.{le}
+use Rattle.messages.specs.Messages.{isFirst}
 use Rattle.poly1305.specs.Poly1305.{poly1305}
+use Rattle.keys.specs.declared.Lock.{Lock}
 use Rattle.keys.specs.Keys.{tagKey}
 use Rattle.keys.specs.Tags.{laidOut, named, covered, tagOf}
+use Rattle.keys.proofs.LaidOut.{laid-out-told}
 use Rattle.nodes.specs.Nodes.{leafOf, innerOf, zeroLeaf}
 use Rattle.nodes.proofs.MadeLaws.{made-leaf, made-inner, made-bottom, bottom-zero}
 use Rattle.tree.specs.Good.{upward}
@@ -124,6 +130,16 @@ pub tag-later : (d : Drive) (v : List ℕ) (n f : ℕ) (stored : List ℕ) → i
     → tagFor d v n f stored ≡ poly1305 (tagKey (lockFor d v n) f) (laidOut (named (lockFor d v n) f) stored)
 unfolding covered
 tag-later d v n f stored e = ap (poly1305 (tagKey (lockFor d v n) f)) (no _ e refl)
+
+-- and what it is over tells the stored flake, in either version
+pub covered-told : (lock : Lock) (f : ℕ) (stored other : List ℕ) → length stored < 2 ^ 64 → length other < 2 ^ 64
+    → covered lock f stored ≡ covered lock f other → stored ≡ other
+unfolding covered le
+covered-told lock f stored other h k = go (isFirst (lock .version))
+  where
+    go : (first : Bool) → pick first stored (laidOut (named lock f) stored) ≡ pick first other (laidOut (named lock f) other) → stored ≡ other
+    go true e = e
+    go false e = laid-out-told (named lock f) (named lock f) stored other (lit< tt) h (lit< tt) k e .1
 
 -- the tag of each flake of the set
 pub tag-right : (d : Drive) (v : List ℕ) (n mask f : ℕ) → flakesOf d v n mask ≡ A.Accepted → f < d .p → bit mask f ≡ true → TagRight d v n f

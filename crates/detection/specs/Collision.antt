@@ -6,10 +6,11 @@ use mathlib.Core.List.{List}
 use lib.ListN.{length, getD}
 use Rattle.layout.specs.Spots.{spotAt}
 use Rattle.answers.specs.declared.Answer.the-variants as A
+use Rattle.keys.specs.Tags.{covered}
 use Rattle.nodes.specs.Alike.{Alike}
 use Rattle.drive.specs.declared.Drive.{Drive}
 use Rattle.drive.specs.Drive.{shapeOf}
-use Rattle.nuggets.specs.Nugget.{storedIn}
+use Rattle.nuggets.specs.Nugget.{lockFor, storedIn}
 use Rattle.reading.specs.Read.{readAnswer, readBuffer}
 use Rattle.twins.specs.Collision.{Collision}
 use Rattle.detection.specs.Right.{SaysPresent, tagFor}
@@ -31,9 +32,9 @@ OneDriveOneTag =
     Alike s v w (at .nugget) → SaysPresent d v (at .nugget) (at .flake)
     → tagged (storedIn s v (at .nugget) (at .flake)) ≡ tagged (storedIn s w (at .nugget) (at .flake))
 
--- two different stored flakes with the same Poly1305 tag under the same key
+-- two stored flakes of which Poly1305 is given different bytes, under the same key, and gives the same tag
 pub record Forgery (d : Drive) (v w : List ℕ) (n f : ℕ) : Type 0 where
-  pub differ : storedIn (shapeOf d) v n f ≡ storedIn (shapeOf d) w n f → ⊥
+  pub differ : (let given = covered (lockFor d v n) f in given (storedIn (shapeOf d) v n f) ≡ given (storedIn (shapeOf d) w n f) → ⊥)
   pub alike : tagFor d v n f (storedIn (shapeOf d) v n f) ≡ tagFor d v n f (storedIn (shapeOf d) w n f)
 
 -- So the same read of the two volumes gives the same bytes, or a collision or a forgery is shown.

@@ -25,6 +25,7 @@ use Rattle.layout.proofs.Limits.{limits, lent-small, width-is}
 use Rattle.records.specs.Listing.{Entry}
 use Rattle.keys.specs.Keys.{nuggetKey, tagKey, checkOf, sealOf}
 use Rattle.keys.specs.Pads.{Size, Stretch, Lies, padOf, inputOf}
+use Rattle.keys.specs.Tags.{covered}
 use Rattle.keys.proofs.CipherLaws.{lawful}
 use Rattle.keys.proofs.Stretches.{stretch-is, no-stretch-twice as stretches-apart}
 use Rattle.nodes.specs.Nodes.{nodeIn, recordPart, tagsPart, leafOf, innerOf}
@@ -125,6 +126,12 @@ module _ (x : Start) where
       (ap (λ (s : TagSource). s .message) same) in
       record { nuggets = nuggets e g l m (ap (λ (s : TagSource). s .nugget) same); keycounts = told .1; flakes = told .0 }
 
+  -- nothing else of an entry is among the bytes that its tag is over
+  same-covered : (e g : Entry) (stored other : List ℕ) → SameEntry e g → other ≡ stored
+      → covered (lockIn x g) (g .flake) other ≡ covered (lockIn x e) (e .flake) stored
+  unfolding covered
+  same-covered e g stored other one same = rw (one .nuggets, one .keycounts, one .flakes, same) refl
+
 pub stretch-made : StretchMade
 unfolding nuggetKey
 stretch-made x calls i j e at h =
@@ -193,7 +200,8 @@ one-stretch-one-contents x calls later n f m g a b y z ha hb same =
 pub one-tag-key-one-message : OneTagKeyOneMessage
 one-tag-key-one-message x calls later n f m g y z same =
     let one = same-tag-key x _ _ (lain x calls n f y) (lain x (calls ++ later) m g z) same in
-    (one .nuggets, one .flakes, one-flake x calls later n f m g y one)
+    let stored = one-flake x calls later n f m g y one in
+    (one .nuggets, one .flakes, stored, same-covered x _ _ _ _ one stored)
 
 check-for : (s : State) (old salt : List ℕ) (epoch : ℕ) → isChanging s ≡ true → checkFor s old salt epoch ≡ checkOf old salt epoch
 check-for Steady old salt epoch e = absurd (clash e refl)

@@ -22,6 +22,7 @@ use Rattle.keys.specs.declared.Lock.{Lock}
 use Rattle.keys.specs.Keys.{tagKey}
 use Rattle.keys.specs.Ciphers.{Cipher, cipherOf}
 use Rattle.keys.specs.Pads.{Stretch, inputOf, padOf}
+use Rattle.keys.specs.Tags.{covered}
 use Rattle.nodes.specs.Nodes.{nodeIn, recordPart, tagsPart}
 use Rattle.drive.specs.Drive.{shapeOf, isChanging, zeros}
 use Rattle.opening.specs.Format.{freshRecord}
@@ -140,8 +141,12 @@ OneStretchOneContents =
     → stretchSource start (liesUnder w n f) a ≡ stretchSource start (liesUnder u m g) b
     → (n ≡ m) × (f ≡ g) × (a ≡ b) × (storedIn s (u .vol) m g ≡ storedIn s (w .vol) n f)
 
+-- what Poly1305 is given of a spent flake: in version 1 its stored bytes, in version 2 what names them too
+abbrev pub coveredIn : Start → World → ℕ → ℕ → List ℕ
+coveredIn start w n f = covered (lockIn start (liesUnder w n f)) f (storedIn (start .shape) (w .vol) n f)
+
 -- Poly1305's key is for one message: two spent flakes whose tag keys are made of the same are one flake with the same stored
--- bytes.
+-- bytes, and Poly1305 is given the same of both.
 abbrev pub OneTagKeyOneMessage : Type 0
 OneTagKeyOneMessage =
     (start : Start) (calls later : List Call) (n f m g : ℕ)
@@ -149,7 +154,7 @@ OneTagKeyOneMessage =
     let w = history start calls in
     let u = history start (calls ++ later) in
     Spent s (w .vol) n f → Spent s (u .vol) m g → tagSource start (liesUnder w n f) ≡ tagSource start (liesUnder u m g)
-    → (n ≡ m) × (f ≡ g) × (storedIn s (u .vol) m g ≡ storedIn s (w .vol) n f)
+    → (n ≡ m) × (f ≡ g) × (storedIn s (u .vol) m g ≡ storedIn s (w .vol) n f) × (coveredIn start u m g ≡ coveredIn start w n f)
 
 -- a value is the hash of a message under a key, and each part of the message has its width; so by `OneMessage` of crate
 -- `messages` the message's bytes tell all that goes into it
