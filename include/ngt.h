@@ -39,17 +39,17 @@ uint32_t ngt_mount(const uint8_t *vol, size_t vol_len, const uint8_t present[32]
 uint32_t ngt_read(const uint8_t drive[144], const uint8_t *vol, size_t vol_len, uint64_t offset,
                   uint8_t *buf, size_t buf_len, uint8_t answer[16]);
 
-/* Write, begin, sweep, finish and discard change volume and drive where they stand, if the call is accepted. A refusal stores no byte
- * of either, and neither does an accepted write of no bytes or a discard that clears nothing: both may then lie on pages that can't
- * be written. A change stores the whole image anew, so bytes of it that mean nothing are zeros then. */
+/* Write, begin, sweep, finish and discard change volume and drive where they stand, if the call is accepted. A refusal stores no
+ * byte of either, and neither does an accepted write of no bytes or a discard that clears nothing: both may then lie on pages that
+ * can't be written. A change stores the whole image anew, so bytes of it that mean nothing are zeros then. */
 uint32_t ngt_write(uint8_t drive[144], uint8_t *vol, size_t vol_len, uint64_t offset, const uint8_t *bytes, size_t bytes_len,
                    uint8_t answer[16]);
 uint32_t ngt_begin(uint8_t drive[144], uint8_t *vol, size_t vol_len, const uint8_t secret[32], uint8_t answer[16]);
 uint32_t ngt_sweep(uint8_t drive[144], uint8_t *vol, size_t vol_len, uint32_t nugget, uint8_t answer[16]);
 /* Frees count flakes of a nugget from the first on, in version 2 alone, while a change runs too: they read as zero, and count as
- * never written. Their stored bytes and tags stay as they are (it is no erasure); the next write there rekeys the nugget. 1, 2, 7
- * head; 9 on version 1; 8 if the nugget or the range lies past the end (first + count is compared whole, and first P with count 0
- * is allowed); 7 path; 13 unless nothing is cleared. */
+ * never written. Their stored bytes and tags stay as they are (it is no erasure); the next write there rekeys the nugget unless it
+ * was rekeyed since. 1, 2, 7 head; 9 on version 1; 8 if the nugget or the range lies past the end (first + count is compared whole,
+ * and first P with count 0 is allowed); 7 path; 13 unless nothing is cleared. */
 uint32_t ngt_discard(uint8_t drive[144], uint8_t *vol, size_t vol_len, uint32_t nugget, uint32_t first, uint32_t count,
                      uint8_t answer[16]);
 
@@ -80,8 +80,8 @@ uint32_t ngt_move_down(uint8_t drive[144], const uint8_t *vol, size_t vol_len, u
 uint32_t ngt_export(const uint8_t drive[144], const uint8_t *vol, size_t vol_len, const uint8_t data[32], const uint8_t tweak[32],
                     uint8_t *out, size_t out_len, uint8_t answer[16]);
 
-/* Such a buffer decrypted and written whole at offset 0: the same refusals up to 10, then as that one write. It needs 4,608 bytes of
- * stack for the sectors of one flake, and leaves the last ones there: a host that cares wipes its stack. in is only read. */
+/* Such a buffer decrypted and written whole at offset 0: the same refusals up to 10, then as that one write. It needs 4,608 bytes
+ * of stack for the sectors of one flake, and leaves the last ones there: a host that cares wipes its stack. in is only read. */
 uint32_t ngt_import(uint8_t drive[144], uint8_t *vol, size_t vol_len, const uint8_t data[32], const uint8_t tweak[32],
                     const uint8_t *in, size_t in_len, uint8_t answer[16]);
 
@@ -114,14 +114,14 @@ uint32_t ngt_twins(const uint8_t drive[144], const uint8_t *first, size_t first_
 uint32_t ngt_tally(const uint8_t drive[144], const uint8_t *vol, size_t vol_len, uint8_t report[24], uint8_t answer[16]);
 
 /* A summary beside the tree, for a report that reads no record. sum: 12 (2L - 1) bytes, L the smallest power of two not below N;
- * node i at 12 (i - 1): the moved nuggets and the present flakes beneath it, and the present flakes in moved nuggets, 4 bytes
- * each. Tests: 1, 2, 2 if sum_len is another, 7 head; then building 7 whole, renewing 8 and 7 path. A refusal stores no byte of
- * sum. Build once, then renew the path of each nugget that a write, a queue, an import, a sweep or a discard changed, in any order:
- * that gives what building gives. After a begin build again. A finish, a mount, whatever asks and whatever is refused leave the
- * summary as it has to be. ngt_summary_report is ngt_tally's report, of a summary kept so and a volume that ngt_tally wouldn't call
+ * node i at 12 (i - 1): the moved nuggets and the present flakes beneath it, and the present flakes in moved nuggets, 4 bytes each.
+ * Tests: 1, 2, 2 if sum_len is another, 7 head; then building 7 whole, renewing 8 and 7 path. A refusal stores no byte of sum.
+ * Build once, then renew the path of each nugget that a write, a queue, an import, a sweep or a discard changed, in any order: that
+ * gives what building gives. After a begin build again. A finish, a mount, whatever asks and whatever is refused leave the summary
+ * as it has to be. ngt_summary_report is ngt_tally's report, of a summary kept so and a volume that ngt_tally wouldn't call
  * altered; it looks at head and node 1 of the volume and at the entry of node 1 alone. Over bytes that are no summary all three are
- * exact too: sums roll over at 32 bits, left is 0 where moved is above N, the share is at most 10,000, and at most 9,999 where moved
- * is below N. */
+ * exact too: sums roll over at 32 bits, left is 0 where moved is above N, the share is at most 10,000, and at most 9,999 where
+ * moved is below N. */
 uint32_t ngt_summary_build(const uint8_t drive[144], const uint8_t *vol, size_t vol_len, uint8_t *sum, size_t sum_len,
                            uint8_t answer[16]);
 uint32_t ngt_summary_renew(const uint8_t drive[144], const uint8_t *vol, size_t vol_len, uint8_t *sum, size_t sum_len,
