@@ -8,10 +8,10 @@
  * The drive's image, 144 bytes: 0-3 N; 4-7 P; 8-11 F; 12 state (0 steady, 1 changing); 13 cipher (0 ChaCha20, 16 AES-256); 14-15
  * epoch; 16-17 the epoch being left; 18-19 version; 20-23 zero; 24-39 salt; 40-47 counter; 48-79 node 1; 80-111 present secret;
  * 112-143 old secret. Bytes 20-23 aren't looked at, nor are 16-17 and the old secret of a steady one. Another state than 0 or 1 is
- * answered 1, and so is another cipher than 0 or 16 and another version than 1 or 2. Version and cipher are chosen at the format and
- * stay; every call works on both, but for discard.
+ * answered 1, and so is another cipher than 0 or 16 and another version than 1 or 2. Both are chosen at the format: the cipher stays,
+ * the version changes by a move alone. Every call works on both versions, but for discard and the two moves.
  * The answer's image, 16 bytes: 0-3 number; 4-7 kind of place (0 none, 1 head, 2 record, 3 node, 4 flake); 8-11 first value
- * (record, node, nugget of a flake; for answer 11 how many are left, for 16 its nugget); 12-15 second value (the flake). What isn't carried is
+ * (record, node, nugget of a flake; for 11 how many are left, for 16 its nugget); 12-15 second value (the flake). What isn't carried is
  * zero. After each accepted change the outside counter to keep is bytes 40-47 of the drive's image.
  * All numbers are little-endian. */
 #ifndef NGT_H

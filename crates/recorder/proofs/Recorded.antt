@@ -15,7 +15,7 @@ use Rattle.base.proofs.TabLaws.{tab-ext}
 use Rattle.answers.specs.declared.Answer.the-variants as A
 use Rattle.answers.specs.Numbers.{accepts}
 use Rattle.layout.specs.declared.Shape.{Shape}
-use Rattle.layout.specs.Shape.{shape, inLimits, sized, knownVersion, known, widthOf, heightOf, heightFrom}
+use Rattle.layout.specs.Shape.{shape, inLimits, sized, knownVersion, knownCipher, known, widthOf, heightOf, heightFrom}
 use Rattle.layout.proofs.Limits.{limits}
 use Rattle.records.specs.Record.{recordOf}
 use Rattle.drive.specs.Drive.{shapeOf}
@@ -261,7 +261,7 @@ pub session-records : SessionRecords
 session-records s salt first second v text buffer able = records s salt first second v text buffer able
 
 sample-accepted : formatAnswer (shape 3 2 64) 0 (replicate 862 0) ≡ A.Accepted
-unfolding formatAnswer inLimits sized known knownVersion widthOf heightOf heightFrom
+unfolding formatAnswer inLimits sized known knownVersion knownCipher widthOf heightOf heightFrom
 sample-accepted = refl
 
 pub main-records : MainRecords
