@@ -1,2 +1,3 @@
 pub mod Moves
+pub mod Spent
 pub mod Journeys
