@@ -172,20 +172,23 @@ def swept_and_ended(checks, rig):
 
 
 def spent(checks):
-    """A counter at its top: a write is ENOSPC, and what is there can be read."""
+    """A counter at its top: a write and a trim are ENOSPC, and what is there can be read."""
     with Rig("spent") as rig:
-        rig.counter.write_text(f"{TOP - 1}\n")
+        rig.counter.write_text(f"{TOP - 2}\n")
         rig.present, rig.old = rig.secret(), None
-        made = rig.tool("format", rig.image, *rig.keys(), "--nuggets", 2, "--flakes", 4, "--size", 64)
-        checks.same((made.returncode, rig.counter.read_text()), (0, f"{TOP}\n"), f"a last format: {made.stderr}")
+        made = rig.tool("format", rig.image, *rig.keys(), "--nuggets", 2, "--flakes", 4, "--size", 64, "--version", 2)
+        last = rig.tool("write", rig.image, *rig.keys(), data=b"weld" * 128)
+        checks.same((made.returncode, last.returncode, rig.counter.read_text()), (0, 0, f"{TOP}\n"), f"a last write: {made.stderr} {last.stderr}")
         plain, back = rig.folder / "plain", rig.folder / "back"
         plain.write_bytes(bytes(range(256)) * 2)
         with Device(rig) as device:
             copied = ran("nbdcopy", plain, device.uri)
             checks.that(copied.returncode != 0 and "No space left on device" in copied.stderr, f"a counter at its top: {copied.stderr}")
             checks.that(device.said("refused=13 class=spent"), "the refusal's line is in the log")
+            freed = trim(device, 0, 128, 128)
+            checks.that(freed.returncode != 0 and "No space left on device" in freed.stdout + freed.stderr, f"a trim then: {freed.stdout} {freed.stderr}")
             copied = ran("nbdcopy", device.uri, back)
-            checks.same((copied.returncode, back.read_bytes()), (0, bytes(512)), f"it is read: {copied.stderr}")
+            checks.same((copied.returncode, back.read_bytes()), (0, b"weld" * 128), f"it is read: {copied.stderr}")
 
 
 def filled(checks, rig):

@@ -48,10 +48,10 @@ def looked_at(checks, rig, what, finished=False):
 
 
 def discarded(checks, rig, what):
-    """One nugget in two loses its second half, the last one all."""
-    drive = rig.drive
-    size = drive.p * drive.f
-    for offset, length in [*((n * size + size // 2, size // 2) for n in range(0, drive.n, 2)), ((drive.n - 1) * size, size)]:
+    """The middle third of the contents, which ends within flakes, and the last nugget."""
+    size = rig.drive.p * rig.drive.f
+    capacity = rig.drive.n * size
+    for offset, length in ((capacity // 3 + 1, capacity // 3), (capacity - size, size)):
         checks.same(rig.tool("discard", rig.image, *rig.keys(), "--offset", offset, "--length", length).returncode, 0, f"{what}: {offset} {length}")
     looked_at(checks, rig, what)
     checks.that(rig.tool("map", rig.image, *rig.keys()).stdout.decode().split("\n\n")[0].endswith("·"), f"{what}: a nugget with nothing held is shown empty")
@@ -59,7 +59,7 @@ def discarded(checks, rig, what):
 
 def main():
     checks = Checks()
-    for *shape, version in ((1, 1, 64, 1), (3, 2, 64, 1), (3, 2, 64, 2), (90, 64, 64, 1), (90, 64, 64, 2)):
+    for *shape, version in ((1, 1, 64, 1), (3, 2, 64, 1), (3, 2, 64, 2), (90, 64, 64, 2)):
         with Rig(f"pages {shape} {version}") as rig:
             rig.format(*shape, version)
             looked_at(checks, rig, f"{shape} fresh")

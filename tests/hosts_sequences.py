@@ -5,7 +5,7 @@ import calls
 import lines
 from layout import TOP
 
-SEQUENCES, STEPS = 21, 34
+SEQUENCES, STEPS = 18, 34
 SHAPES = ((1, 1, 64), (3, 2, 64), (5, 3, 128), (9, 2, 256), (2, 4, 64), (2, 2, 128), (3, 3, 512), (2, 64, 64))
 
 
