@@ -34,6 +34,7 @@ HOST_CC := $(CROSS)gcc -std=c11 -D_GNU_SOURCE -O2 -Wall -Wextra -Werror -fPIC -I
 PROVED := crates.txt $(shell find crates -name '*.rt' -o -name '*.antt')
 COMMON := $(wildcard host/common/*.c)
 TOOL := $(wildcard host/ngt/*.c)
+DEVICE := $(wildcard host/nbdkit/*.c)
 HEADERS := include/ngt.h $(wildcard host/*/*.h)
 PLUGIN := $(if $(CROSS),,$(shell pkg-config --exists nbdkit 2>/dev/null && echo $(MADE)/nbdkit-ngt-plugin.so))
 
@@ -57,8 +58,8 @@ $(MADE)/ngt.pc: host/ngt.pc.in FORCE
 $(MADE)/ngt: $(TOOL) $(COMMON) $(HEADERS) $(MADE)/libngt.a
 	@$(HOST_CC) -o $@ $(TOOL) $(COMMON) $(MADE)/libngt.a
 
-$(MADE)/nbdkit-ngt-plugin.so: host/nbdkit/ngt.c $(COMMON) $(HEADERS) $(MADE)/libngt.a
-	@$(HOST_CC) $(shell pkg-config --cflags nbdkit) -shared -fvisibility=hidden -pthread -o $@ host/nbdkit/ngt.c $(COMMON) -Wl,--exclude-libs,ALL $(MADE)/libngt.a
+$(MADE)/nbdkit-ngt-plugin.so: $(DEVICE) $(COMMON) $(HEADERS) $(MADE)/libngt.a
+	@$(HOST_CC) $(shell pkg-config --cflags nbdkit) -shared -fvisibility=hidden -pthread -o $@ $(DEVICE) $(COMMON) -Wl,--exclude-libs,ALL $(MADE)/libngt.a
 
 install: hosts
 	install -d $(DESTDIR)$(PREFIX)/bin $(DESTDIR)$(PREFIX)/include $(DESTDIR)$(PREFIX)/lib/pkgconfig

@@ -14,7 +14,7 @@ peer=(-Dngt_mount=peer_mount -Dngt_read=peer_read -Dngt_write=peer_write -Dngt_s
 words=(gcc -std=c11 -D_GNU_SOURCE -O3 -fPIC -Iinclude "${peer[@]}")
 "${words[@]}" -o "$here/peer-ngt" host/ngt/*.c host/common/*.c bench/peer_*.c "$made/libngt.a"
 # shellcheck disable=SC2046
-"${words[@]}" $(pkg-config --cflags nbdkit) -shared -fvisibility=hidden -pthread -o "$here/peer-plugin.so" host/nbdkit/ngt.c host/common/*.c bench/peer_*.c -Wl,--exclude-libs,ALL "$made/libngt.a"
+"${words[@]}" $(pkg-config --cflags nbdkit) -shared -fvisibility=hidden -pthread -o "$here/peer-plugin.so" host/nbdkit/*.c host/common/*.c bench/peer_*.c -Wl,--exclude-libs,ALL "$made/libngt.a"
 cd "$here"
 export PATH=$made:$PATH
 echo "load $(cut -d' ' -f1-3 /proc/loadavg)"

@@ -138,7 +138,7 @@ uint32_t ngt_fleet(const uint8_t *lines, size_t lines_len, uint8_t line[192]);
 /* What a host needs beside the calls. The functions that make a line store it, with its newline, in the first bytes of line and
  * return how many they are; the bytes behind them stay as they are.
  *
- * Length of a volume of this shape and version, and its capacity N P F; 0 if out of limits. The one version is 1. */
+ * Length of a volume of this shape and version, and its capacity N P F; 0 if out of limits. The versions are 1 and 2. */
 uint64_t ngt_length(uint32_t n, uint32_t p, uint32_t f, uint16_t version);
 uint64_t ngt_capacity(uint32_t n, uint32_t p, uint32_t f);
 

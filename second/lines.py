@@ -14,7 +14,7 @@ KINDS = range(1, 5)
 
 def length(n, p, f, version):
     """A version that isn't known is out of limits."""
-    return layout(n, p, f).length if version == 1 and shape_in_limits(n, p, f) else 0
+    return layout(n, p, f, version).length if shape_in_limits(n, p, f, version) else 0
 
 
 def capacity(n, p, f):

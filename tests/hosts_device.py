@@ -6,11 +6,13 @@ import subprocess
 import time
 
 from rig import PLUGIN, Checks, Rig
+import calls
 from layout import TOP
 
 SHAPE = 192, 16, 4096
 CAPACITY = SHAPE[0] * SHAPE[1] * SHAPE[2]
 FILES = 300
+HOLES = 16, 8, 320
 
 
 class Device:
@@ -57,6 +59,11 @@ def fio(device, name, *words):
                "--verify=crc32c", "--do_verify=1", "--verify_fatal=1", "--fsync=256", "--randseed=7", *words, where=device.rig.folder)
 
 
+def trim(device, offset, length, at_once):
+    """One request behind the other, and no flush."""
+    return ran("fio", "--name=trim", "--ioengine=nbd", f"--uri={device.uri}", "--rw=trim", f"--offset={offset}", f"--size={length}", f"--bs={at_once}", where=device.rig.folder)
+
+
 def folder_of_files(rig):
     made = rig.folder / "files"
     for number in range(FILES):
@@ -78,8 +85,8 @@ def filesystem(checks, rig):
     made = ran("mke2fs", "-q", "-t", "ext4", "-d", files, plain)
     checks.same(made.returncode, 0, f"mke2fs: {made.stderr}")
     with Device(rig) as device:
-        size = json.loads(ran("nbdinfo", "--json", device.uri).stdout)["exports"][0]["export-size"]
-        checks.same(size, CAPACITY, "nbdinfo tells the capacity")
+        told = json.loads(ran("nbdinfo", "--json", device.uri).stdout)["exports"][0]
+        checks.same((told["export-size"], told["can_trim"]), (CAPACITY, rig.drive.version == 2), "nbdinfo tells the capacity, and trim on version 2 alone")
         copied = ran("nbdcopy", "--flush", plain, device.uri)
         checks.same(copied.returncode, 0, f"nbdcopy in: {copied.stderr}")
     with Device(rig) as device:
@@ -97,12 +104,14 @@ def filesystem(checks, rig):
 
 
 def changing(checks, rig):
-    """Verified writes, then the same while the secret is changed; the tool agrees afterwards."""
+    """Verified writes, then trims and the same while the secret is changed; the tool agrees afterwards."""
     with Device(rig) as device:
         wrote = fio(device, "steady")
         checks.same(wrote.returncode, 0, f"fio: {wrote.stdout[-600:]}{wrote.stderr}")
     fresh = rig.secret()
     with Device(rig, **{"new-secret": fresh}) as device:
+        freed = trim(device, 6 << 20, 2 << 20, 1 << 16)
+        checks.same(freed.returncode, 0, f"trim while the secret is changed: {freed.stderr}")
         wrote = fio(device, "changing", "--bs=2k", "--size=4m")
         checks.same(wrote.returncode, 0, f"fio while the secret is changed: {wrote.stdout[-600:]}{wrote.stderr}")
         checks.that(device.wait_for("the change is finished"), "the change is finished")
@@ -110,6 +119,8 @@ def changing(checks, rig):
     rig.present = fresh
     told = rig.tool("report", rig.image, *rig.keys())
     checks.that(told.returncode == 0 and b" left=0 " in told.stdout and b"still needed" not in told.stderr, f"the tool reports: {told.stdout} {told.stderr}")
+    held = rig.tool("read", rig.image, *rig.keys(), "--offset", 6 << 20, "--length", 2 << 20).stdout
+    checks.same(held, bytes(2 << 20), "what was trimmed reads as zero")
 
 
 def damaged(checks, rig):
@@ -161,28 +172,115 @@ def swept_and_ended(checks, rig):
 
 
 def spent(checks):
-    """A counter at its top: a write is ENOSPC, and what is there can be read."""
+    """A counter at its top: a write and a trim are ENOSPC, and what is there can be read."""
     with Rig("spent") as rig:
-        rig.counter.write_text(f"{TOP - 1}\n")
+        rig.counter.write_text(f"{TOP - 2}\n")
         rig.present, rig.old = rig.secret(), None
-        made = rig.tool("format", rig.image, *rig.keys(), "--nuggets", 2, "--flakes", 4, "--size", 64)
-        checks.same((made.returncode, rig.counter.read_text()), (0, f"{TOP}\n"), f"a last format: {made.stderr}")
+        made = rig.tool("format", rig.image, *rig.keys(), "--nuggets", 2, "--flakes", 4, "--size", 64, "--version", 2)
+        last = rig.tool("write", rig.image, *rig.keys(), data=b"weld" * 128)
+        checks.same((made.returncode, last.returncode, rig.counter.read_text()), (0, 0, f"{TOP}\n"), f"a last write: {made.stderr} {last.stderr}")
         plain, back = rig.folder / "plain", rig.folder / "back"
         plain.write_bytes(bytes(range(256)) * 2)
         with Device(rig) as device:
             copied = ran("nbdcopy", plain, device.uri)
             checks.that(copied.returncode != 0 and "No space left on device" in copied.stderr, f"a counter at its top: {copied.stderr}")
             checks.that(device.said("refused=13 class=spent"), "the refusal's line is in the log")
+            freed = trim(device, 0, 128, 128)
+            checks.that(freed.returncode != 0 and "No space left on device" in freed.stdout + freed.stderr, f"a trim then: {freed.stdout} {freed.stderr}")
             copied = ran("nbdcopy", device.uri, back)
-            checks.same((copied.returncode, back.read_bytes()), (0, bytes(512)), f"it is read: {copied.stderr}")
+            checks.same((copied.returncode, back.read_bytes()), (0, b"weld" * 128), f"it is read: {copied.stderr}")
+
+
+def filled(checks, rig):
+    """Flakes of 320 bytes, so that no block of a client's ends where a flake does; all of them written."""
+    n, p, f = HOLES
+    plain = rig.folder / "plain"
+    plain.write_bytes(rig.source.randbytes(n * p * f))
+    with Device(rig) as device:
+        copied = ran("nbdcopy", "--flush", plain, device.uri)
+        checks.same(copied.returncode, 0, f"nbdcopy in: {copied.stderr}")
+    return plain.read_bytes()
+
+
+def held_flakes(rig):
+    """As the auditor's page tells them, counted over all nuggets."""
+    page = json.loads(rig.tool("audit", rig.image, *rig.keys(), "--json").stdout)
+    return {nugget["nugget"] * HOLES[1] + flake for nugget in page["nuggets"] for flake in nugget["flakes"]}
+
+
+def whole_in(offset, length):
+    n, p, f = HOLES
+    return {at for at in range(n * p) if offset <= at * f and (at + 1) * f <= offset + length}
+
+
+def without(data, flakes):
+    return b"".join(bytes(HOLES[2]) if at in flakes else data[at * HOLES[2]:(at + 1) * HOLES[2]] for at in range(HOLES[0] * HOLES[1]))
+
+
+def discarded(drive, volume, flakes):
+    """The second program's discards, nugget by nugget."""
+    for n in sorted({at // drive.p for at in flakes}):
+        inside = [at % drive.p for at in flakes if at // drive.p == n]
+        done = calls.discard(drive, volume, n, min(inside), len(inside))
+        drive, volume = done.drive, done.volume
+    return drive, volume
+
+
+def trimmed(checks):
+    """Three trims: the whole flakes of each are freed as the second program frees them, and the rest of the range stays."""
+    with Rig("trimmed") as rig:
+        rig.format(*HOLES, 2)
+        data = filled(checks, rig)
+        before = rig.image.read_bytes()
+        drive, volume = calls.mount(before, rig.present.read_bytes(), bytes(32), int(rig.counter.read_text())).drive, before
+        freed = [whole_in(at, 5000) for at in (10000, 15000, 20000)]
+        for flakes in freed:
+            drive, volume = discarded(drive, volume, flakes)
+        device = Device(rig)
+        done = trim(device, 10000, 15000, 5000)
+        checks.same(done.returncode, 0, f"trim: {done.stdout[-600:]}{done.stderr}")
+        device.end(signal.SIGKILL)
+        checks.that(rig.image.read_bytes() == volume, "every byte of the image as the second program's")
+        checks.same(rig.tool("report", rig.image, *rig.keys()).returncode, 6, "a trim that wasn't flushed is ahead of the counter")
+        checks.same((rig.tool("report", rig.image, *rig.keys(), "--ahead").returncode, rig.counter.read_text()), (0, f"{drive.counter}\n"), "and is taken as a write is")
+        checks.same(held_flakes(rig), set(range(HOLES[0] * HOLES[1])) - set().union(*freed), "they count as never written")
+        with Device(rig) as device:
+            copied = ran("nbdcopy", device.uri, rig.folder / "back")
+            checks.that(copied.returncode == 0 and (rig.folder / "back").read_bytes() == without(data, set().union(*freed)), f"they read as zero: {copied.stderr}")
+
+
+def with_holes(path, data, *holes):
+    """A file that was never written there: of its holes nbdcopy makes zero requests."""
+    with open(path, "wb") as out:
+        for start, end in zip((0, *(end for _, end in holes)), (*(start for start, _ in holes), len(data))):
+            out.seek(start)
+            out.write(data[start:end])
+    return path.read_bytes()
+
+
+def zeroed(checks, version):
+    """Zeros of a client's: freed by whole flakes where it allows a hole and the version has discard, else written."""
+    with Rig(f"zeroed {version}") as rig:
+        rig.format(*HOLES, version)
+        every = set(range(HOLES[0] * HOLES[1]))
+        for words, freed in (([], whole_in(8192, 8192) | whole_in(24576, 4096) if version == 2 else set()), (["--allocated"], set())):
+            data = with_holes(rig.folder / "plain", filled(checks, rig), (8192, 16384), (24576, 28672))
+            with Device(rig) as device:
+                copied = ran("nbdcopy", "--flush", "--request-size=4096", *words, rig.folder / "plain", device.uri)
+                checks.same(copied.returncode, 0, f"nbdcopy {words}: {copied.stderr}")
+            checks.same(rig.tool("read", rig.image, *rig.keys()).stdout, data, f"version {version} {words}: what was copied in")
+            checks.same(held_flakes(rig), every - freed, f"version {version} {words}: what is held")
 
 
 def main():
     checks = Checks()
-    with Rig("device") as rig:
-        rig.format(*SHAPE)
-        for part in (filesystem, changing, damaged, ended, swept_and_ended):
-            part(checks, rig)
+    for version, parts in ((1, (filesystem, ended)), (2, (filesystem, changing, damaged, ended, swept_and_ended))):
+        with Rig(f"device {version}") as rig:
+            rig.format(*SHAPE, version)
+            for part in parts:
+                part(checks, rig)
+        zeroed(checks, version)
+    trimmed(checks)
     spent(checks)
     checks.close()
 

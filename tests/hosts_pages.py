@@ -47,15 +47,27 @@ def looked_at(checks, rig, what, finished=False):
     checks.same([cell in "·○" for cell in cells], [line.endswith("flakes=-") for line in nuggets], f"{what}: the cells tell what is empty")
 
 
+def discarded(checks, rig, what):
+    """The middle third of the contents, which ends within flakes, and the last nugget."""
+    size = rig.drive.p * rig.drive.f
+    capacity = rig.drive.n * size
+    for offset, length in ((capacity // 3 + 1, capacity // 3), (capacity - size, size)):
+        checks.same(rig.tool("discard", rig.image, *rig.keys(), "--offset", offset, "--length", length).returncode, 0, f"{what}: {offset} {length}")
+    looked_at(checks, rig, what)
+    checks.that(rig.tool("map", rig.image, *rig.keys()).stdout.decode().split("\n\n")[0].endswith("·"), f"{what}: a nugget with nothing held is shown empty")
+
+
 def main():
     checks = Checks()
-    for shape in ((1, 1, 64), (3, 2, 64), (90, 64, 64)):
-        with Rig(f"pages {shape}") as rig:
-            rig.format(*shape)
+    for *shape, version in ((1, 1, 64, 1), (3, 2, 64, 1), (3, 2, 64, 2), (90, 64, 64, 2)):
+        with Rig(f"pages {shape} {version}") as rig:
+            rig.format(*shape, version)
             looked_at(checks, rig, f"{shape} fresh")
             for _ in range(12):
                 at = rig.source.randrange(shape[0] * shape[1] * 64)
                 rig.tool("write", rig.image, *rig.keys(), "--offset", at, data=bytes(min(3000, shape[0] * shape[1] * 64 - at)))
+            if version == 2:
+                discarded(checks, rig, f"{shape} discarded")
             fresh = rig.secret()
             rig.tool("begin", rig.image, *rig.keys(), "--new-secret", fresh)
             rig.present, rig.old = fresh, rig.present

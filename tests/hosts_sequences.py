@@ -5,7 +5,7 @@ import calls
 import lines
 from layout import TOP
 
-SEQUENCES, STEPS = 14, 30
+SEQUENCES, STEPS = 18, 34
 SHAPES = ((1, 1, 64), (3, 2, 64), (5, 3, 128), (9, 2, 256), (2, 4, 64), (2, 2, 128), (3, 3, 512), (2, 64, 64))
 
 
@@ -44,6 +44,36 @@ def bytes_step(checks, rig, way):
         data = source.randbytes(length)
         ran = rig.tool("write", rig.image, *rig.keys(), "--offset", offset, data=data)
         compared(checks, rig, ran, *expected(rig, calls.write, offset, data), f"write {offset} {length}")
+
+
+def whole_flakes(drive, offset, length):
+    """By nugget, ascending: the first of its flakes that lie whole in the range, and how many they are."""
+    inside = {}
+    for at in range(drive.n * drive.p):
+        if offset <= at * drive.f and (at + 1) * drive.f <= offset + length:
+            inside.setdefault(at // drive.p, []).append(at % drive.p)
+    return [(n, flakes[0], len(flakes)) for n, flakes in inside.items()]
+
+
+def discard_step(checks, rig):
+    """Nothing is freed if the range's end isn't there; else the whole flakes, nugget by nugget."""
+    drive, source = rig.drive, rig.source
+    capacity, size = drive.n * drive.p * drive.f, drive.f
+    length = min(source.choice((0, 1, size - 1, size, 2 * size - 2, 2 * size, 3 * size, drive.p * size, 3 * drive.p * size // 2, capacity)), capacity)
+    offset = min(source.randrange(drive.n * drive.p) * size + source.choice((0, 0, 1, size - 1)), capacity - length)
+    if source.randrange(6) == 0:
+        offset, length = source.choice(((capacity, 0), (capacity, 1), (capacity + 1, 0), (1, capacity), (0, TOP), (TOP, 0), (TOP, TOP)))
+    ran = rig.tool("discard", rig.image, *rig.keys(), "--offset", offset, "--length", length)
+    last = max(offset + length - 1, 0) // (drive.p * drive.f)
+    freed = [(min(last, 2**32 - 1), 0, 0), *whole_flakes(drive, offset, length)]
+    for asked in freed:
+        answer, got = expected(rig, calls.discard, *asked)
+        if answer.number:
+            break
+        rig.volume, rig.outside = got.volume, got.drive.counter
+    compared(checks, rig, ran, answer, None, f"discard {offset} {length}")
+    if not answer.number:
+        checks.same(ran.stdout.startswith(b"Bytes "), len(freed) > 1, "whether anything lies in the range")
 
 
 def begin_step(checks, rig):
@@ -134,7 +164,7 @@ def spoil_step(checks, rig):
     elif way == 4:
         rig.old = rig.secret()
     rig.put_back(rig.volume)
-    rig.source.choice((lambda: bytes_step(checks, rig, "read"), lambda: tell_step(checks, rig, "report"), lambda: tell_step(checks, rig, "audit"),
+    rig.source.choice((lambda: bytes_step(checks, rig, "read"), lambda: discard_step(checks, rig), lambda: tell_step(checks, rig, "report"), lambda: tell_step(checks, rig, "audit"),
                        lambda: hand_step(checks, rig, "export")))()
     rig.volume, rig.outside, rig.present, rig.old = volume, outside, present, old
     rig.put_back(volume)
@@ -144,11 +174,11 @@ def spoil_step(checks, rig):
 def sequences(checks):
     for number in range(SEQUENCES):
         with Rig(f"tool {number}") as rig:
-            rig.format(*SHAPES[number % len(SHAPES)])
+            rig.format(*SHAPES[number % len(SHAPES)], version=(1, 2, 2)[number % 3])
             checks.that(rig.image.read_bytes() == rig.volume, "a fresh volume")
             for _ in range(STEPS):
-                way = rig.source.choice("read write write write begin sweep sweep all finish report audit export import spoil spoil".split())
-                {"read": lambda: bytes_step(checks, rig, "read"), "write": lambda: bytes_step(checks, rig, "write"), "begin": lambda: begin_step(checks, rig),
+                way = rig.source.choice("read write write write discard discard begin sweep sweep all finish report audit export import spoil spoil".split())
+                {"read": lambda: bytes_step(checks, rig, "read"), "write": lambda: bytes_step(checks, rig, "write"), "discard": lambda: discard_step(checks, rig), "begin": lambda: begin_step(checks, rig),
                  "sweep": lambda: sweep_step(checks, rig, False), "all": lambda: sweep_step(checks, rig, True), "finish": lambda: finish_step(checks, rig),
                  "report": lambda: tell_step(checks, rig, "report"), "audit": lambda: tell_step(checks, rig, "audit"), "spoil": lambda: spoil_step(checks, rig),
                  "export": lambda: hand_step(checks, rig, "export"), "import": lambda: hand_step(checks, rig, "import")}[way]()

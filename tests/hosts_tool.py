@@ -9,7 +9,7 @@ import time
 from rig import BUSY, OPEN_TO_OTHERS, ROOT, SYSTEM, TOOL, USAGE, Checks, Rig
 from layout import TOP
 
-COMMANDS = "secret format info read write begin sweep finish report audit map export import compare".split()
+COMMANDS = "secret format info read write discard begin sweep finish report audit map export import compare".split()
 
 
 def secrets(checks):
@@ -56,7 +56,8 @@ def helps(checks):
         checks.that(f"    {name} " in everything.stdout, f"{name} stands in --help")
         checks.same(subprocess.run([TOOL, name], capture_output=True).returncode, USAGE, f"{name} without an image")
         checks.same(subprocess.run([TOOL, name, "x", "--nothing"], capture_output=True).returncode, USAGE, f"{name} with an option that isn't there")
-    for words in ([], ["nothing"], ["read", "a", "b", "--secret", "c", "--counter", "d"], ["report", "a"], ["map", "a", "--json"]):
+    for words in ([], ["nothing"], ["read", "a", "b", "--secret", "c", "--counter", "d"], ["report", "a"], ["map", "a", "--json"],
+                  ["discard", "a", "--secret", "b", "--counter", "c", "--offset", "0"], ["write", "a", "--secret", "b", "--counter", "c", "--version", "2"]):
         checks.same(subprocess.run([TOOL, *words], capture_output=True).returncode, USAGE, f"usage {words}")
 
 
@@ -67,6 +68,41 @@ def shapes(checks):
             ran = rig.tool("format", rig.image, "--secret", secret, "--counter", rig.counter, "--nuggets", n, "--flakes", p, "--size", f)
             checks.same(ran.returncode, 1, f"format {n} {p} {f}")
             checks.that(not rig.image.exists() and not rig.counter.exists(), "a refused format makes nothing")
+        for version in (0, 3, 257, 65537, 65538, 2**32 + 1):
+            ran = rig.tool("format", rig.image, "--secret", secret, "--counter", rig.counter, "--nuggets", 3, "--flakes", 2, "--size", 64, "--version", version)
+            checks.same((ran.returncode, rig.image.exists()), (1, False), f"format of version {version}")
+
+
+def versions(checks):
+    """1 if nothing is said; told with a secret and without one; a discard for version 2 alone."""
+    for words, version, length in (([], 1, 862), (["--version", 1], 1, 862), (["--version", 2], 2, 886)):
+        with Rig(f"versions {words}") as rig:
+            rig.present, rig.old = rig.secret(), None
+            checks.same(rig.tool("format", rig.image, *rig.keys(), "--nuggets", 3, "--flakes", 2, "--size", 64, *words).returncode, 0, f"format {words}")
+            checks.same((rig.image.stat().st_size, rig.image.read_bytes()[3]), (length, version), f"the volume of {words}")
+            for keys in ([], rig.keys()):
+                checks.that(f"version   {version}\n" in rig.tool("info", rig.image, *keys).stdout.decode(), f"info tells version {version}")
+                checks.same(json.loads(rig.tool("info", rig.image, *keys, "--json").stdout)["version"], version, f"info --json tells version {version}")
+            rig.tool("write", rig.image, *rig.keys(), data=b"x" * 384)
+            before = rig.image.read_bytes()
+            ran = rig.tool("discard", rig.image, *rig.keys(), "--offset", 10, "--length", 300)
+            if version == 1:
+                checks.that(ran.returncode == 9 and b"A volume of version 1 has no discard." in ran.stderr, f"no discard on version 1: {ran.stderr}")
+                checks.that(rig.image.read_bytes() == before and rig.counter.read_text() == "2\n", "it changes nothing")
+            else:
+                freed(checks, rig, ran)
+
+
+def freed(checks, rig, ran):
+    """Flakes of 64: bytes 10 to 309 hold the flakes 1 to 3 whole, of two nuggets."""
+    checks.same((ran.returncode, ran.stdout), (0, b"Bytes 64 to 255 read as zero now.\n"), "a discard tells what it freed")
+    checks.same(rig.counter.read_text(), "4\n", "a change a nugget")
+    checks.same(rig.tool("read", rig.image, *rig.keys()).stdout, b"x" * 64 + bytes(192) + b"x" * 128, "the rest of the range stays")
+    page = json.loads(rig.tool("audit", rig.image, *rig.keys(), "--json").stdout)
+    checks.same([nugget["flakes"] for nugget in page["nuggets"]], [[0], [], [0, 1]], "they count as never written")
+    for offset, length, said in ((64, 192, b"Bytes 64 to 255 read as zero now.\n"), (1, 126, b"No whole flake lies in this range: nothing was freed.\n")):
+        ran = rig.tool("discard", rig.image, *rig.keys(), "--offset", offset, "--length", length)
+        checks.same((ran.returncode, ran.stdout, rig.counter.read_text()), (0, said, "4\n"), f"a discard of {length} at {offset} that clears nothing")
 
 
 def undone(checks):
@@ -175,7 +211,7 @@ def json_too(checks):
 
 def main():
     checks = Checks()
-    for part in (helps, secrets, shapes, undone, locks, json_too, ended, stopped):
+    for part in (helps, secrets, shapes, versions, undone, locks, json_too, ended, stopped):
         part(checks)
     checks.close()
 

@@ -1,7 +1,7 @@
 """The functions beside the calls, through the C interface: lengths, and the lines that hosts print, equal to the second program's.
 
-Lengths at every edge; every kind of an answer's image; drives of many shapes, steady and changing, whole, with a flipped bit, with
-an ill-formed record, with another secret. The bytes behind a line stay as they were. NGT_SEED sets the seed.
+Lengths at every edge; every kind of an answer's image; drives of many shapes, of both versions, with discarded flakes, steady and
+changing, whole, with a flipped bit, with an ill-formed record, with another secret. The bytes behind a line stay as they were. NGT_SEED sets the seed.
 """
 import ctypes
 import random
@@ -25,7 +25,7 @@ def lengths(proved, tally):
     for n in EDGES:
         for p in EDGES:
             for f in EDGES:
-                for version in (0, 1, 2, 257, 65535):
+                for version in (0, 1, 2, 3, 257, 258, 65535):
                     got = proved.ngt_length(U32(n), U32(p), U32(f), ctypes.c_uint16(version))
                     tally.same("length", (n, p, f, version), got, lines.length(n, p, f, version))
                 tally.same("capacity", (n, p, f), proved.ngt_capacity(U32(n), U32(p), U32(f)), lines.capacity(n, p, f))
@@ -48,8 +48,13 @@ def some_drive(source):
     state = source.randrange(2)
     epoch = source.choice((1 + state, 10, source.randint(1 + state, EPOCH_TOP), EPOCH_TOP))
     journals = (0, (1 << p) - 1, 1 << source.randrange(p), source.getrandbits(p))
-    records = [[source.choice((0, 9, 10 ** source.randrange(20), TOP)), source.choice(journals), epoch - state * source.randrange(2)] for _ in range(n)]
-    drive, volume = made(Spec(n, p, 64, state, epoch, source.choice((0, 5, TOP)), records))
+    version = source.choice((1, 2))
+    records = []
+    for _ in range(n):
+        spent = source.choice(journals)
+        held = spent & source.choice(journals) if version == 2 else spent
+        records.append([source.choice((0, 9, 10 ** source.randrange(20), TOP)), spent, held, epoch - state * source.randrange(2)])
+    drive, volume = made(Spec(n, p, 64, state, epoch, source.choice((0, 5, TOP)), records, version=version))
     way = source.randrange(8)
     if way == 0:
         volume = flipped(volume, source.randrange(len(volume)), source.randrange(8))

@@ -67,13 +67,13 @@ class Rig:
         self.secrets.append(path)
         return path
 
-    def format(self, n, p, f):
+    def format(self, n, p, f, version=1):
         """Formatted by both; the second program takes over the salt."""
         self.present, self.old = self.secret(), None
-        ran = self.tool("format", self.image, "--secret", self.present, "--counter", self.counter, "--nuggets", n, "--flakes", p, "--size", f)
+        ran = self.tool("format", self.image, "--secret", self.present, "--counter", self.counter, "--nuggets", n, "--flakes", p, "--size", f, "--version", version)
         assert ran.returncode == 0, ran.stderr
         salt = self.image.read_bytes()[16:32]
-        made = calls.format(bytes(layout(n, p, f).length), n, p, f, salt, self.present.read_bytes(), 0)
+        made = calls.format(bytes(layout(n, p, f, version).length), n, p, f, salt, self.present.read_bytes(), 0, version)
         self.drive, self.volume, self.outside = made.drive, made.volume, made.drive.counter
         return ran
 

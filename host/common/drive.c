@@ -34,4 +34,5 @@ uint32_t drive_p(const struct drive *d) { return little(d->safe->drive + 4, 4); 
 uint32_t drive_f(const struct drive *d) { return little(d->safe->drive + 8, 4); }
 bool drive_changing(const struct drive *d) { return d->safe->drive[12] == 1; }
 uint16_t drive_epoch(const struct drive *d) { return little(d->safe->drive + 14, 2); }
+uint16_t drive_version(const struct drive *d) { return little(d->safe->drive + 18, 2); }
 uint64_t drive_counter(const struct drive *d) { return little(d->safe->drive + 40, 8); }

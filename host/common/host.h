@@ -70,10 +70,18 @@ uint32_t drive_mount(struct drive *d);
 void drive_catch_up(struct drive *d);
 /* The volume is synced, then the counter is kept. Nothing is done if the file has it already. */
 enum why drive_keep(struct drive *d);
+/* The whole flakes inside a range of contents, counted over all nuggets: the first, and the one behind the last. */
+struct flakes {
+    uint64_t from, to;
+};
+struct flakes whole_flakes(uint32_t size, uint64_t offset, uint64_t length);
+/* They are discarded, a nugget at a time; the first refusal's number. What was freed before it stays so. */
+uint32_t drive_discard(struct drive *d, uint64_t offset, uint64_t length);
 uint32_t drive_n(const struct drive *d);
 uint32_t drive_p(const struct drive *d);
 uint32_t drive_f(const struct drive *d);
 uint16_t drive_epoch(const struct drive *d);
+uint16_t drive_version(const struct drive *d);
 uint64_t drive_counter(const struct drive *d);
 bool drive_changing(const struct drive *d);
 

@@ -1,31 +1,24 @@
 /* The drive as a block device: a plugin of nbdkit, one request at a time. A flush syncs the volume and then moves the counter.
  * With new-secret= the secret is changed while the device is in use: nuggets are swept between requests. */
-#include "../common/host.h"
-#define NBDKIT_API_VERSION 2
-#include <nbdkit-plugin.h>
-
+#include "plugin.h"
 #include <errno.h>
-#include <pthread.h>
 #include <stdarg.h>
-#include <stdatomic.h>
 #include <stdio.h>
 #include <stdlib.h>
 #include <string.h>
 #include <syslog.h>
-#include <time.h>
 
 #define THREAD_MODEL NBDKIT_THREAD_MODEL_SERIALIZE_ALL_REQUESTS
 
-static struct drive drive = {.volume = {.fd = -1}};
+struct drive drive = {.volume = {.fd = -1}};
 static char *image, *secret, *old_secret, *new_secret, *counter;
 static int ahead;
-
-/* Requests and the sweeper take turns. A request that waits goes first. */
-static pthread_mutex_t turn = PTHREAD_MUTEX_INITIALIZER;
-static atomic_int waiting;
-static pthread_t sweeper;
 static bool sweeps;
-static atomic_bool ends;
+
+/* What a mounted drive keeps whatever is done to it. */
+static uint64_t capacity;
+static uint32_t flake;
+static bool trims;
 
 void host_says(const char *format, ...) {
     char said[512];
@@ -36,8 +29,7 @@ void host_says(const char *format, ...) {
     nbdkit_error("%s", said);
 }
 
-/* What isn't an error: to standard error, and for a server in the background to the system's log. */
-static void tells(const char *format, ...) {
+void tells(const char *format, ...) {
     char said[160];
     va_list rest;
     va_start(rest, format);
@@ -47,8 +39,7 @@ static void tells(const char *format, ...) {
     syslog(LOG_DAEMON | LOG_INFO, "ngt: %s", said);
 }
 
-/* The refusal's line into the log, and what NBD has for it. */
-static int refused(int past_end) {
+int refused(int past_end) {
     char line[129];
     uint32_t number = little(drive.answer, 4);
     line[ngt_refusal_line(drive.answer, (uint8_t *)line)] = 0;
@@ -119,65 +110,20 @@ static int get_ready(void) {
     if (new_secret ? mount_changing() : drive_mount(&drive))
         return refused(EINVAL);
     sweeps = new_secret && drive_changing(&drive);
+    capacity = ngt_capacity(drive_n(&drive), drive_p(&drive), drive_f(&drive));
+    flake = drive_f(&drive);
+    trims = drive_version(&drive) > 1;
     return drive_keep(&drive) == DONE ? 0 : -1;
-}
-
-static void request_starts(void) {
-    waiting++;
-    pthread_mutex_lock(&turn);
-    waiting--;
-}
-
-static void request_ends(void) { pthread_mutex_unlock(&turn); }
-
-/* One nugget in its turn: whether the sweep goes on. One that has moved (12) is passed over. */
-static bool sweep(uint32_t n) {
-    while (waiting && !ends)
-        nanosleep(&(struct timespec){.tv_nsec = 100000}, NULL);
-    pthread_mutex_lock(&turn);
-    uint32_t number = ngt_sweep(drive.safe->drive, drive.volume.bytes, drive.volume.length, n, drive.answer);
-    bool kept = (number == 0 || number == 12) && drive_keep(&drive) == DONE;
-    if (number != 0 && number != 12)
-        refused(EINVAL);
-    pthread_mutex_unlock(&turn);
-    return kept && !ends;
-}
-
-static void finish(void) {
-    pthread_mutex_lock(&turn);
-    if (ngt_finish(drive.safe->drive, drive.volume.bytes, drive.volume.length, drive.answer))
-        refused(EINVAL);
-    else if (drive_keep(&drive) == DONE)
-        tells("the change is finished: the old secret may now be destroyed");
-    pthread_mutex_unlock(&turn);
-}
-
-static void *sweep_all(void *unused) {
-    uint32_t count = drive_n(&drive), n = 0, step = (count + 15) / 16;
-    while (n < count && sweep(n))
-        if (++n % step == 0)
-            tells("sweep: %u of %u nuggets", n, count);
-    if (n == count && !ends)
-        finish();
-    return unused;
 }
 
 static int after_fork(void) {
     if (safe_lock(drive.safe) != DONE)
         return -1;
-    if (sweeps && pthread_create(&sweeper, NULL, sweep_all, NULL)) {
-        nbdkit_error("the sweep can't be started");
-        sweeps = false;
-        return -1;
-    }
-    return 0;
+    return sweeps ? sweeper_starts() : 0;
 }
 
 static void cleanup(void) {
-    ends = true;
-    if (sweeps)
-        pthread_join(sweeper, NULL);
-    sweeps = false;
+    sweeper_ends();
     if (drive.volume.bytes)
         drive_keep(&drive);
 }
@@ -199,12 +145,18 @@ static void *opened(int readonly) {
 
 static int64_t get_size(void *handle) {
     (void)handle;
-    return ngt_capacity(drive_n(&drive), drive_p(&drive), drive_f(&drive));
+    return capacity;
 }
 
 static int one(void *handle) {
     (void)handle;
     return 1;
+}
+
+/* Version 1 has no discard. */
+static int can_trim(void *handle) {
+    (void)handle;
+    return trims;
 }
 
 static int fua(void *handle) {
@@ -238,14 +190,36 @@ static int pwrite_(void *handle, const void *buffer, uint32_t count, uint64_t of
     return result;
 }
 
-static int zero(void *handle, uint32_t count, uint64_t offset, uint32_t flags) {
+/* The whole flakes inside the range; a client may not rely on the rest of it. */
+static int trim(void *handle, uint32_t count, uint64_t offset, uint32_t flags) {
+    (void)handle, (void)flags;
+    request_starts();
+    int result = drive_discard(&drive, offset, count) ? refused(EINVAL) : 0;
+    request_ends();
+    return result;
+}
+
+static int write_zeros(uint64_t from, uint64_t to) {
     static uint8_t zeros[1 << 20]; /* never stored to */
     int result = 0;
-    for (uint32_t now; result == 0 && count; count -= now, offset += now) {
-        now = count < sizeof zeros ? count : sizeof zeros;
-        result = pwrite_(handle, zeros, now, offset, flags);
+    for (uint32_t now; result == 0 && from < to; from += now) {
+        now = to - from < sizeof zeros ? to - from : sizeof zeros;
+        result = pwrite_(NULL, zeros, now, from, 0);
     }
     return result;
+}
+
+/* Where a client lets it be a hole the whole flakes are freed, and only what lies around them is written. */
+static int zero(void *handle, uint32_t count, uint64_t offset, uint32_t flags) {
+    uint64_t end = offset + count;
+    struct flakes whole = whole_flakes(flake, offset, count);
+    if (!trims || !(flags & NBDKIT_FLAG_MAY_TRIM) || whole.from == whole.to)
+        return write_zeros(offset, end);
+    uint64_t from = whole.from * flake, to = whole.to * flake;
+    int result = write_zeros(offset, from);
+    if (result == 0)
+        result = trim(handle, to - from, from, flags);
+    return result ? result : write_zeros(to, end);
 }
 
 static int flush(void *handle, uint32_t flags) {
@@ -278,11 +252,13 @@ static struct nbdkit_plugin plugin = {
     .open = opened,
     .get_size = get_size,
     .can_flush = one,
+    .can_trim = can_trim,
     .can_fua = fua,
     .can_multi_conn = one,
     .block_size = block_size,
     .pread = pread_,
     .pwrite = pwrite_,
+    .trim = trim,
     .zero = zero,
     .flush = flush,
     .errno_is_preserved = 0,

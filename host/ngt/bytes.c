@@ -1,5 +1,6 @@
-/* read and write: contents to standard output and from standard input. */
+/* read, write and discard: contents to standard output, from standard input, and freed. */
 #include "tool.h"
+#include <inttypes.h>
 #include <string.h>
 #include <unistd.h>
 
@@ -55,5 +56,21 @@ int run_write(const struct ask *ask) {
         at += now;
     } while (why == DONE && now == AT_ONCE);
     explicit_bzero(buffer, sizeof buffer);
+    return why;
+}
+
+int run_discard(const struct ask *ask) {
+    int why = tool_mount(ask, true);
+    if (why != DONE)
+        return why;
+    uint32_t number = drive_discard(&drive, ask->offset, ask->length), size = drive_f(&drive);
+    why = drive_keep(&drive); /* what was freed before a refusal too */
+    if (number)
+        return tool_refused(ask);
+    struct flakes whole = whole_flakes(size, ask->offset, ask->length);
+    if (why == DONE && whole.from < whole.to)
+        printf("Bytes %" PRIu64 " to %" PRIu64 " read as zero now.\n", whole.from * size, whole.to * size - 1);
+    else if (why == DONE)
+        puts("No whole flake lies in this range: nothing was freed.");
     return why;
 }

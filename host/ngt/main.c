@@ -8,7 +8,7 @@
 #include <sys/prctl.h>
 
 enum {
-    SECRET = 1, OLD = 2, NEW = 4, COUNTER = 8, SHAPE = 16, OFFSET = 32, LENGTH = 64, JSON = 128, SVG = 256, HTML = 512, FORCE = 1024, AHEAD = 2048, XTS_KEY = 4096, FROM = 8192, TO = 16384, XTS = 32768,
+    SECRET = 1, OLD = 2, NEW = 4, COUNTER = 8, SHAPE = 16, OFFSET = 32, LENGTH = 64, JSON = 128, SVG = 256, HTML = 512, FORCE = 1024, AHEAD = 2048, XTS_KEY = 4096, FROM = 8192, TO = 16384, XTS = 32768, VERSION = 65536,
     MOUNTS = SECRET | OLD | COUNTER | AHEAD
 };
 
@@ -20,12 +20,14 @@ static const struct {
     const char *line, *more;
 } COMMANDS[] = {
     {"secret", run_secret, "FILE", XTS, 0, "make a secret from the system's randomness", "FILE is made with 32 bytes, for its owner alone. None is laid over."},
-    {"format", run_format, "IMAGE", SECRET | COUNTER | SHAPE | FORCE, SECRET | COUNTER | SHAPE, "lay out a fresh volume, everything zero",
+    {"format", run_format, "IMAGE", SECRET | COUNTER | SHAPE | VERSION | FORCE, SECRET | COUNTER | SHAPE, "lay out a fresh volume, everything zero",
      "The salt is the system's randomness. A counter's file is made if there is none."},
     {"info", run_info, "IMAGE", MOUNTS | JSON, 0, "tell shape, state, epoch and counter",
      "Without a secret the head is told as it stands, and nothing of it is checked."},
     {"read", run_read, "IMAGE", MOUNTS | OFFSET | LENGTH, SECRET | COUNTER, "contents to standard output", "Without --length up to the end."},
     {"write", run_write, "IMAGE", MOUNTS | OFFSET, SECRET | COUNTER, "contents from standard input", "Up to 1 MiB at a time is one call; each is kept before the next."},
+    {"discard", run_discard, "IMAGE", MOUNTS | OFFSET | LENGTH, SECRET | COUNTER | LENGTH, "free a range of contents: it reads as zero",
+     "The whole flakes inside the range are freed, and the rest of it stays as it is.\nOn version 2 alone. What was stored isn't erased."},
     {"begin", run_begin, "IMAGE", MOUNTS | NEW, SECRET | COUNTER | NEW, "begin to change the secret",
      "From then on --secret is the new one and --old-secret the one before. Keep both."},
     {"sweep", run_sweep, "IMAGE [NUGGET]", MOUNTS, SECRET | OLD | COUNTER, "move a nugget, or all that are left, to the new secret",
@@ -59,6 +61,7 @@ static const struct {
     {"nuggets", "N", "1 to 16384", SHAPE},
     {"flakes", "P", "flakes in a nugget, 1 to 64", SHAPE},
     {"size", "F", "bytes in a flake, 64 to 4096 in steps of 64", SHAPE},
+    {"version", "V", "1, or 2, which has discard; 1 if not given", VERSION},
     {"offset", "O", "where in the contents; 0 if not given", OFFSET},
     {"length", "L", "how many bytes", LENGTH},
     {"json", NULL, "print JSON", JSON},
@@ -105,7 +108,7 @@ static bool take(struct ask *ask, const char *name, const char *value) {
         {"secret", &ask->secret}, {"old-secret", &ask->old_secret}, {"new-secret", &ask->new_secret}, {"xts-key", &ask->xts_key}, {"counter", &ask->counter},
         {"svg", &ask->svg}, {"html", &ask->html}, {"from", &ask->from}, {"to", &ask->to}};
     const struct { const char *name; uint64_t *number; } NUMBERS[] = {
-        {"nuggets", &ask->n}, {"flakes", &ask->p}, {"size", &ask->f}, {"offset", &ask->offset}, {"length", &ask->length}};
+        {"nuggets", &ask->n}, {"flakes", &ask->p}, {"size", &ask->f}, {"version", &ask->version}, {"offset", &ask->offset}, {"length", &ask->length}};
     const struct { const char *name; bool *flag; } FLAGS[] = {{"json", &ask->json}, {"force", &ask->force}, {"ahead", &ask->ahead}, {"xts", &ask->xts}};
     for EACH(i, TEXTS)
         if (!strcmp(name, TEXTS[i].name))
@@ -160,7 +163,7 @@ static bool words(const char *asked, int given) {
 }
 
 static int run(size_t c, int argc, char **argv) {
-    struct ask ask = {0};
+    struct ask ask = {.version = 1};
     unsigned given = 0;
     int status = options(c, argc, argv, &ask, &given);
     if (status >= 0)

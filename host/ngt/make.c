@@ -14,15 +14,16 @@ int run_format(const struct ask *ask) {
         why = random_bytes(salt, sizeof salt);
     if (why != DONE)
         return why;
-    /* numbers past 32 bits are out of limits like any other too great */
+    /* a number that its type has no room for is out of limits like any other too great */
     uint32_t n = ask->n >> 32 ? 0 : ask->n, p = ask->p >> 32 ? 0 : ask->p, f = ask->f >> 32 ? 0 : ask->f;
-    uint64_t length = ngt_length(n, p, f, 1);
+    uint16_t version = ask->version >> 16 ? 0 : ask->version;
+    uint64_t length = ngt_length(n, p, f, version);
     if (length) {
         why = volume_create(&drive.volume, ask->image, length, ask->force);
         if (why != DONE)
             return why;
     }
-    if (ngt_format(drive.volume.bytes, drive.volume.length, n, p, f, salt, drive.safe->present, drive.outside, drive.safe->drive, drive.answer)) {
+    if (ngt_format_as(drive.volume.bytes, drive.volume.length, n, p, f, version, 0, salt, drive.safe->present, drive.outside, drive.safe->drive, drive.answer)) {
         volume_undo(&drive.volume);
         return tool_refused(ask);
     }

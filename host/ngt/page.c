@@ -56,13 +56,13 @@ static uint32_t table(FILE *out) {
 uint32_t page_html(FILE *out, const char *sheet) {
     bool changing = drive_changing(&drive);
     fprintf(out, "<!DOCTYPE html>\n<html lang=\"en\"><head><meta charset=\"utf-8\"/><meta name=\"viewport\" content=\"width=device-width\"/><title>Auditor's page</title><style>%s</style></head>\n<body>\n", STYLE);
-    fprintf(out, "<h1>Auditor's page</h1>\n<p class=\"quiet\">%u nuggets of %u flakes, %u bytes a flake; epoch %u, %s.</p>\n", drive_n(&drive), drive_p(&drive), drive_f(&drive), drive_epoch(&drive), changing ? "changing" : "steady");
+    fprintf(out, "<h1>Auditor's page</h1>\n<p class=\"quiet\">%u nuggets of %u flakes, %u bytes a flake; version %u, epoch %u, %s.</p>\n", drive_n(&drive), drive_p(&drive), drive_f(&drive), drive_version(&drive), drive_epoch(&drive), changing ? "changing" : "steady");
     fprintf(out, "<h2>The sheet's line</h2>\n<p class=\"line\" id=\"sheet\">%s</p>\n", sheet);
     fprintf(out, "<h2>Counter and old secret</h2>\n<p class=\"line\" id=\"counter\">counter=%" PRIu64 "</p>\n<p class=\"quiet\">The outside counter that the volume was held against when it was mounted.</p>\n", drive.outside);
     fprintf(out, "<p class=\"line%s\" id=\"old\">old=%s</p>\n<p class=\"quiet\">%s</p>\n", changing ? " needed" : "", changing ? "needed" : "free",
             changing ? "A change of the secret is running. The old secret is still needed, whatever the share says."
-            : drive_epoch(&drive) > 1 ? "The change is finished: every flake is under the present secret, and the one before may be destroyed."
-                                      : "The secret was never changed: every flake is under the present one.");
+            : drive_epoch(&drive) > 1 ? "The change is finished: every present flake is under the present secret, and the one before may be destroyed."
+                                      : "The secret was never changed: every present flake is under it.");
     fputs("<h2>The drive</h2>\n", out);
     uint32_t number = picture_svg(out);
     if (number)

@@ -9,7 +9,7 @@ struct ask {
     const char *image, *second; /* the words that are no options */
     const char *secret, *old_secret, *new_secret, *xts_key, *counter;
     const char *svg, *html, *from, *to;
-    uint64_t n, p, f, offset, length;
+    uint64_t n, p, f, version, offset, length;
     bool has_length, json, force, ahead, xts;
 };
 
@@ -21,6 +21,7 @@ int run_format(const struct ask *ask);
 int run_info(const struct ask *ask);
 int run_read(const struct ask *ask);
 int run_write(const struct ask *ask);
+int run_discard(const struct ask *ask);
 int run_begin(const struct ask *ask);
 int run_sweep(const struct ask *ask);
 int run_finish(const struct ask *ask);
