@@ -174,7 +174,7 @@ def spoil_step(checks, rig):
 def sequences(checks):
     for number in range(SEQUENCES):
         with Rig(f"tool {number}") as rig:
-            rig.format(*SHAPES[number % len(SHAPES)], version=(1, 2, 2)[number % 3])
+            rig.format(*SHAPES[number % len(SHAPES)], version=(1, 2, 2)[number % 3], cipher=16 * (number // 3 % 2))
             checks.that(rig.image.read_bytes() == rig.volume, "a fresh volume")
             for _ in range(STEPS):
                 way = rig.source.choice("read write write write discard discard begin sweep sweep all finish report audit export import spoil spoil".split())

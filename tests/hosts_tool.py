@@ -73,6 +73,26 @@ def shapes(checks):
             checks.same((ran.returncode, rig.image.exists()), (1, False), f"format of version {version}")
 
 
+def ciphers(checks):
+    """ChaCha20 if nothing is said; told with a secret and without one, in both states; no third one."""
+    for words, byte, cipher in (([], 0, "chacha20"), (["--cipher", "chacha20"], 0, "chacha20"), (["--cipher", "aes"], 16, "aes")):
+        with Rig(f"ciphers {words}") as rig:
+            rig.present, rig.old = rig.secret(), None
+            checks.same(rig.tool("format", rig.image, *rig.keys(), "--nuggets", 3, "--flakes", 2, "--size", 64, *words).returncode, 0, f"format {words}")
+            checks.same(rig.image.read_bytes()[5], byte, f"the head of {words}")
+            for keys in ([], rig.keys()):
+                info = json.loads(rig.tool("info", rig.image, *keys, "--json").stdout)
+                checks.same((info["cipher"], info["state"]), (cipher, "steady"), f"info --json of {words}")
+            rig.old, rig.present = rig.present, rig.secret()
+            checks.same(rig.tool("begin", rig.image, *rig.keys(**{"secret": rig.old, "old-secret": None, "new-secret": rig.present})).returncode, 0, f"begin {words}")
+            info = json.loads(rig.tool("info", rig.image, "--json").stdout)
+            checks.same((info["cipher"], info["state"]), (cipher, "changing"), f"info --json of {words}, changing")
+    with Rig("no cipher") as rig:
+        rig.present, rig.old = rig.secret(), None
+        ran = rig.tool("format", rig.image, *rig.keys(), "--nuggets", 3, "--flakes", 2, "--size", 64, "--cipher", "rot13")
+        checks.that(ran.returncode == USAGE and b"rot13" in ran.stderr and not rig.image.exists(), "another cipher is bad usage")
+
+
 def versions(checks):
     """1 if nothing is said; told with a secret and without one; a discard for version 2 alone."""
     for words, version, length in (([], 1, 862), (["--version", 1], 1, 862), (["--version", 2], 2, 886)):
@@ -211,7 +231,7 @@ def json_too(checks):
 
 def main():
     checks = Checks()
-    for part in (helps, secrets, shapes, versions, undone, locks, json_too, ended, stopped):
+    for part in (helps, secrets, shapes, versions, ciphers, undone, locks, json_too, ended, stopped):
         part(checks)
     checks.close()
 

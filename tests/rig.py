@@ -67,13 +67,14 @@ class Rig:
         self.secrets.append(path)
         return path
 
-    def format(self, n, p, f, version=1):
+    def format(self, n, p, f, version=1, cipher=0):
         """Formatted by both; the second program takes over the salt."""
         self.present, self.old = self.secret(), None
-        ran = self.tool("format", self.image, "--secret", self.present, "--counter", self.counter, "--nuggets", n, "--flakes", p, "--size", f, "--version", version)
+        ran = self.tool("format", self.image, "--secret", self.present, "--counter", self.counter, "--nuggets", n, "--flakes", p, "--size", f, "--version", version,
+                        "--cipher", "aes" if cipher else "chacha20")
         assert ran.returncode == 0, ran.stderr
         salt = self.image.read_bytes()[16:32]
-        made = calls.format(bytes(layout(n, p, f, version).length), n, p, f, salt, self.present.read_bytes(), 0, version)
+        made = calls.format(bytes(layout(n, p, f, version).length), n, p, f, salt, self.present.read_bytes(), 0, version, cipher)
         self.drive, self.volume, self.outside = made.drive, made.volume, made.drive.counter
         return ran
 

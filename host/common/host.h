@@ -51,7 +51,7 @@ void volume_close(struct volume *v);
 struct head {
     uint32_t n, p, f;
     uint16_t version, epoch;
-    uint8_t state, salt[16];
+    uint8_t state, cipher, salt[16];
     uint64_t counter;
 };
 bool head_read(const uint8_t *bytes, size_t length, struct head *head);

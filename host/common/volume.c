@@ -19,7 +19,8 @@ bool head_read(const uint8_t *bytes, size_t length, struct head *head) {
     if (length < 104 || memcmp(bytes, "NGT", 3))
         return false;
     head->version = little(bytes + 3, 2);
-    head->state = bytes[5];
+    head->state = bytes[5] % 16;
+    head->cipher = bytes[5] - head->state;
     head->epoch = little(bytes + 6, 2);
     head->n = little(bytes + 8, 4);
     head->p = little(bytes + 12, 2);

@@ -8,7 +8,7 @@
 #include <sys/prctl.h>
 
 enum {
-    SECRET = 1, OLD = 2, NEW = 4, COUNTER = 8, SHAPE = 16, OFFSET = 32, LENGTH = 64, JSON = 128, SVG = 256, HTML = 512, FORCE = 1024, AHEAD = 2048, XTS_KEY = 4096, FROM = 8192, TO = 16384, XTS = 32768, VERSION = 65536,
+    SECRET = 1, OLD = 2, NEW = 4, COUNTER = 8, SHAPE = 16, OFFSET = 32, LENGTH = 64, JSON = 128, SVG = 256, HTML = 512, FORCE = 1024, AHEAD = 2048, XTS_KEY = 4096, FROM = 8192, TO = 16384, XTS = 32768, VERSION = 65536, CIPHER = 131072,
     MOUNTS = SECRET | OLD | COUNTER | AHEAD
 };
 
@@ -20,7 +20,7 @@ static const struct {
     const char *line, *more;
 } COMMANDS[] = {
     {"secret", run_secret, "FILE", XTS, 0, "make a secret from the system's randomness", "FILE is made with 32 bytes, for its owner alone. None is laid over."},
-    {"format", run_format, "IMAGE", SECRET | COUNTER | SHAPE | VERSION | FORCE, SECRET | COUNTER | SHAPE, "lay out a fresh volume, everything zero",
+    {"format", run_format, "IMAGE", SECRET | COUNTER | SHAPE | VERSION | CIPHER | FORCE, SECRET | COUNTER | SHAPE, "lay out a fresh volume, everything zero",
      "The salt is the system's randomness. A counter's file is made if there is none."},
     {"info", run_info, "IMAGE", MOUNTS | JSON, 0, "tell shape, state, epoch and counter",
      "Without a secret the head is told as it stands, and nothing of it is checked."},
@@ -62,6 +62,7 @@ static const struct {
     {"flakes", "P", "flakes in a nugget, 1 to 64", SHAPE},
     {"size", "F", "bytes in a flake, 64 to 4096 in steps of 64", SHAPE},
     {"version", "V", "1, or 2, which has discard; 1 if not given", VERSION},
+    {"cipher", "NAME", "chacha20, or aes; chacha20 if not given", CIPHER},
     {"offset", "O", "where in the contents; 0 if not given", OFFSET},
     {"length", "L", "how many bytes", LENGTH},
     {"json", NULL, "print JSON", JSON},
@@ -106,7 +107,7 @@ bool tool_number(const char *text, uint64_t *value) {
 static bool take(struct ask *ask, const char *name, const char *value) {
     const struct { const char *name; const char **text; } TEXTS[] = {
         {"secret", &ask->secret}, {"old-secret", &ask->old_secret}, {"new-secret", &ask->new_secret}, {"xts-key", &ask->xts_key}, {"counter", &ask->counter},
-        {"svg", &ask->svg}, {"html", &ask->html}, {"from", &ask->from}, {"to", &ask->to}};
+        {"svg", &ask->svg}, {"html", &ask->html}, {"from", &ask->from}, {"to", &ask->to}, {"cipher", &ask->cipher}};
     const struct { const char *name; uint64_t *number; } NUMBERS[] = {
         {"nuggets", &ask->n}, {"flakes", &ask->p}, {"size", &ask->f}, {"version", &ask->version}, {"offset", &ask->offset}, {"length", &ask->length}};
     const struct { const char *name; bool *flag; } FLAGS[] = {{"json", &ask->json}, {"force", &ask->force}, {"ahead", &ask->ahead}, {"xts", &ask->xts}};
@@ -121,6 +122,10 @@ static bool take(struct ask *ask, const char *name, const char *value) {
             host_says("--%s takes a number, and %s is none", name, value);
             return false;
         }
+    if (!strcmp(name, "cipher") && strcmp(value, "aes") && strcmp(value, "chacha20")) {
+        host_says("--cipher takes chacha20 or aes, and %s is neither", value);
+        return false;
+    }
     ask->has_length |= !strcmp(name, "length");
     return true;
 }

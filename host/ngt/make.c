@@ -1,5 +1,6 @@
 /* format and secret. */
 #include "tool.h"
+#include <string.h>
 
 int run_secret(const struct ask *ask) {
     return secret_make(ask->image, ask->xts ? 64 : 32);
@@ -23,7 +24,7 @@ int run_format(const struct ask *ask) {
         if (why != DONE)
             return why;
     }
-    if (ngt_format_as(drive.volume.bytes, drive.volume.length, n, p, f, version, 0, salt, drive.safe->present, drive.outside, drive.safe->drive, drive.answer)) {
+    if (ngt_format_as(drive.volume.bytes, drive.volume.length, n, p, f, version, ask->cipher && !strcmp(ask->cipher, "aes") ? AES : 0, salt, drive.safe->present, drive.outside, drive.safe->drive, drive.answer)) {
         volume_undo(&drive.volume);
         return tool_refused(ask);
     }

@@ -42,10 +42,10 @@ int run_info(const struct ask *ask) {
     if (why != DONE)
         return why;
     hex(salt, h.salt);
-    const char *form = ask->json ? "{\"version\": %u, \"nuggets\": %u, \"flakes\": %u, \"size\": %u, \"capacity\": %" PRIu64 ", \"length\": %" PRIu64 ", \"state\": \"%s\", \"epoch\": %u, \"counter\": %" PRIu64 ", \"salt\": \"%s\", \"checked\": %s}\n"
-                                 : "version   %u\nnuggets   %u\nflakes    %u in each nugget\nsize      %u bytes a flake\ncapacity  %" PRIu64 " bytes\nlength    %" PRIu64 " bytes\nstate     %s\nepoch     %u\ncounter   %" PRIu64 "\nsalt      %s\nchecked   %s\n";
+    const char *form = ask->json ? "{\"version\": %u, \"cipher\": \"%s\", \"nuggets\": %u, \"flakes\": %u, \"size\": %u, \"capacity\": %" PRIu64 ", \"length\": %" PRIu64 ", \"state\": \"%s\", \"epoch\": %u, \"counter\": %" PRIu64 ", \"salt\": \"%s\", \"checked\": %s}\n"
+                                 : "version   %u\ncipher    %s\nnuggets   %u\nflakes    %u in each nugget\nsize      %u bytes a flake\ncapacity  %" PRIu64 " bytes\nlength    %" PRIu64 " bytes\nstate     %s\nepoch     %u\ncounter   %" PRIu64 "\nsalt      %s\nchecked   %s\n";
     const char *said = ask->json ? (checked ? "true" : "false") : checked ? "yes: seal, secrets, counter and the whole tree" : "no: the head as it stands";
-    printf(form, h.version, h.n, h.p, h.f, ngt_capacity(h.n, h.p, h.f), (uint64_t)drive.volume.length, h.state ? "changing" : "steady", h.epoch, h.counter, salt, said);
+    printf(form, h.version, h.cipher == AES ? "aes" : h.cipher ? "unknown" : "chacha20", h.n, h.p, h.f, ngt_capacity(h.n, h.p, h.f), (uint64_t)drive.volume.length, h.state ? "changing" : "steady", h.epoch, h.counter, salt, said);
     return DONE;
 }
 

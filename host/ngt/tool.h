@@ -8,10 +8,13 @@
 struct ask {
     const char *image, *second; /* the words that are no options */
     const char *secret, *old_secret, *new_secret, *xts_key, *counter;
-    const char *svg, *html, *from, *to;
+    const char *svg, *html, *from, *to, *cipher;
     uint64_t n, p, f, version, offset, length;
     bool has_length, json, force, ahead, xts;
 };
+
+/* What a head says of its cipher if it isn't ChaCha20. */
+enum { AES = 16 };
 
 /* What `compare` answers if it finds two messages with one hash. */
 enum { COLLISION = 65 };
