@@ -2,8 +2,8 @@ use Rattle.base.proofs.PickLaws.{yes, no}
 use Rattle.ngt.specs.Calls.{imageAfter}
 use mathlib.Core.Path.{refl, sym, _∙_}
 use borrow.Author.Needs.{needs}
-use Rattle.ngt.proofs.keep.Statement.{statement}
-use Rattle.ngt.proofs.keep.Tie as tie
+use Rattle.ngt.proofs.changing.keep.Statement.{statement}
+use Rattle.ngt.proofs.changing.keep.Tie as tie
 
 pack-requires : tie.Need-pack-requires
 pack-requires c κs = search needs
