@@ -22,29 +22,29 @@ ngt-report κs a x y u v p q = (agree (p .tells .told) (q .tells .told), refl �
 pub ngt-stored-flake : OneOutcome fn.ngt_stored_flake.ended fn.ngt_stored_flake.Reads.Post
 ngt-stored-flake κs a x y u v p q = (agree (p .tells .told) (q .tells .told), refl ∥ refl ∥ refl ∥ refl ∥ agree (p .part) (q .part) ∥ agree (p .tells .shown) (q .tells .shown) ∥ refl)
 
-pub ngt-begin : OneOutcome fn.ngt_begin.ended fn.ngt_begin.Reads.Post
-ngt-begin κs a x y u v p q = (agree (p .tells .told) (q .tells .told), agree (p .drive) (q .drive) ∥ agree (p .volume) (q .volume) ∥ refl ∥ agree (p .tells .shown) (q .tells .shown) ∥ refl)
+pub changing-ngt-begin : OneOutcome fn.changing.ngt_begin.ended fn.changing.ngt_begin.Reads.Post
+changing-ngt-begin κs a x y u v p q = (agree (p .tells .told) (q .tells .told), agree (p .drive) (q .drive) ∥ agree (p .volume) (q .volume) ∥ refl ∥ agree (p .tells .shown) (q .tells .shown) ∥ refl)
 
-pub ngt-sweep : OneOutcome fn.ngt_sweep.ended fn.ngt_sweep.Reads.Post
-ngt-sweep κs a x y u v p q = (agree (p .tells .told) (q .tells .told), agree (p .drive) (q .drive) ∥ agree (p .volume) (q .volume) ∥ refl ∥ agree (p .tells .shown) (q .tells .shown) ∥ refl)
+pub changing-ngt-sweep : OneOutcome fn.changing.ngt_sweep.ended fn.changing.ngt_sweep.Reads.Post
+changing-ngt-sweep κs a x y u v p q = (agree (p .tells .told) (q .tells .told), agree (p .drive) (q .drive) ∥ agree (p .volume) (q .volume) ∥ refl ∥ agree (p .tells .shown) (q .tells .shown) ∥ refl)
 
-pub ngt-finish : OneOutcome fn.ngt_finish.ended fn.ngt_finish.Reads.Post
-ngt-finish κs a x y u v p q = (agree (p .tells .told) (q .tells .told), agree (p .drive) (q .drive) ∥ agree (p .volume) (q .volume) ∥ agree (p .tells .shown) (q .tells .shown) ∥ refl)
+pub changing-ngt-finish : OneOutcome fn.changing.ngt_finish.ended fn.changing.ngt_finish.Reads.Post
+changing-ngt-finish κs a x y u v p q = (agree (p .tells .told) (q .tells .told), agree (p .drive) (q .drive) ∥ agree (p .volume) (q .volume) ∥ agree (p .tells .shown) (q .tells .shown) ∥ refl)
 
-pub ngt-write : OneOutcome fn.ngt_write.ended fn.ngt_write.Reads.Post
-ngt-write κs a x y u v p q = (agree (p .tells .told) (q .tells .told), agree (p .drive) (q .drive) ∥ agree (p .volume) (q .volume) ∥ refl ∥ refl ∥ agree (p .tells .shown) (q .tells .shown) ∥ refl)
+pub changing-ngt-write : OneOutcome fn.changing.ngt_write.ended fn.changing.ngt_write.Reads.Post
+changing-ngt-write κs a x y u v p q = (agree (p .tells .told) (q .tells .told), agree (p .drive) (q .drive) ∥ agree (p .volume) (q .volume) ∥ refl ∥ refl ∥ agree (p .tells .shown) (q .tells .shown) ∥ refl)
 
 pub ngt-export : OneOutcome fn.ngt_export.ended fn.ngt_export.Reads.Post
 ngt-export κs a x y u v p q = (agree (p .tells .told) (q .tells .told), refl ∥ refl ∥ refl ∥ refl ∥ agree (p .bytes) (q .bytes) ∥ agree (p .tells .shown) (q .tells .shown) ∥ refl)
 
-pub ngt-import : OneOutcome fn.ngt_import.ended fn.ngt_import.Reads.Post
-ngt-import κs a x y u v p q = (agree (p .tells .told) (q .tells .told), agree (p .drive) (q .drive) ∥ agree (p .volume) (q .volume) ∥ refl ∥ refl ∥ refl ∥ agree (p .tells .shown) (q .tells .shown) ∥ refl)
+pub changing-ngt-import : OneOutcome fn.changing.ngt_import.ended fn.changing.ngt_import.Reads.Post
+changing-ngt-import κs a x y u v p q = (agree (p .tells .told) (q .tells .told), agree (p .drive) (q .drive) ∥ agree (p .volume) (q .volume) ∥ refl ∥ refl ∥ refl ∥ agree (p .tells .shown) (q .tells .shown) ∥ refl)
 
-pub ngt-discard : OneOutcome fn.ngt_discard.ended fn.ngt_discard.Reads.Post
-ngt-discard κs a x y u v p q = (agree (p .tells .told) (q .tells .told), agree (p .drive) (q .drive) ∥ agree (p .volume) (q .volume) ∥ refl ∥ refl ∥ refl ∥ agree (p .tells .shown) (q .tells .shown) ∥ refl)
+pub changing-ngt-discard : OneOutcome fn.changing.ngt_discard.ended fn.changing.ngt_discard.Reads.Post
+changing-ngt-discard κs a x y u v p q = (agree (p .tells .told) (q .tells .told), agree (p .drive) (q .drive) ∥ agree (p .volume) (q .volume) ∥ refl ∥ refl ∥ refl ∥ agree (p .tells .shown) (q .tells .shown) ∥ refl)
 
-pub ngt-queue : OneOutcome fn.ngt_queue.ended fn.ngt_queue.Reads.Post
-ngt-queue κs a x y u v p q = (agree (p .tells .told) (q .tells .told), agree (p .drive) (q .drive) ∥ agree (p .volume) (q .volume) ∥ refl ∥ refl ∥ agree (p .counts) (q .counts) ∥ agree (p .tells .shown) (q .tells .shown) ∥ refl)
+pub changing-ngt-queue : OneOutcome fn.changing.ngt_queue.ended fn.changing.ngt_queue.Reads.Post
+changing-ngt-queue κs a x y u v p q = (agree (p .tells .told) (q .tells .told), agree (p .drive) (q .drive) ∥ agree (p .volume) (q .volume) ∥ refl ∥ refl ∥ agree (p .counts) (q .counts) ∥ agree (p .tells .shown) (q .tells .shown) ∥ refl)
 
 pub ngt-fleet : OneOutcome fn.ngt_fleet.ended fn.ngt_fleet.Reads.Post
 ngt-fleet κs a x y u v p q = (agree (p .behind) (q .behind), refl ∥ agree (p .stored) (q .stored) ∥ refl)

@@ -1,11 +1,10 @@
 // The C interface of the drive: each call with its drive and its answer as bytes.
 // It touches the calls' crates, `packed` and `images` for the bytes, and `fleets` for the fleet's line.
+mod changing;
 mod lines;
 mod moves;
 mod summary;
 
-use answers::Answer;
-use discarding::Freed;
 use drive::Drive;
 use layout::Shape;
 ghost use mathlib.Core.Path.{_≡_};
@@ -15,11 +14,10 @@ ghost use Rattle.layout.specs.Shape.{shape, shapeAs};
 ghost use Rattle.packed.specs.Image.{driveIn};
 ghost use Rattle.line.specs.Lines.{Put};
 ghost use Rattle.fleets.specs.Lines.{fleetLine};
-ghost use Rattle.changes.specs.Write.{writes};
 ghost use Rattle.ngt.specs.Twins.{Compared};
-ghost use Rattle.ngt.specs.Calls.{Formatted, Mounted, Filled, Exported, Reported, Shown, spanImage, imageAfter, Begun, Swept, Finished, Written, Imported, counterRose, Discarded, QueuedBy};
+ghost use Rattle.ngt.specs.Calls.{Formatted, Mounted, Filled, Exported, Reported, Shown, spanImage, imageAfter};
 
-// Format, with the image of the drive that it hands back.
+// Format under version 1, with the image of the drive that it hands back.
 #[no_mangle]
 pub extern "C" fn ngt_format(
     vol: &mut [u8],
@@ -34,19 +32,7 @@ pub extern "C" fn ngt_format(
 ) -> u32
     ensures { λ r. ⌜ Formatted (shape n p f) (now (salt .entry)) (now (secret .entry)) outside (now (vol .entry)) r (now (vol .exit)) (now (image .exit)) (now (answer .exit)) ⌝ }
 {
-    let s = Shape {
-        n,
-        p,
-        f,
-        version: 1,
-        cipher: 0,
-    };
-    let done = opening::format(vol, s, *salt, *secret, outside);
-    let d = done.drive;
-    let a = done.answer;
-    *image = packed::pack(d);
-    *answer = images::answer_image(a);
-    answers::number(a)
+    ngt_format_as(vol, n, p, f, 1, 0, salt, secret, outside, image, answer)
 }
 
 // Format under a version and a cipher.
@@ -111,6 +97,15 @@ fn five(a: u32, b: u32, c: u32, d: u32, e: u32) -> [u8; 20]
     words::store32(&mut out, 12, d);
     words::store32(&mut out, 16, e);
     out
+}
+
+// "Where the drive comes back as given, no byte of the image is stored": it may lie on a page that can't be written then.
+fn keep(image: &mut [u8; 144], changes: bool, d: Drive)
+    ensures { λ _. ⌜ now (image .exit) ≡ imageAfter changes d (now (image .entry)) ⌝ }
+{
+    if changes {
+        *image = packed::pack(d);
+    }
 }
 
 // An image by value is known to have its 144 bytes.
@@ -207,189 +202,6 @@ pub extern "C" fn ngt_stored_flake(
     let d = opened(*image);
     let a = reports::stored_flake_answer(d, vol, nugget, flake);
     *span = span_image(d, vol, nugget, flake);
-    *answer = images::answer_image(a);
-    answers::number(a)
-}
-
-// "Where the drive comes back as given, no byte of the image is stored": it may lie on a page that can't be written then.
-fn keep(image: &mut [u8; 144], changes: bool, d: Drive)
-    ensures { λ _. ⌜ now (image .exit) ≡ imageAfter changes d (now (image .entry)) ⌝ }
-{
-    if changes {
-        *image = packed::pack(d);
-    }
-}
-
-// Begin, with a new secret.
-#[no_mangle]
-pub extern "C" fn ngt_begin(
-    image: &mut [u8; 144],
-    vol: &mut [u8],
-    secret: &[u8; 32],
-    answer: &mut [u8; 16],
-) -> u32
-    ensures { λ r. ⌜ Begun (driveIn (now (image .entry))) (now (vol .entry)) (now (secret .entry))
-        (now (image .entry)) r (now (vol .exit)) (now (image .exit)) (now (answer .exit)) ⌝ }
-{
-    let d = opened(*image);
-    let done = rekeying::begin(d, vol, *secret);
-    let a = done.answer;
-    let next = done.drive;
-    keep(image, answers::accepted(a), next);
-    *answer = images::answer_image(a);
-    answers::number(a)
-}
-
-// Sweep, of one nugget.
-#[no_mangle]
-pub extern "C" fn ngt_sweep(
-    image: &mut [u8; 144],
-    vol: &mut [u8],
-    nugget: u32,
-    answer: &mut [u8; 16],
-) -> u32
-    ensures { λ r. ⌜ Swept (driveIn (now (image .entry))) (now (vol .entry)) nugget
-        (now (image .entry)) r (now (vol .exit)) (now (image .exit)) (now (answer .exit)) ⌝ }
-{
-    let d = opened(*image);
-    let done = rekeying::sweep(d, vol, nugget);
-    let a = done.answer;
-    let next = done.drive;
-    keep(image, answers::accepted(a), next);
-    *answer = images::answer_image(a);
-    answers::number(a)
-}
-
-// Finish.
-#[no_mangle]
-pub extern "C" fn ngt_finish(image: &mut [u8; 144], vol: &mut [u8], answer: &mut [u8; 16]) -> u32
-    ensures { λ r. ⌜ Finished (driveIn (now (image .entry))) (now (vol .entry))
-        (now (image .entry)) r (now (vol .exit)) (now (image .exit)) (now (answer .exit)) ⌝ }
-{
-    let d = opened(*image);
-    let done = rekeying::finish(d, vol);
-    let a = done.answer;
-    let next = done.drive;
-    keep(image, answers::accepted(a), next);
-    *answer = images::answer_image(a);
-    answers::number(a)
-}
-
-// Whether a write changes the drive: one of no bytes doesn't.
-fn writes_by(a: Answer, bytes: &[u8]) -> bool
-    ensures { λ r. ⌜ r ≡ writes a (now (bytes .entry)) ⌝ }
-{
-    if answers::accepted(a) {
-        return 0 < bytes.len();
-    }
-    false
-}
-
-// Write, from an offset on.
-#[no_mangle]
-pub extern "C" fn ngt_write(
-    image: &mut [u8; 144],
-    vol: &mut [u8],
-    offset: u64,
-    bytes: &[u8],
-    answer: &mut [u8; 16],
-) -> u32
-    ensures { λ r. ⌜ Written (driveIn (now (image .entry))) (now (vol .entry)) offset (now (bytes .entry))
-        (now (image .entry)) r (now (vol .exit)) (now (image .exit)) (now (answer .exit)) ⌝ }
-{
-    let d = opened(*image);
-    let done = writing::write(d, vol, offset, bytes);
-    let a = done.answer;
-    let next = done.drive;
-    keep(image, writes_by(a, bytes), next);
-    *answer = images::answer_image(a);
-    answers::number(a)
-}
-
-// Import of a whole buffer; an accepted one always changes the drive, since no drive is without contents.
-#[no_mangle]
-pub extern "C" fn ngt_import(
-    image: &mut [u8; 144],
-    vol: &mut [u8],
-    key: &[u8; 32],
-    tweak: &[u8; 32],
-    bytes: &[u8],
-    answer: &mut [u8; 16],
-) -> u32
-    ensures { λ r. ⌜ Imported (driveIn (now (image .entry))) (now (vol .entry)) (now (key .entry)) (now (tweak .entry)) (now (bytes .entry))
-        (now (image .entry)) r (now (vol .exit)) (now (image .exit)) (now (answer .exit)) ⌝ }
-{
-    let d = opened(*image);
-    let done = importing::import(d, vol, *key, *tweak, bytes);
-    let a = done.answer;
-    let next = done.drive;
-    keep(image, answers::accepted(a), next);
-    *answer = images::answer_image(a);
-    answers::number(a)
-}
-
-// Whether drives differ: each call that changes one adds to its counter.
-fn counter_rose(d: Drive, next: Drive) -> bool
-    ensures { λ r. ⌜ r ≡ counterRose d next ⌝ }
-{
-    d.counter != next.counter
-}
-
-// Discard, of a flake range of one nugget.
-#[no_mangle]
-pub extern "C" fn ngt_discard(
-    image: &mut [u8; 144],
-    vol: &mut [u8],
-    nugget: u32,
-    first: u32,
-    count: u32,
-    answer: &mut [u8; 16],
-) -> u32
-    ensures { λ r. ⌜ Discarded (driveIn (now (image .entry))) (now (vol .entry)) nugget first count
-        (now (image .entry)) r (now (vol .exit)) (now (image .exit)) (now (answer .exit)) ⌝ }
-{
-    let d = opened(*image);
-    let freed = Freed {
-        nugget,
-        first,
-        count,
-    };
-    let done = discarding::discard(d, vol, freed);
-    let a = done.answer;
-    let next = done.drive;
-    keep(image, counter_rose(d, next), next);
-    *answer = images::answer_image(a);
-    answers::number(a)
-}
-
-fn eight(x: u64) -> [u8; 8]
-    ensures { λ r. ⌜ r ≡ le 8 x ⌝ }
-{
-    let mut out = [0u8; 8];
-    words::store(&mut out, 0, 8, x);
-    out
-}
-
-// A queue of writes, "requests: 16 bytes each, offset and length".
-#[no_mangle]
-pub extern "C" fn ngt_queue(
-    image: &mut [u8; 144],
-    vol: &mut [u8],
-    requests: &[u8],
-    bytes: &[u8],
-    done: &mut [u8; 8],
-    answer: &mut [u8; 16],
-) -> u32
-    ensures { λ r. ⌜ QueuedBy (driveIn (now (image .entry))) (now (vol .entry)) (now (requests .entry)) (now (bytes .entry))
-        (now (image .entry)) r (now (vol .exit)) (now (image .exit)) (now (done .exit)) (now (answer .exit)) ⌝ }
-{
-    let d = opened(*image);
-    let queued = queues::queue_images(d, vol, requests, bytes);
-    let outcome = queued.outcome;
-    let next = queued.drive;
-    let a = outcome.answer;
-    keep(image, counter_rose(d, next), next);
-    *done = eight(outcome.done);
     *answer = images::answer_image(a);
     answers::number(a)
 }

@@ -129,7 +129,7 @@ fn lay(out: &mut [u8], x: &[u8], y: &[u8], z: &[u8]) -> usize
     b + z.len()
 }
 
-// "`L`, nugget (4), the 18 record bytes, the nugget's P tags", 18 the width of a record in version 1
+// "`L`, nugget (4), the 18 record bytes, the nugget's P tags": 18 bytes in version 1, 26 in version 2
 fn lay_leaf(vol: &[u8], s: Shape, n: u32, out: &mut [u8]) -> usize
     requires { ⌜ Shaped s (now vol) × (n < s .n) × (1055 ≤ length (now out)) ⌝ }
     ensures { λ r. ⌜ (r ≡ length (messageOf s (now (vol .entry)) (leaves (s .n) + n)))

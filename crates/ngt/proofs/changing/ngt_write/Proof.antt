@@ -3,8 +3,8 @@ use Rattle.changes.specs.Write.{writes, writeDone, writeVolume}
 use Rattle.drive.specs.declared.Drive.{Drive}
 use Rattle.drive.specs.declared.Done.{Done}
 use borrow.Author.Needs.{needs}
-use Rattle.ngt.proofs.ngt_write.Statement.{statement}
-use Rattle.ngt.proofs.ngt_write.Tie as tie
+use Rattle.ngt.proofs.changing.ngt_write.Statement.{statement}
+use Rattle.ngt.proofs.changing.ngt_write.Tie as tie
 
 opened-requires : tie.Need-opened-requires
 opened-requires c κs = search needs

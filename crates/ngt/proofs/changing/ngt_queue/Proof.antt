@@ -2,8 +2,8 @@ use Rattle.ngt.proofs.CallLaws.{queues-by}
 use Rattle.drive.specs.declared.Drive.{Drive}
 use Rattle.queues.specs.Images.{imagesDone, imagesVolume}
 use borrow.Author.Needs.{needs}
-use Rattle.ngt.proofs.ngt_queue.Statement.{statement}
-use Rattle.ngt.proofs.ngt_queue.Tie as tie
+use Rattle.ngt.proofs.changing.ngt_queue.Statement.{statement}
+use Rattle.ngt.proofs.changing.ngt_queue.Tie as tie
 
 opened-requires : tie.Need-opened-requires
 opened-requires c κs = search needs

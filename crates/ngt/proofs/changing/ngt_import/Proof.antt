@@ -4,8 +4,8 @@ use Rattle.drive.specs.declared.Drive.{Drive}
 use Rattle.drive.specs.declared.Done.{Done}
 use Rattle.handing.specs.Handing.{importDone, importVolume}
 use borrow.Author.Needs.{needs}
-use Rattle.ngt.proofs.ngt_import.Statement.{statement}
-use Rattle.ngt.proofs.ngt_import.Tie as tie
+use Rattle.ngt.proofs.changing.ngt_import.Statement.{statement}
+use Rattle.ngt.proofs.changing.ngt_import.Tie as tie
 
 opened-requires : tie.Need-opened-requires
 opened-requires c κs = search needs

@@ -2,16 +2,16 @@ use Rattle.ngt.proofs.CallLaws.{changed-by}
 use Rattle.answers.specs.Numbers.{accepts}
 use Rattle.drive.specs.declared.Drive.{Drive}
 use Rattle.drive.specs.declared.Done.{Done}
-use Rattle.changes.specs.Rekey.{sweepDone, sweepVolume}
+use Rattle.changes.specs.Rekey.{finishDone, finishVolume}
 use borrow.Author.Needs.{needs}
-use Rattle.ngt.proofs.ngt_sweep.Statement.{statement}
-use Rattle.ngt.proofs.ngt_sweep.Tie as tie
+use Rattle.ngt.proofs.changing.ngt_finish.Statement.{statement}
+use Rattle.ngt.proofs.changing.ngt_finish.Tie as tie
 
 opened-requires : tie.Need-opened-requires
 opened-requires c κs = search needs
 
-sweep-requires : tie.Need-sweep-requires
-sweep-requires c κs = search needs
+finish-requires : tie.Need-finish-requires
+finish-requires c κs = search needs
 
 accepted-requires : tie.Need-accepted-requires
 accepted-requires c κs = search needs
@@ -31,16 +31,16 @@ same-length c = search needs
 returns : tie.Need-returns
 returns c =
     let a = c .before .before .before .before .before .before .before .before .before .before .before .before .before .args in
-    let e = c .before .before .before .before .before .before .before .before .sweep .ensures in
-    changed-by (λ (z : Drive). sweepDone z (a .vol .now) (a .nugget)) (λ (z : Done). accepts (z .answer)) (λ (z : Drive). sweepVolume z (a .vol .now) (a .nugget))
+    let e = c .before .before .before .before .before .before .before .before .finish .ensures in
+    changed-by (λ (z : Drive). finishDone z (a .vol .now)) (λ (z : Done). accepts (z .answer)) (λ (z : Drive). finishVolume z (a .vol .now))
     (c .before .before .before .before .before .before .before .before .before .before .opened .ensures) (e .0) (e .1) (c .before .before .before .accepted .ensures) (c .before .before .keep .ensures) (c .number .ensures) (c .before .answer-image .ensures)
 
-pub ngt-sweep-spec : {M : Type 1} → statement M
-ngt-sweep-spec =
+pub ngt-finish-spec : {M : Type 1} → statement M
+ngt-finish-spec =
     tie.close
     (tie.spec
     opened-requires
-    sweep-requires
+    finish-requires
     accepted-requires
     keep-requires
     answer-image-requires

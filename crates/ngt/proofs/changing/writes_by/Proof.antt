@@ -1,8 +1,8 @@
 use Rattle.base.proofs.PickLaws.{both-on, both-off}
 use mathlib.Core.Path.{refl, sym, _∙_}
 use borrow.Author.Needs.{needs}
-use Rattle.ngt.proofs.writes_by.Statement.{statement}
-use Rattle.ngt.proofs.writes_by.Tie as tie
+use Rattle.ngt.proofs.changing.writes_by.Statement.{statement}
+use Rattle.ngt.proofs.changing.writes_by.Tie as tie
 
 accepted-requires : tie.Need-accepted-requires
 accepted-requires c κs = search needs

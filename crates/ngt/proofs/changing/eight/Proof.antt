@@ -1,7 +1,7 @@
 use Rattle.words.specs.Le.{le}
 use borrow.Author.Needs.{needs}
-use Rattle.ngt.proofs.eight.Statement.{statement}
-use Rattle.ngt.proofs.eight.Tie as tie
+use Rattle.ngt.proofs.changing.eight.Statement.{statement}
+use Rattle.ngt.proofs.changing.eight.Tie as tie
 
 slice-aggregate-store : tie.Need-slice-aggregate-store
 slice-aggregate-store c = search needs

@@ -4,8 +4,8 @@ use Rattle.drive.specs.declared.Drive.{Drive}
 use Rattle.drive.specs.declared.Done.{Done}
 use Rattle.changes.specs.Rekey.{beginDone, beginVolume}
 use borrow.Author.Needs.{needs}
-use Rattle.ngt.proofs.ngt_begin.Statement.{statement}
-use Rattle.ngt.proofs.ngt_begin.Tie as tie
+use Rattle.ngt.proofs.changing.ngt_begin.Statement.{statement}
+use Rattle.ngt.proofs.changing.ngt_begin.Tie as tie
 
 opened-requires : tie.Need-opened-requires
 opened-requires c κs = search needs

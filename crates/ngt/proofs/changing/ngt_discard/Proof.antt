@@ -6,8 +6,8 @@ use Rattle.drive.specs.declared.Done.{Done}
 use Rattle.changes.specs.Discard.{discardDone, discardVolume}
 use Rattle.packed.specs.Image.{driveIn}
 use borrow.Author.Needs.{needs}
-use Rattle.ngt.proofs.ngt_discard.Statement.{statement}
-use Rattle.ngt.proofs.ngt_discard.Tie as tie
+use Rattle.ngt.proofs.changing.ngt_discard.Statement.{statement}
+use Rattle.ngt.proofs.changing.ngt_discard.Tie as tie
 
 opened-requires : tie.Need-opened-requires
 opened-requires c κs = search needs
