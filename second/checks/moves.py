@@ -32,7 +32,7 @@ def a_spec(chance, version):
     records = [[chance.randrange(9), chance.getrandbits(p), epoch - (chance.randrange(2) if state else 0)] for _ in range(n)]
     ghosts = {(i, j): (chance.randbytes(32), chance.randrange(9), chance.randbytes(f))
               for i in range(n) for j in range(p) if not records[i][1] >> j & 1 and chance.randrange(2)}
-    return Spec(n, p, f, state, epoch, chance.choice((8, 9, TOP - 4)), records, version=version, ghosts=ghosts)
+    return Spec(n, p, f, state, epoch, chance.choice((8, 9, TOP - 4)), records, version=version, cipher=chance.choice((0, 16)), ghosts=ghosts)
 
 
 def stands(tally, words, spec, drive, volume, got):

@@ -51,9 +51,9 @@ travel w (t ∷ turns) = travel (turn w t) turns
 abbrev pub journey : Start → List Turn → World
 journey start turns = travel (begun start) turns
 
--- N, P, F and salt
-abbrev pub sizesOf : Shape → List ℕ → ℕ × (ℕ × (ℕ × List ℕ))
-sizesOf s salt = (s .n, (s .p, (s .f, salt)))
+-- N, P, F, cipher and salt
+abbrev pub sizesOf : Shape → List ℕ → ℕ × (ℕ × (ℕ × (ℕ × List ℕ)))
+sizesOf s salt = (s .n, (s .p, (s .f, (s .cipher, salt))))
 
 -- They stay through every journey. The version is the last move's, or the format's.
 abbrev pub JourneySizes : Type 0
