@@ -19,13 +19,14 @@
 
 /* how many refusals */
 enum { WANTED = 100000, ROOM = 1024, FOUND = 1055, SHOWN = 10 };
-enum kind { FORMAT, MOUNT, READ, WRITE, QUEUE, BEGIN, SWEEP, FINISH, DISCARD, REPORT, STORED, EXPORT, IMPORT, TWINS, TALLY, BUILD, RENEW, TOP, KINDS };
+enum kind { FORMAT, MOUNT, READ, WRITE, QUEUE, BEGIN, SWEEP, FINISH, DISCARD, REPORT, STORED, EXPORT, IMPORT, TWINS, TALLY, UP, DOWN, BUILD, RENEW, TOP, KINDS };
 /* The answers that each call can give, with 0 where it may be accepted and change neither drive nor volume. */
 static const struct {
     const char *name, *reached;
 } told[KINDS] = {{"format", "1 2 13"}, {"mount", "1 2 3 4 5 6 7"}, {"read", "0 1 2 7 8"}, {"write", "0 1 2 7 8 13"}, {"queue", "0 1 2 7 8 13"},
                  {"begin", "1 2 7 9 10 13 15"}, {"sweep", "1 2 7 8 9 12 13"}, {"finish", "1 2 7 9 11 13"}, {"discard", "0 1 2 7 8 9 13"},
                  {"report", "0 1 2 7"}, {"stored_flake", "0 1 2 8"}, {"export", "0 1 2 7 10"}, {"import", "1 2 7 10 13"}, {"twins", "0 1 2 7 8"}, {"tally", "0 1 2 7"},
+                 {"move_up", "1 2 7 9 13"}, {"move_down", "1 2 7 9 13 16"},
                  {"summary_build", "0 1 2 7"}, {"summary_renew", "0 1 2 7 8"}, {"summary_report", "0 1 2 7"}};
 
 /* What a call is given, beside drive and volume. */
@@ -90,7 +91,7 @@ static void guard(struct pages p, int how) {
 
 /* Whether a call is given a buffer of any length; of no bytes none of them changes anything. */
 static int buffered(enum kind kind) {
-    return kind == READ || kind == WRITE || kind == QUEUE || kind == EXPORT || kind == IMPORT || kind >= BUILD;
+    return kind == READ || kind == WRITE || kind == QUEUE || kind == EXPORT || kind == IMPORT || kind >= UP;
 }
 
 /* Whether an accepted call fills its buffer. */
@@ -119,6 +120,8 @@ static uint32_t make(const struct given *g, const struct place *at) {
     case IMPORT: return ngt_import(at->image, at->vol, at->length, at->one, at->two, end, g->length, at->answer);
     case TWINS: return ngt_twins(at->image, at->vol, at->length, at->vol, other, g->n, at->found[0], at->found[1], at->span + 12, at->answer);
     case TALLY: return ngt_tally(at->image, at->vol, at->length, at->report, at->answer);
+    case UP: return ngt_move_up(at->image, at->vol, at->length, end, g->length, at->answer);
+    case DOWN: return ngt_move_down(at->image, at->vol, at->length, end, g->length, at->answer);
     case BUILD: return ngt_summary_build(at->image, at->vol, at->length, end, g->length, at->answer);
     case RENEW: return ngt_summary_renew(at->image, at->vol, at->length, end, g->length, g->n, at->answer);
     case TOP: return ngt_summary_report(at->image, at->vol, at->length, end, g->length, at->report, at->answer);
@@ -183,6 +186,8 @@ static struct given some(const uint8_t *image) {
     } else {
         if (g.kind == EXPORT || g.kind == IMPORT)
             g.length = sized(all, g.length);
+        else if (g.kind == UP || g.kind == DOWN)
+            g.length = sized(ngt_length(g.n, g.p, g.f, g.kind == UP ? 2 : 1), g.length);
         else if (g.kind >= BUILD)
             g.length = sized(summary_length(g.n), g.length);
         g.n = near(g.n), g.p = g.kind == DISCARD && any() % 2 ? 0 : near(g.p), g.f = near(g.f);
