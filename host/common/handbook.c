@@ -21,6 +21,9 @@ static const char *const SENTENCES[] = {
     [13] = "The counter is at its top. After 2^64 - 1 changes the drive can be read but not changed any more. Copy its contents to a freshly formatted drive.",
     [15] = "The epoch is at its top: the secret was changed 65,534 times. The drive can still be read and written. "
            "For another change of the secret copy its contents to a freshly formatted drive.",
+    [16] = "Moving down, and some nugget has a spent flake that isn't held: a discard freed it, and its nugget hasn't been rekeyed since. "
+           "Write to a freed place of that nugget, or, while a change runs, sweep it: either rekeys the nugget, and no such flake is left in it. "
+           "Then move again.",
 };
 
 const char *handbook(uint32_t number) {
