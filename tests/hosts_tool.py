@@ -170,6 +170,10 @@ def moves(checks):
         rig.tool("write", first, *rig.keys(), data=contents)
         before = first.read_bytes()
         checks.same((rig.tool("move", first, first, *rig.keys(), "--force").returncode, first.read_bytes()), (BUSY, before), "a move into the drive itself")
+        first.write_bytes(before[:478] + bytes([before[478] ^ 1]) + before[479:])
+        ran = rig.tool("move", first, up, *rig.keys())
+        checks.that(ran.returncode == 7 and b"place=flake 0 0\n" in ran.stderr and not up.exists(), f"an altered flake, which no mount looks at: {ran.stderr}")
+        first.write_bytes(before)
         up.write_bytes(b"x")
         checks.same((rig.tool("move", first, up, *rig.keys()).returncode, up.read_bytes()), (USAGE, b"x"), "a move lays over nothing unasked")
         checks.same((rig.tool("move", first, up, *rig.keys(), "--force").returncode, up.stat().st_size), (0, 886), "but if that is asked for")
@@ -190,7 +194,9 @@ def unmoved(checks):
         env = {**cut_library(rig), "CUT": "before", "CUT_AT": "1"}
         rig.format(3, 2, 64)
         second = rig.folder / "second"
-        checks.same(rig.tool("move", rig.image, second, *rig.keys(), env=env).returncode, -signal.SIGKILL, "the move was ended")
+        second.write_bytes(bytes(99999))
+        checks.same(rig.tool("move", rig.image, second, *rig.keys(), "--force", env=env).returncode, -signal.SIGKILL, "the move was ended")
+        checks.same(second.stat().st_size, 886, "the second is settled before the counter is kept")
         for image, status in ((rig.image, 0), (second, 6)):
             checks.same(rig.tool("report", image, *rig.keys()).returncode, status, f"a mount of {image.name}")
         (rig.folder / "counter.new").unlink()

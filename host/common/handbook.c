@@ -3,7 +3,7 @@
 
 static const char *const SENTENCES[] = {
     [1] = "N, P, F, state or epoch is out of limits. A format: N 1 to 16,384, P 1 to 64, F 64 to 4,096 in steps of 64, version 1 or 2.",
-    [2] = "The volume isn't as long as its shape says. A summary, an export or an import: look at its buffer, and at N P F. "
+    [2] = "The volume isn't as long as its shape says. A summary, an export, an import or a move: look at its buffer, and at N P F. "
           "Else the image was cut, padded, or belongs to another drive. Take it again from the drive, whole.",
     [3] = "The mark differs, or the version is neither 1 nor 2. This is no volume of this layer, or one of a later version. Ask what wrote it.",
     [4] = "The seal differs: the present secret isn't the volume's, or head or node 1 was changed. "
