@@ -42,7 +42,7 @@ def built(checks, prefix, folder):
 
 
 def as_written(checks, prefix, folder):
-    """The README's session with the installed tool: what it prints, and the one refusal."""
+    """The README's session with the installed tool: what it prints, and the two refusals."""
     page, session = (ROOT / "README.md").read_text(), folder / "session"
     session.mkdir()
     printed, statuses = "", []
@@ -50,7 +50,7 @@ def as_written(checks, prefix, folder):
         said = subprocess.run(line, shell=True, cwd=session, capture_output=True, text=True, env={**os.environ, "PATH": f"{prefix}/bin:{os.environ['PATH']}"})
         printed, statuses = printed + said.stdout, statuses + [said.returncode]
     checks.same(printed, block(page, "printed"), "the README's session prints what it says")
-    checks.same([status for status in statuses if status], [11], "the early finish alone is refused")
+    checks.same([status for status in statuses if status], [11, 16], "the early finish and the first move are refused, and nothing else")
 
 
 def main():

@@ -3,7 +3,8 @@ from rig import Checks, Rig
 import audit
 import calls
 import lines
-from layout import TOP
+import moving
+from layout import TOP, layout
 
 SEQUENCES, STEPS = 18, 34
 SHAPES = ((1, 1, 64), (3, 2, 64), (5, 3, 128), (9, 2, 256), (2, 4, 64), (2, 2, 128), (3, 3, 512), (2, 64, 64))
@@ -92,10 +93,10 @@ def sweep_step(checks, rig, whole):
         return compared(checks, rig, ran, *expected(rig, calls.sweep, min(n, 2**32 - 1)), f"sweep {n}")
     ran = rig.tool("sweep", rig.image, *rig.keys(**{"old-secret": rig.old or rig.present}))
     answer, got = expected(rig, calls.report)
-    if not answer.number and rig.volume[5] == 0:
+    if not answer.number and rig.volume[5] % 16 == 0:
         answer, got = expected(rig, calls.sweep, 0)
     for n in range(rig.drive.n):
-        if not answer.number and rig.volume[5]:
+        if not answer.number and rig.volume[5] % 16:
             one, moved = expected(rig, calls.sweep, n)
             if one.number not in (0, 12):
                 answer, got = one, moved
@@ -124,7 +125,7 @@ def tell_step(checks, rig, way):
     checks.same(ran.stdout, got[1] if way == "report" else page, f"what {way} prints")
     checks.that(b"destroyed" not in ran.stdout + ran.stderr, "no leave to destroy")
     if way == "report":
-        checks.same(b"still needed" in ran.stderr, rig.volume[5] == 1, "the old secret is still needed")
+        checks.same(b"still needed" in ran.stderr, rig.volume[5] % 16 == 1, "the old secret is still needed")
 
 
 def hand_step(checks, rig, way):
@@ -148,6 +149,40 @@ def hand_step(checks, rig, way):
     beside.unlink(missing_ok=True)
 
 
+def moved(drive, volume):
+    """To the version that it isn't of."""
+    enter = 3 - drive.version
+    return (moving.up if enter == 2 else moving.down)(drive, volume, bytes(layout(drive.n, drive.p, drive.f, enter).length))
+
+
+def move_step(checks, rig):
+    """Into a file that is made, or over one; the image that was left is stale then, and the sequence goes on with the second."""
+    second = rig.folder / "second"
+    before = rig.source.choice((None, None, b"", b"short", rig.source.randbytes(99999)))
+    if before is not None:
+        second.write_bytes(before)
+    ran = rig.tool("move", rig.image, second, *rig.keys(), *["--force"] * bool(before))
+    answer, got = expected(rig, moved)
+    compared(checks, rig, ran, answer, got, "move")
+    checks.that((second.read_bytes() if second.exists() else None) == (before if answer.number else got.buffer), "the second image")
+    checks.same(f"{rig.image} is stale now: {second} is the drive".encode() in ran.stderr, not answer.number, "which one is the drive")
+    checks.same(f"the lowest such nugget is {answer.nugget}, bytes ".encode() in ran.stderr, answer.number == 16, "the nugget of 16")
+    if not answer.number:
+        checks.that(before is not None or second.stat().st_mode & 0o777 == 0o600, "a moved drive is its owner's alone")
+        checks.same(rig.tool("report", rig.image, *rig.keys()).returncode, 6, "the image that was left")
+        second.replace(rig.image)
+        rig.volume = got.buffer
+    second.unlink(missing_ok=True)
+
+
+def freed_step(checks, rig):
+    """A move right behind writes and a discard: down it is refused if that freed a flake."""
+    bytes_step(checks, rig, "write")
+    bytes_step(checks, rig, "write")
+    discard_step(checks, rig)
+    move_step(checks, rig)
+
+
 def spoil_step(checks, rig):
     """Something isn't what it has to be; one call shows it; then all is as before."""
     way, volume, outside, present, old = rig.source.randrange(6), rig.volume, rig.outside, rig.present, rig.old
@@ -165,7 +200,7 @@ def spoil_step(checks, rig):
         rig.old = rig.secret()
     rig.put_back(rig.volume)
     rig.source.choice((lambda: bytes_step(checks, rig, "read"), lambda: discard_step(checks, rig), lambda: tell_step(checks, rig, "report"), lambda: tell_step(checks, rig, "audit"),
-                       lambda: hand_step(checks, rig, "export")))()
+                       lambda: hand_step(checks, rig, "export"), lambda: move_step(checks, rig)))()
     rig.volume, rig.outside, rig.present, rig.old = volume, outside, present, old
     rig.put_back(volume)
     rig.counter.write_text(f"{outside}\n")
@@ -177,11 +212,11 @@ def sequences(checks):
             rig.format(*SHAPES[number % len(SHAPES)], version=(1, 2, 2)[number % 3], cipher=16 * (number // 3 % 2))
             checks.that(rig.image.read_bytes() == rig.volume, "a fresh volume")
             for _ in range(STEPS):
-                way = rig.source.choice("read write write write discard discard begin sweep sweep all finish report audit export import spoil spoil".split())
+                way = rig.source.choice("read write write write discard discard begin sweep sweep all finish report audit export import move move freed freed spoil spoil".split())
                 {"read": lambda: bytes_step(checks, rig, "read"), "write": lambda: bytes_step(checks, rig, "write"), "discard": lambda: discard_step(checks, rig), "begin": lambda: begin_step(checks, rig),
                  "sweep": lambda: sweep_step(checks, rig, False), "all": lambda: sweep_step(checks, rig, True), "finish": lambda: finish_step(checks, rig),
                  "report": lambda: tell_step(checks, rig, "report"), "audit": lambda: tell_step(checks, rig, "audit"), "spoil": lambda: spoil_step(checks, rig),
-                 "export": lambda: hand_step(checks, rig, "export"), "import": lambda: hand_step(checks, rig, "import")}[way]()
+                 "export": lambda: hand_step(checks, rig, "export"), "import": lambda: hand_step(checks, rig, "import"), "move": lambda: move_step(checks, rig), "freed": lambda: freed_step(checks, rig)}[way]()
 
 
 def main():

@@ -9,7 +9,7 @@ import time
 from rig import BUSY, OPEN_TO_OTHERS, ROOT, SYSTEM, TOOL, USAGE, Checks, Rig
 from layout import TOP
 
-COMMANDS = "secret format info read write discard begin sweep finish report audit map export import compare".split()
+COMMANDS = "secret format info read write discard begin sweep finish report audit map export import move compare".split()
 
 
 def secrets(checks):
@@ -134,7 +134,11 @@ def undone(checks):
         top.write_text(f"{TOP}\n")
         format_it = ["format", made, "--secret", rig.present, "--counter", top, "--nuggets", 2, "--flakes", 4, "--size", 64]
         export_it = ["export", rig.image, *rig.keys(), "--xts-key", key, "--to", made]
-        for words, number in ((format_it, 13), (export_it, 10)):
+        last, spent = rig.folder / "last", rig.folder / "spent"
+        last.write_text(f"{TOP - 1}\n")
+        checks.same(rig.tool("format", spent, "--secret", rig.present, "--counter", last, *format_it[6:]).returncode, 0, "a drive at the counter's top")
+        move_it = ["move", spent, made, "--secret", rig.present, "--counter", last]
+        for words, number in ((format_it, 13), (export_it, 10), (move_it, 13)):
             checks.same((rig.tool(*words).returncode, made.exists()), (number, False), f"a refused {words[0]} makes nothing")
             for before in (b"", b"short", rig.source.randbytes(99999)):
                 made.write_bytes(before)
@@ -155,6 +159,53 @@ def undone(checks):
             key.chmod(mode)
             checks.same(rig.tool("import", rig.image, *rig.keys(), "--xts-key", key, "--from", made).returncode, status, f"a key of mode {mode:o}")
         checks.same(rig.tool("export", rig.image, *rig.keys(), "--xts-key", rig.present, "--to", rig.folder / "none").returncode, USAGE, "a key of 32 bytes")
+
+
+def moves(checks):
+    """Up and down again. A freed flake holds version 2 until its nugget is rekeyed."""
+    with Rig("moves") as rig:
+        rig.format(3, 2, 64)
+        first, up, down = rig.image, rig.folder / "up", rig.folder / "down"
+        contents = rig.source.randbytes(384)
+        rig.tool("write", first, *rig.keys(), data=contents)
+        before = first.read_bytes()
+        checks.same((rig.tool("move", first, first, *rig.keys(), "--force").returncode, first.read_bytes()), (BUSY, before), "a move into the drive itself")
+        first.write_bytes(before[:478] + bytes([before[478] ^ 1]) + before[479:])
+        ran = rig.tool("move", first, up, *rig.keys())
+        checks.that(ran.returncode == 7 and b"place=flake 0 0\n" in ran.stderr and not up.exists(), f"an altered flake, which no mount looks at: {ran.stderr}")
+        first.write_bytes(before)
+        up.write_bytes(b"x")
+        checks.same((rig.tool("move", first, up, *rig.keys()).returncode, up.read_bytes()), (USAGE, b"x"), "a move lays over nothing unasked")
+        checks.same((rig.tool("move", first, up, *rig.keys(), "--force").returncode, up.stat().st_size), (0, 886), "but if that is asked for")
+        checks.same((first.read_bytes(), rig.counter.read_text()), (before, "3\n"), "the image that was left, and the counter")
+        checks.same(rig.tool("read", first, *rig.keys(), "--ahead").returncode, 6, "it isn't ahead")
+        checks.same(rig.tool("discard", up, *rig.keys(), "--offset", 192, "--length", 64).returncode, 0, "the second has discard")
+        ran = rig.tool("move", up, down, *rig.keys())
+        checks.same((ran.returncode, down.exists(), rig.counter.read_text()), (16, False, "4\n"), "a freed flake holds it")
+        checks.that(b"the lowest such nugget is 1, bytes 128 to 255\n" in ran.stderr and b"Then move again." in ran.stderr, f"it tells which: {ran.stderr}")
+        rig.tool("write", up, *rig.keys(), "--offset", 192, data=bytes(64))
+        checks.same((rig.tool("move", up, down, *rig.keys()).returncode, down.stat().st_size), (0, 862), "down, once its nugget is rekeyed")
+        checks.same(rig.tool("read", down, *rig.keys()).stdout, contents[:192] + bytes(64) + contents[256:], "the contents")
+
+
+def unmoved(checks):
+    """Ended before its counter is kept, or without room for that: the first is the drive still, and the second is ahead."""
+    with Rig("unmoved") as rig:
+        env = {**cut_library(rig), "CUT": "before", "CUT_AT": "1"}
+        rig.format(3, 2, 64)
+        second = rig.folder / "second"
+        second.write_bytes(bytes(99999))
+        checks.same(rig.tool("move", rig.image, second, *rig.keys(), "--force", env=env).returncode, -signal.SIGKILL, "the move was ended")
+        checks.same(second.stat().st_size, 886, "the second is settled before the counter is kept")
+        for image, status in ((rig.image, 0), (second, 6)):
+            checks.same(rig.tool("report", image, *rig.keys()).returncode, status, f"a mount of {image.name}")
+        (rig.folder / "counter.new").unlink()
+        (rig.folder / "counter.new").mkdir()
+        ran = rig.tool("move", rig.image, second, *rig.keys(), "--force")
+        checks.that(ran.returncode == SYSTEM and b"the one that mounts is the drive" in ran.stderr and b"stale" not in ran.stderr, f"no counter is kept: {ran.stderr}")
+        (rig.folder / "counter.new").rmdir()
+        checks.same(rig.tool("report", second, *rig.keys(), "--ahead").returncode, 0, "ahead of the counter")
+        checks.same(rig.tool("report", rig.image, *rig.keys()).returncode, 6, "the first is stale then")
 
 
 def cut_library(rig):
@@ -231,7 +282,7 @@ def json_too(checks):
 
 def main():
     checks = Checks()
-    for part in (helps, secrets, shapes, versions, ciphers, undone, locks, json_too, ended, stopped):
+    for part in (helps, secrets, shapes, versions, ciphers, undone, moves, unmoved, locks, json_too, ended, stopped):
         part(checks)
     checks.close()
 

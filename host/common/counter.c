@@ -56,7 +56,7 @@ static enum why write_beside(const char *beside, uint64_t value) {
     return why;
 }
 
-static enum why sync_folder(const char *path) {
+enum why folder_sync(const char *path) {
     char copy[PATH_MAX];
     snprintf(copy, sizeof copy, "%s", path);
     int fd = open(dirname(copy), O_RDONLY | O_DIRECTORY | O_CLOEXEC);
@@ -76,5 +76,5 @@ enum why counter_keep(const char *path, uint64_t value) {
     enum why why = write_beside(beside, value);
     if (why == DONE && rename(beside, path))
         why = failed(path);
-    return why == DONE ? sync_folder(path) : why;
+    return why == DONE ? folder_sync(path) : why;
 }

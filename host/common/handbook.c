@@ -3,7 +3,7 @@
 
 static const char *const SENTENCES[] = {
     [1] = "N, P, F, state or epoch is out of limits. A format: N 1 to 16,384, P 1 to 64, F 64 to 4,096 in steps of 64, version 1 or 2.",
-    [2] = "The volume isn't as long as its shape says. A summary, an export or an import: look at its buffer, and at N P F. "
+    [2] = "The volume isn't as long as its shape says. A summary, an export, an import or a move: look at its buffer, and at N P F. "
           "Else the image was cut, padded, or belongs to another drive. Take it again from the drive, whole.",
     [3] = "The mark differs, or the version is neither 1 nor 2. This is no volume of this layer, or one of a later version. Ask what wrote it.",
     [4] = "The seal differs: the present secret isn't the volume's, or head or node 1 was changed. "
@@ -21,6 +21,9 @@ static const char *const SENTENCES[] = {
     [13] = "The counter is at its top. After 2^64 - 1 changes the drive can be read but not changed any more. Copy its contents to a freshly formatted drive.",
     [15] = "The epoch is at its top: the secret was changed 65,534 times. The drive can still be read and written. "
            "For another change of the secret copy its contents to a freshly formatted drive.",
+    [16] = "Moving down, and some nugget has a spent flake that isn't held: a discard freed it, and its nugget hasn't been rekeyed since. "
+           "Write to a freed place of that nugget, or, while a change runs, sweep it: either rekeys the nugget, and no such flake is left in it. "
+           "Then move again.",
 };
 
 const char *handbook(uint32_t number) {

@@ -28,6 +28,7 @@ enum why random_bytes(uint8_t *bytes, size_t length);
 /* The counter's file: the number in decimal and a newline. One that isn't there counts as 0 for a format. */
 enum why counter_read(const char *path, bool may_lack, uint64_t *value);
 enum why counter_keep(const char *path, uint64_t value);
+enum why folder_sync(const char *path); /* a name that is new has to last too */
 
 struct volume {
     const char *path;

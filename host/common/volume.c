@@ -140,7 +140,9 @@ enum why volume_create(struct volume *v, const char *path, uint64_t length, bool
 }
 
 enum why volume_settle(const struct volume *v) {
-    return v->is_file && ftruncate(v->fd, v->length) ? failed(v->path) : DONE;
+    if (v->is_file && ftruncate(v->fd, v->length))
+        return failed(v->path);
+    return v->made ? folder_sync(v->path) : DONE;
 }
 
 void volume_undo(struct volume *v) {

@@ -1,5 +1,6 @@
-/* export, import and compare: a drive beside another file. */
+/* export, import, move and compare: a drive beside another file. */
 #include "tool.h"
+#include <inttypes.h>
 #include <sys/stat.h>
 
 static uint64_t capacity(void) {
@@ -10,7 +11,8 @@ static int kept(struct volume *out) {
     enum why why = volume_settle(out);
     if (why == DONE)
         why = volume_sync(out);
-    volume_close(out);
+    if (why != DONE)
+        volume_undo(out);
     return why;
 }
 
@@ -26,7 +28,9 @@ int run_export(const struct ask *ask) {
         volume_undo(&out);
         return tool_refused(ask);
     }
-    return kept(&out);
+    why = kept(&out);
+    volume_close(&out);
+    return why;
 }
 
 int run_import(const struct ask *ask) {
@@ -40,6 +44,45 @@ int run_import(const struct ask *ask) {
     uint32_t number = ngt_import(drive.safe->drive, drive.volume.bytes, drive.volume.length, key, key + 32, in.bytes, in.length, drive.answer);
     volume_close(&in);
     return number ? tool_refused(ask) : (int)drive_keep(&drive);
+}
+
+/* 16's line tells no nugget, and its sentence speaks of one. */
+static int move_refused(const struct ask *ask) {
+    int number = tool_refused(ask);
+    uint64_t nugget = little(drive.answer + 8, 4), size = (uint64_t)drive_p(&drive) * drive_f(&drive);
+    if (number == 16)
+        host_says("the lowest such nugget is %" PRIu64 ", bytes %" PRIu64 " to %" PRIu64, nugget, nugget * size, (nugget + 1) * size - 1);
+    return number;
+}
+
+/* Both stay locked until the counter is kept: before it the first is the drive, behind it the second. */
+static int entered(const struct ask *ask, struct volume *second) {
+    int why = kept(second);
+    if (why != DONE)
+        return why;
+    why = counter_keep(drive.counter_file, drive_counter(&drive));
+    if (why == DONE)
+        host_says("%s is stale now: %s is the drive", ask->image, ask->second);
+    else
+        host_says("of %s and %s the one that mounts is the drive: take the other one away before anything is written", ask->image, ask->second);
+    volume_close(second);
+    return why;
+}
+
+int run_move(const struct ask *ask) {
+    struct volume second;
+    int why = tool_mount(ask, false);
+    if (why != DONE)
+        return why;
+    bool up = drive_version(&drive) == 1;
+    why = volume_create(&second, ask->second, ngt_length(drive_n(&drive), drive_p(&drive), drive_f(&drive), up ? 2 : 1), ask->force);
+    if (why != DONE)
+        return why;
+    if ((up ? ngt_move_up : ngt_move_down)(drive.safe->drive, drive.volume.bytes, drive.volume.length, second.bytes, second.length, drive.answer)) {
+        volume_undo(&second);
+        return move_refused(ask);
+    }
+    return entered(ask, &second);
 }
 
 /* A copy is locked like a drive; the first under another name is the first. */

@@ -40,6 +40,8 @@ static const struct {
      "As long as the capacity, sectors of 512 bytes. The drive isn't changed."},
     {"import", run_import, "IMAGE", MOUNTS | XTS_KEY | FROM, SECRET | COUNTER | XTS_KEY | FROM, "what dm-crypt wrote as the whole contents",
      "It has to be as long as the capacity. It is one write."},
+    {"move", run_move, "IMAGE SECOND", MOUNTS | FORCE, SECRET | COUNTER, "carry the drive to the other version, into a second image",
+     "Version 1 goes up to 2, version 2 down to 1. SECOND is made; IMAGE is only read,\nand stale when it is done: SECOND is the drive then."},
     {"compare", run_compare, "FIRST SECOND", MOUNTS, SECRET | COUNTER, "hold two copies of a drive against each other",
      "FIRST is mounted. same: records and tags of every nugget agree. collision,\nstatus 65: both pass and differ, and BLAKE2s is broken."},
 };

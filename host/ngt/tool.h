@@ -33,6 +33,7 @@ int run_audit(const struct ask *ask);
 int run_map(const struct ask *ask);
 int run_export(const struct ask *ask);
 int run_import(const struct ask *ask);
+int run_move(const struct ask *ask);
 int run_compare(const struct ask *ask);
 int run_secret(const struct ask *ask);
 
