@@ -46,9 +46,21 @@ def lived(source):
     return source.choice((drive, drive, drive, before)), volume
 
 
+def spent(source):
+    """Changing, every nugget moved, the counter at its top."""
+    n, p, f = source.choice(SHAPES)
+    version, cipher = source.choice((1, 2)), source.choice((0, 16))
+    length = layout(n, p, f, version).length
+    result = calls.format(bytes(length), n, p, f, SALT, source.randbytes(32), garbage.TOP - n - 2, version, cipher)
+    result = calls.begin(result.drive, result.volume, source.randbytes(32))
+    for nugget in range(n):
+        result = calls.sweep(result.drive, result.volume, nugget)
+    return result.drive, result.volume
+
+
 def specimens():
-    for make in (garbage.wild, garbage.sealed, lived, lived):
-        for i in range(EACH):
+    for make, count in ((garbage.wild, EACH), (garbage.sealed, EACH), (lived, 2 * EACH), (spent, 10)):
+        for i in range(count):
             source = random.Random(f"{SEED} {make.__name__} {i}")
             drive, volume = make(source)
             yield len(volume).to_bytes(4, "little") + drive.image() + volume
