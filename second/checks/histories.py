@@ -2,12 +2,14 @@
 
 Clean ones begin with an accepted format, or with a volume sealed near the tops of its numbers;
 demands 2 and 3 are held against them after every call, and damaged copies, wrong secrets and
-stale images are tried beside them. Hostile ones go on from the damage itself.
+stale images are tried beside them; where each ends it is moved to the other version, back, and there
+again. Hostile ones go on from the damage itself.
 """
 
 import random
 
 import calls
+import moving
 from layout import layout
 
 from checks.choose import TOP, a_range, secret, shape
@@ -115,6 +117,25 @@ def step(chance, history):
         damage(chance, history)
 
 
+def but_counter_and_seal(volume):
+    return volume[:32] + volume[40:72] + volume[104:]
+
+
+def moves(tally, chance, words, drive, volume):
+    """From where a history ends: to the other version, back, and there again."""
+    first = volume
+    for turn in range(3):
+        down = drive.version == 2
+        room = chance.randbytes(layout(drive.n, drive.p, drive.f, 1 if down else 2).length)
+        got = (moving.down if down else moving.up)(drive, volume, room)
+        if got.answer.number:
+            tally.same(f"{words}: a move is refused", got.answer.number in ((13, 16) if down and turn == 0 else (13,)), True)
+            return
+        drive, volume = got.drive, got.buffer
+        if turn == 1:
+            tally.same(f"{words}: there and back", but_counter_and_seal(volume), but_counter_and_seal(first))
+
+
 def clean(tally, chance, words, begins):
     """The numbers that its calls were answered, and what its discards met."""
     history = begins(tally, chance, words)
@@ -124,6 +145,7 @@ def clean(tally, chance, words, begins):
     history.read(0, history.model.size())
     history.report()
     history.stale_all()
+    moves(tally, chance, words, history.drive, history.volume)
     return history.met | history.model.freeing
 
 
