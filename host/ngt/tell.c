@@ -59,11 +59,15 @@ static const char *old_secret(void) {
     return drive_changing(&drive) ? "needed" : "free";
 }
 
+/* The mount, and the sheet's line of what is mounted. */
+static int mounted_line(const struct ask *ask, char line[193]) {
+    int why = tool_mount(ask, false);
+    return why == DONE ? refused_or(ask, sheet_told(line)) : why;
+}
+
 int run_report(const struct ask *ask) {
     char line[193];
-    int why = tool_mount(ask, false);
-    if (why == DONE)
-        why = refused_or(ask, sheet_told(line));
+    int why = mounted_line(ask, line);
     if (why != DONE)
         return why;
     if (ask->json) {
@@ -138,9 +142,7 @@ int run_audit(const struct ask *ask) {
 
 int run_map(const struct ask *ask) {
     char line[193];
-    int why = tool_mount(ask, false);
-    if (why == DONE)
-        why = refused_or(ask, sheet_told(line));
+    int why = mounted_line(ask, line);
     if (why != DONE)
         return why;
     if (ask->svg)
