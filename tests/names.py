@@ -11,7 +11,7 @@ import sys
 PAGES = ("README.md", "docs/PROMISES.md", "docs/ARCHITECTURE.md", "docs/DESIGNS.md", "docs/HANDBOOK.md")
 CRATES = {path.name: path for path in pathlib.Path("crates").iterdir()}
 # What isn't ours: the language, the toolchain and other programs.
-OTHERS = {"rt", "python3", "ensures", "requires", "match", "cryptography"}
+OTHERS = {"rt", "python3", "ldconfig", "ensures", "requires", "match", "cryptography"}
 COMMANDS = ("cc ", "gcc ", "cryptsetup ", "nbd-client ")
 STATED = re.compile(r"^ *(?:pub |abbrev |unfoldable )*(?:([^\s:(){}]+) :(?= |$)|(?:record|data|mod|module) ([^\s:(){}]+))", re.M)
 WRITTEN = re.compile(r"\b(?:fn|struct|enum|const|mod) (\w+)|^    (?:pub )?([A-Za-z]\w*)(?:\(.*\)|: .*| \{.*)?,$", re.M)
