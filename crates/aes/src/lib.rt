@@ -1,5 +1,7 @@
 // AES-256 of FIPS 197: the key expansion and the cipher. A block under way is its four columns, each one word with its first byte lowest.
 // It touches `words`, and of `base` and `field` the definitions alone.
+#![tactic(auto)]
+
 mod tables;
 
 ghost use Rattle.std.specs.Prelude.{◌≡◌, ◌++◌, ◌<◌, ◌≤◌, replicate};
@@ -10,7 +12,7 @@ ghost use Rattle.aes.specs.Aes.{sub_bytes, shift_rows, mix_columns, sub_word, te
 ghost use Rattle.aes.specs.Code.{state_bytes, state_columns, sum_of, key_columns, looked_up, rows_by};
 ghost use Rattle.aes.specs.Tables.{round_table};
 
-#[derive(Drop)]
+#[derive(Clone, Copy)]
 pub struct Columns {
     pub a: u32,
     pub b: u32,

@@ -3,15 +3,16 @@ use mathlib.Core.Path.{refl}
 use Rattle.base.specs.Outcome.{OneOutcome}
 use Rattle.base.proofs.OutcomeLaws.{agree}
 use Rattle.aes_back.proofs as fn
+use Rattle.aes_back.specs.contracts as said
 
-pub table : OneOutcome fn.table.ended fn.table.Reads.Post
+pub table : OneOutcome said.table.ended fn.table.Reads.Post
 table κs a x y u v p q = (agree p q, refl)
 
-pub inv_sbox : OneOutcome fn.inv_sbox.ended fn.inv_sbox.Reads.Post
+pub inv_sbox : OneOutcome said.inv_sbox.ended fn.inv_sbox.Reads.Post
 inv_sbox κs a x y u v p q = (agree p q, refl)
 
-pub decrypt : OneOutcome fn.decrypt.ended fn.decrypt.Reads.Post
+pub decrypt : OneOutcome said.decrypt.ended fn.decrypt.Reads.Post
 decrypt κs a x y u v p q = (agree p q, refl)
 
-pub expand : OneOutcome fn.expand.ended fn.expand.Reads.Post
+pub expand : OneOutcome said.expand.ended fn.expand.Reads.Post
 expand κs a x y u v p q = (agree p q, refl)

@@ -1,5 +1,7 @@
 // The inverse of AES-256, FIPS 197: the equivalent inverse cipher of 5.3.5.
 // It touches `aes` and `words`, and of `base` and `field` the definitions alone.
+#![tactic(auto)]
+
 mod tables;
 
 ghost use Rattle.std.specs.Prelude.{◌≡◌, ◌<◌};

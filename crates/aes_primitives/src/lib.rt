@@ -1,5 +1,7 @@
 // The C interface of AES-256, both ways and in counter mode, for hosts in C, benchmarks and comparisons.
 // It touches `aes`, `aes_back` and `ctr`, and of `base`, `words`, `streams` and `field` the definitions alone.
+#![tactic(auto)]
+
 ghost use Rattle.std.specs.Prelude.{◌≡◌};
 ghost use Rattle.aes.specs.Aes.{aes256};
 ghost use Rattle.aes_back.specs.InvAes.{inv_aes256};

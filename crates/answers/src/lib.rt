@@ -1,11 +1,13 @@
 // The answers of the calls: acceptance and document 01's numbers, with places and classes.
 // It touches `base` alone.
+#![tactic(auto)]
+
 ghost use Rattle.std.specs.Prelude.{◌≡◌};
 ghost use Rattle.answers.specs.Numbers.{number_of, carried_of, accepts};
 ghost use Rattle.answers.specs.Classes.{class_of};
 
 // "altered, with its place: head, record n, node i, or flake n, f"
-#[derive(Drop)]
+#[derive(Clone, Copy)]
 pub enum Place {
     Head,
     Record(u32),
@@ -15,7 +17,7 @@ pub enum Place {
 
 // A case for acceptance and one for each number that is given, in their order. Document 02, Item 7: "14 goes and stays unassigned."
 // Item 6: "then 16 (class request) when moving down and some nugget has a spent flake that isn't held (lowest reported)".
-#[derive(Drop)]
+#[derive(Clone, Copy)]
 pub enum Answer {
     Accepted,
     Limits,
@@ -36,7 +38,7 @@ pub enum Answer {
 }
 
 // What an answer carries: 7 its place, 11 how many are left, 16 its nugget, the others nothing.
-#[derive(Drop)]
+#[derive(Clone, Copy)]
 pub enum Carried {
     Nothing,
     At(Place),
@@ -46,7 +48,7 @@ pub enum Carried {
 
 // "Classes: answers 1 to 3 form, 4 to 6 key, 7 altered, 8 to 12 request, 13 to 15 spent." 14 is the number of no refusal, and 16 is of
 // class request (document 02, Items 7 and 6).
-#[derive(Drop)]
+#[derive(Clone, Copy)]
 pub enum Class {
     Nothing,
     Form,

@@ -1,6 +1,8 @@
 // The auditor's page: standard input, as the sheet takes it, to the page on standard output.
 // It touches `pages`, which makes the page, and the toolchain's `io` to read and write.
 
+#![tactic(auto)]
+
 // The buffer is as long as `audit_page` asks by its type.
 fn main() {
     let mut input = [0u8; 61513];

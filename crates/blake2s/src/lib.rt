@@ -1,5 +1,7 @@
 // BLAKE2s of RFC 7693 with 32 bytes out, over a message given in pieces, without a key or with one of 32 bytes.
 // It touches `base` and `words`.
+#![tactic(auto)]
+
 mod rounds;
 
 ghost use Rattle.std.specs.Prelude.{◌≡◌, ◌≤◌, min, length};
@@ -9,7 +11,7 @@ ghost use Rattle.blake2s.specs.Stream.{started, started_keyed, absorbed, finishe
 
 // A hash under way: the chain value, the block that waits, how many of its bytes count (64 or more: all), and the
 // number of bytes compressed so far.
-#[derive(Drop)]
+#[derive(Clone, Copy)]
 pub struct State {
     pub chain: [u32; 8],
     pub buffer: [u8; 64],

@@ -8,7 +8,7 @@ ghost use Rattle.chacha20.specs.ChaCha20.{double_round, twenty_rounds};
 ghost use Rattle.chacha20.specs.Lanes.{lane, LanesPut, Each, repeated, counters, Spread, wide_added, lane_blocks, blocks_from};
 
 // Two states.
-#[derive(Drop)]
+#[derive(Clone, Copy)]
 struct Two {
     s: [u32; 16],
     t: [u32; 16],

@@ -1,5 +1,7 @@
 // The stream cipher ChaCha20: RFC 8439, sections 2.1 to 2.4.
 // It touches `words`, and of `base` and `streams` the definitions and laws alone.
+#![tactic(auto)]
+
 mod lanes;
 
 ghost use Rattle.std.specs.Prelude.{◌≡◌, ◌+◌, ◌-◌, ◌*◌, ◌<◌, ◌≤◌, min, length};
@@ -8,7 +10,7 @@ ghost use Rattle.chacha20.specs.ChaCha20.{quarter, from_diagonals, double_round,
 ghost use Rattle.words.specs.Le.{words_of, serialised};
 
 // Four words of a state.
-#[derive(Drop)]
+#[derive(Clone, Copy)]
 pub struct Quad {
     pub a: u32,
     pub b: u32,

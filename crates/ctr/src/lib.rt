@@ -1,5 +1,7 @@
 // AES-256 in counter mode, laid over a slice where it stands: NIST SP 800-38A, 6.5.
 // It touches `words` and `aes`, and of `base`, `streams` and `field` the definitions alone.
+#![tactic(auto)]
+
 ghost use Rattle.std.specs.Prelude.{◌≡◌, ◌-◌, ◌<◌, min};
 ghost use Rattle.words.specs.Le.{le};
 ghost use Rattle.aes.specs.Tables.{round_table};

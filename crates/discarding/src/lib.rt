@@ -1,5 +1,7 @@
 // Discard: held bits of a flake range cleared, tested whole before the first store.
 // It touches `laying` for what a change stores, and `nuggets`, `records`, `layout`, `drive` and `answers`.
+#![tactic(auto)]
+
 ghost use Rattle.std.specs.Prelude.{◌≡◌, ◌+◌, ◌<◌, ◌≤◌};
 ghost use Rattle.layout.specs.Shaped.{Shaped};
 ghost use Rattle.drive.specs.Drive.{shape_of};
@@ -11,7 +13,7 @@ use drive::{Done, Drive};
 use records::Way;
 
 // "a flake range of one nugget": the flakes from the first on, as many as the count.
-#[derive(Drop)]
+#[derive(Clone, Copy)]
 pub struct Freed {
     pub nugget: u32,
     pub first: u32,

@@ -3,45 +3,46 @@ use mathlib.Core.Path.{refl}
 use Rattle.base.specs.Outcome.{OneOutcome}
 use Rattle.base.proofs.OutcomeLaws.{agree}
 use Rattle.drive.proofs as fn
+use Rattle.drive.specs.contracts as said
 
-pub blank : OneOutcome fn.blank.ended fn.blank.Reads.Post
+pub blank : OneOutcome said.blank.ended fn.blank.Reads.Post
 blank κs a x y u v p q = (agree p q, refl)
 
-pub shape_of : OneOutcome fn.shape_of.ended fn.shape_of.Reads.Post
+pub shape_of : OneOutcome said.shape_of.ended fn.shape_of.Reads.Post
 shape_of κs a x y u v p q = (agree p q, refl)
 
-pub is_changing : OneOutcome fn.is_changing.ended fn.is_changing.Reads.Post
+pub is_changing : OneOutcome said.is_changing.ended fn.is_changing.Reads.Post
 is_changing κs a x y u v p q = (agree p q, refl)
 
-pub gauge_of : OneOutcome fn.gauge_of.ended fn.gauge_of.Reads.Post
+pub gauge_of : OneOutcome said.gauge_of.ended fn.gauge_of.Reads.Post
 gauge_of κs a x y u v p q = (agree p q, refl)
 
-pub headed : OneOutcome fn.headed.ended fn.headed.Reads.Post
+pub headed : OneOutcome said.headed.ended fn.headed.Reads.Post
 headed κs a x y u v p q = (agree p q, refl)
 
-pub kept_old : OneOutcome fn.kept_old.ended fn.kept_old.Reads.Post
+pub kept_old : OneOutcome said.kept_old.ended fn.kept_old.Reads.Post
 kept_old κs a x y u v p q = (agree p q, refl)
 
-pub state_byte : OneOutcome fn.state_byte.ended fn.state_byte.Reads.Post
+pub state_byte : OneOutcome said.state_byte.ended fn.state_byte.Reads.Post
 state_byte κs a x y u v p q = (agree p q, refl)
 
-pub check_in : OneOutcome fn.check_in.ended fn.check_in.Reads.Post
+pub check_in : OneOutcome said.check_in.ended fn.check_in.Reads.Post
 check_in κs a x y u v p q = (agree p q, refl)
 
-pub front : OneOutcome fn.front.ended fn.front.Reads.Post
+pub front : OneOutcome said.front.ended fn.front.Reads.Post
 front κs a x y u v p q = (agree p q, refl)
 
-pub head : OneOutcome fn.head.ended fn.head.Reads.Post
+pub head : OneOutcome said.head.ended fn.head.Reads.Post
 head κs a x y u v p q = (agree p q, refl)
 
-pub state_fits : OneOutcome fn.state_fits.ended fn.state_fits.Reads.Post
+pub state_fits : OneOutcome said.state_fits.ended fn.state_fits.Reads.Post
 state_fits κs a x y u v p q = (agree p q, refl)
 
-pub in_form : OneOutcome fn.in_form.ended fn.in_form.Reads.Post
+pub in_form : OneOutcome said.in_form.ended fn.in_form.Reads.Post
 in_form κs a x y u v p q = (agree p q, refl)
 
-pub measure : OneOutcome fn.measure.ended fn.measure.Reads.Post
+pub measure : OneOutcome said.measure.ended fn.measure.Reads.Post
 measure κs a x y u v p q = (agree p q, refl)
 
-pub opening : OneOutcome fn.opening.ended fn.opening.Reads.Post
+pub opening : OneOutcome said.opening.ended fn.opening.Reads.Post
 opening κs a x y u v p q = (agree p q, refl)

@@ -1,5 +1,7 @@
 // The open drive, the 104 bytes of head that it makes, and the tests that every call on it starts with.
 // It touches `keys` for check and seal, `records` for the gauge, and `layout`, `answers` and `words`.
+#![tactic(auto)]
+
 ghost use Rattle.std.specs.Prelude.{◌≡◌, true, length};
 ghost use Rattle.layout.specs.Shape.{in_limits};
 ghost use Rattle.layout.specs.Parts.{length_of};
@@ -12,14 +14,14 @@ use layout::Shape;
 use records::Gauge;
 
 // "State is either steady or changing, and changing carries the epoch being left."
-#[derive(Drop)]
+#[derive(Clone, Copy)]
 pub enum State {
     Steady,
     Changing(u16),
 }
 
 // "The open drive is one record": N, P, F, version, cipher, salt, state, epoch, counter, node 1, present secret and old secret.
-#[derive(Drop)]
+#[derive(Clone, Copy)]
 pub struct Drive {
     pub n: u32,
     pub p: u32,
@@ -36,7 +38,7 @@ pub struct Drive {
 }
 
 // What a call that may change the drive hands back.
-#[derive(Drop)]
+#[derive(Clone, Copy)]
 pub struct Done {
     pub answer: Answer,
     pub drive: Drive,

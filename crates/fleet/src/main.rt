@@ -1,6 +1,8 @@
 // The fleet's sheet: drives' lines on standard input to one line of standard output.
 // It touches `fleets`, which makes the line, and the toolchain's `io` to read and write.
 
+#![tactic(auto)]
+
 // The buffer is as long as `fleet_read` asks by its type.
 fn main() {
     let mut input = [0u8; 32769];

@@ -1,5 +1,7 @@
 // The fleet's line for any input: what the program prints, as a function on slices.
 // It touches `standings` to read each drive's line, `totals` to join the drives, and `line` to put the fleet's line.
+#![tactic(auto)]
+
 ghost use Rattle.std.specs.Prelude.{◌≡◌, ◌≤◌, length, take};
 ghost use Rattle.line.specs.Lines.{Put};
 ghost use Rattle.totals.specs.Fleet.{Summed};
@@ -9,7 +11,7 @@ use standings::Found;
 use totals::Fleet;
 
 // All lines taken, or the number of the first that isn't.
-#[derive(Drop)]
+#[derive(Clone, Copy)]
 pub enum Gathered {
     Whole(Fleet),
     Open(u32),

@@ -1,6 +1,8 @@
 // Document 02, Item 12: "Write the contents into a second buffer as XTS-AES": the tests before the paths, and export.
 // It touches `reading` for the contents, `sectors` for the cipher, and `drive`, `layout`, `answers` and `words` for the tests; of
 // `changes`, `records` and `nuggets` the definitions alone.
+#![tactic(auto)]
+
 ghost use Rattle.std.specs.Prelude.{◌≡◌, length};
 ghost use Rattle.handing.specs.Handing.{in_sectors, keys_answer, hand_answer, export_answer, export_buffer};
 

@@ -3,12 +3,13 @@ use mathlib.Core.Path.{refl}
 use Rattle.base.specs.Outcome.{OneOutcome}
 use Rattle.base.proofs.OutcomeLaws.{agree}
 use Rattle.images.proofs as fn
+use Rattle.images.specs.contracts as said
 
-pub six : OneOutcome fn.six.ended fn.six.Reads.Post
+pub six : OneOutcome said.six.ended fn.six.Reads.Post
 six κs a x y u v p q = (agree p q, refl)
 
-pub answer_image : OneOutcome fn.answer_image.ended fn.answer_image.Reads.Post
+pub answer_image : OneOutcome said.answer_image.ended fn.answer_image.Reads.Post
 answer_image κs a x y u v p q = (agree p q, refl)
 
-pub answer_in : OneOutcome fn.answer_in.ended fn.answer_in.Reads.Post
+pub answer_in : OneOutcome said.answer_in.ended fn.answer_in.Reads.Post
 answer_in κs a x y u v p q = (agree p q, refl)

@@ -1,5 +1,7 @@
 // Answers as bytes, for the C interface.
 // It touches `answers` and `words`.
+#![tactic(auto)]
+
 ghost use Rattle.std.specs.Prelude.{◌≡◌, ◌++◌, ◌≤◌, length};
 ghost use Rattle.words.specs.Le.{le};
 ghost use Rattle.images.specs.Answers.{kind_of, first_of, second_of, answer_image};

@@ -3,6 +3,7 @@ use mathlib.Core.Path.{refl}
 use Rattle.base.specs.Outcome.{OneOutcome}
 use Rattle.base.proofs.OutcomeLaws.{agree, ◌∥◌}
 use Rattle.importing.proofs as fn
+use Rattle.importing.specs.contracts as said
 
-pub import : OneOutcome fn.import.ended fn.import.Reads.Post
+pub import : OneOutcome said.import.ended fn.import.Reads.Post
 import κs a x y u v p q = (agree p.0 q.0, refl ∥ agree p.1 q.1 ∥ refl)

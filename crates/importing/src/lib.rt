@@ -2,6 +2,8 @@
 // in scratch, nine of them at most, 4,608 bytes on the stack; so no second copy of the contents comes about.
 // It touches `handing` for the tests before the paths, `writing` and `laying` for tests and stores of a write, `sectors` for the cipher,
 // and `nuggets`, `records`, `drive`, `layout`, `answers` and `words`; of `keys` and `changes` the definitions alone.
+#![tactic(auto)]
+
 ghost use Rattle.std.specs.Prelude.{◌≡◌, ◌+◌, ◌*◌, ◌/◌, ◌%◌, ◌<◌, ◌≤◌, ◌^◌, length};
 ghost use Rattle.base.specs.Lists.{part};
 ghost use Rattle.layout.specs.Shaped.{Shaped};

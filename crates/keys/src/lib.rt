@@ -1,6 +1,8 @@
 // Document 01's keys, pads and tags: which message is hashed for which key, and what is laid over a flake.
 // It touches `words`, `chacha20`, `ctr`, `poly1305` and `blake2s`, and of `base`, `messages` and `aes` the definitions and laws alone; no
 // flake is copied, and no secret is kept.
+#![tactic(auto)]
+
 ghost use Rattle.std.specs.Prelude.{◌≡◌, ◌∷◌, ◌++◌, ◌+◌, ◌/◌, ◌%◌, ◌^◌, ◌<◌, ◌≤◌, length, drop, replicate};
 ghost use Rattle.words.specs.Le.{le};
 ghost use Rattle.words.specs.Xor.{xorl};
@@ -13,7 +15,7 @@ ghost use Rattle.keys.specs.Pads.{unit_of, first_block, stream_from, pad_of, pad
 ghost use Rattle.keys.specs.Tags.{pad16, laid_out, named, tag_of};
 
 // Under what a nugget's flakes lie: the nugget, its key, its keycount, and the volume's version and cipher. Pads and tags are functions of it.
-#[derive(Drop)]
+#[derive(Clone, Copy)]
 pub struct Lock {
     pub number: u32,
     pub key: [u8; 32],

@@ -1,5 +1,7 @@
 // What a change stores, piece by piece: a nugget's flakes and tags, its record, its leaf and path, and the head.
 // It touches `relaying` for each flake, `nuggets`, `keys`, `tree`, `nodes`, `records`, `drive`, `layout` and `words`; no flake is copied out of the volume.
+#![tactic(auto)]
+
 mod flake;
 
 ghost use Rattle.std.specs.Prelude.{◌≡◌, ◌+◌, ◌<◌, ◌≤◌, length};

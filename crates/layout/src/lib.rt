@@ -1,5 +1,7 @@
 // The shape of a volume, its limits, L, and where each part, record, tag, node and flake begins.
 // It touches `base` alone.
+#![tactic(auto)]
+
 ghost use Rattle.std.specs.Prelude.{◌≡◌, ◌+◌, ◌*◌, ◌<◌, ◌^◌};
 ghost use Rattle.base.specs.Pick.{pick};
 ghost use Rattle.layout.specs.Shape.{sized, known_version, known_cipher, known, in_limits, width_of, height_of, leaves, within};
@@ -7,7 +9,7 @@ ghost use Rattle.layout.specs.Parts.{tags_at, tree_at, flakes_at, length_of, rec
 ghost use Rattle.layout.specs.Spots.{spot_at, nowhere, offset_at, capacity};
 
 // "Nuggets N", "Flakes per nugget P", "Flake size F", and under which version and cipher the volume is laid out.
-#[derive(Drop)]
+#[derive(Clone, Copy)]
 pub struct Shape {
     pub n: u32,
     pub p: u32,
@@ -17,7 +19,7 @@ pub struct Shape {
 }
 
 // Where an offset lies: "nugget 1, flake 1, byte 8".
-#[derive(Drop)]
+#[derive(Clone, Copy)]
 pub struct Spot {
     pub nugget: usize,
     pub flake: usize,

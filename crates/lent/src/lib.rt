@@ -1,5 +1,7 @@
 // The calls on a drive that is lent: "The open drive is one record that the calls change where it stands".
 // It touches `opening`, `reading`, `reports`, `writing`, `rekeying`, `discarding`, `moving` and `queues`, whose by-value calls the functions here wrap, and `drive`, `layout` and `answers`.
+#![tactic(auto)]
+
 ghost use Rattle.std.specs.Prelude.{◌≡◌, length};
 ghost use Rattle.opening.specs.Format.{format_done, format_volume};
 ghost use Rattle.opening.specs.Mount.{mount_done};

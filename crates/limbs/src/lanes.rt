@@ -10,7 +10,7 @@ ghost use Rattle.limbs.specs.Lanes.{lane_of, weighed, LanePut, Level, LanesFit, 
 
 use crate::Limbs;
 
-#[derive(Drop)]
+#[derive(Clone, Copy)]
 struct Block {
     lo: u64,
     hi: u64,

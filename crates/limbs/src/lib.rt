@@ -1,5 +1,7 @@
 // Numbers modulo 2^130 - 5 in five limbs of 26 bits, and the turns of RFC 8439 2.5.1 over 16-byte blocks.
 // It touches `base` and `words`.
+#![tactic(auto)]
+
 mod lanes;
 
 ghost use Rattle.std.specs.Prelude.{◌≡◌, ◌+◌, ◌*◌, ◌%◌, ◌^◌, ◌<◌, ◌≤◌, length};
@@ -9,7 +11,7 @@ ghost use Rattle.limbs.specs.Limbs.{at, value, limbs_of, quad, p};
 ghost use Rattle.limbs.specs.Bounds.{Below, Reduced, Cuts, Ripples, Stands, Holds, Sums, Fives, Ran, Worded, steps_by};
 ghost use Rattle.limbs.specs.Turns.{turns};
 
-#[derive(Drop)]
+#[derive(Clone, Copy)]
 pub struct Limbs {
     pub l0: u32,
     pub l1: u32,
@@ -18,19 +20,19 @@ pub struct Limbs {
     pub l4: u32,
 }
 
-#[derive(Drop)]
+#[derive(Clone, Copy)]
 struct Cut {
     low: u32,
     high: u64,
 }
 
-#[derive(Drop)]
+#[derive(Clone, Copy)]
 struct Rippled {
     low: Limbs,
     top: u64,
 }
 
-#[derive(Drop)]
+#[derive(Clone, Copy)]
 struct Words {
     a: u32,
     b: u32,

@@ -1,5 +1,7 @@
 // The bytes of the sheet's line, for every report and every answer, and what other lines are put together from.
 // It touches `answers` and `words`.
+#![tactic(auto)]
+
 ghost use Rattle.std.specs.Prelude.{◌≡◌, ◌++◌, ◌+◌, ◌≤◌, length};
 ghost use Rattle.std.proofs.lemmas.List.Edits.{sets};
 ghost use Rattle.line.specs.Decimal.{digits, width_in, decimal, long_decimal};

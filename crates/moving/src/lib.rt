@@ -1,5 +1,7 @@
 // Moving a volume between versions: all of it tested, then carried over into a second lent buffer. The given volume is only read.
 // It touches `laying` for the last stores, `tree`, `nuggets`, `keys`, `records`, `drive`, `layout`, `answers` and `words`.
+#![tactic(auto)]
+
 mod carry;
 
 ghost use Rattle.std.specs.Prelude.{◌≡◌, true, ◌<◌, length};

@@ -1,5 +1,7 @@
 // The C interface of the drive: each call with its drive and its answer as bytes.
 // It touches the calls' crates, `packed` and `images` for the bytes, and `fleets` for the fleet's line.
+#![tactic(auto)]
+
 mod changing;
 mod lines;
 mod moves;

@@ -1,5 +1,7 @@
 // The nodes of the tree in a lent volume: what each has to be, whether it is so, and a node stored anew.
 // It touches `base`, `words`, `messages`, `layout` and `blake2s`.
+#![tactic(auto)]
+
 ghost use Rattle.std.specs.Prelude.{◌≡◌, ◌+◌, ◌*◌, ◌<◌, ◌≤◌};
 ghost use Rattle.layout.specs.Shape.{leaves};
 ghost use Rattle.nodes.specs.Nodes.{node_in, leaf_of, inner_of};

@@ -3,36 +3,37 @@ use mathlib.Core.Path.{refl}
 use Rattle.base.specs.Outcome.{OneOutcome}
 use Rattle.base.proofs.OutcomeLaws.{agree, ◌∥◌}
 use Rattle.nuggets.proofs as fn
+use Rattle.nuggets.specs.contracts as said
 
-pub secret_for : OneOutcome fn.secret_for.ended fn.secret_for.Reads.Post
+pub secret_for : OneOutcome said.secret_for.ended fn.secret_for.Reads.Post
 secret_for κs a x y u v p q = (agree p q, refl)
 
-pub lock_by : OneOutcome fn.lock_by.ended fn.lock_by.Reads.Post
+pub lock_by : OneOutcome said.lock_by.ended fn.lock_by.Reads.Post
 lock_by κs a x y u v p q = (agree p q, refl)
 
-pub nugget_of : OneOutcome fn.nugget_of.ended fn.nugget_of.Reads.Post
+pub nugget_of : OneOutcome said.nugget_of.ended fn.nugget_of.Reads.Post
 nugget_of κs a x y u v p q = (agree p q, refl)
 
-pub flakes : OneOutcome fn.flakes.ended fn.flakes.Reads.Post
+pub flakes : OneOutcome said.flakes.ended fn.flakes.Reads.Post
 flakes κs a x y u v p q = (agree p q, refl)
 
-pub test_path : OneOutcome fn.test_path.ended fn.test_path.Reads.Post
+pub test_path : OneOutcome said.test_path.ended fn.test_path.Reads.Post
 test_path κs a x y u v p q = (agree p q, refl)
 
-pub smaller : OneOutcome fn.smaller.ended fn.smaller.Reads.Post
+pub smaller : OneOutcome said.smaller.ended fn.smaller.Reads.Post
 smaller κs a x y u v p q = (agree p q, refl)
 
-pub test_read : OneOutcome fn.test_read.ended fn.test_read.Reads.Post
+pub test_read : OneOutcome said.test_read.ended fn.test_read.Reads.Post
 test_read κs a x y u v p q = (agree p q, refl)
 
-pub piece : OneOutcome fn.piece.ended fn.piece.Reads.Post
+pub piece : OneOutcome said.piece.ended fn.piece.Reads.Post
 piece κs a x y u v p q = (refl, refl ∥ refl ∥ refl ∥ refl ∥ refl ∥ agree p q ∥ refl)
 
-pub touched : OneOutcome fn.touched.ended fn.touched.Reads.Post
+pub touched : OneOutcome said.touched.ended fn.touched.Reads.Post
 touched κs a x y u v p q = (agree p q, refl)
 
-pub span_of : OneOutcome fn.span_of.ended fn.span_of.Reads.Post
+pub span_of : OneOutcome said.span_of.ended fn.span_of.Reads.Post
 span_of κs a x y u v p q = (agree p.0 q.0, refl)
 
-pub fits : OneOutcome fn.fits.ended fn.fits.Reads.Post
+pub fits : OneOutcome said.fits.ended fn.fits.Reads.Post
 fits κs a x y u v p q = (agree p q, refl)

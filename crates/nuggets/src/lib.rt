@@ -1,5 +1,7 @@
 // One nugget of a lent volume: its key, its tests, what its flakes read as, and which of them a range touches.
 // It touches `keys` for pads and tags, `tree` for paths, `records`, `layout`, `drive`, `words` and `answers`.
+#![tactic(auto)]
+
 ghost use Rattle.std.specs.Prelude.{◌≡◌, true, ◌+◌, ◌-◌, ◌<◌, ◌≤◌, ◌^◌, ◌/◌, min, length};
 ghost use Rattle.base.specs.Lists.{part};
 ghost use Rattle.layout.specs.Shape.{in_limits};
@@ -16,14 +18,14 @@ use keys::Lock;
 use layout::Shape;
 
 // What the tests and the contents of one nugget rest on.
-#[derive(Drop)]
+#[derive(Clone, Copy)]
 pub struct Nugget {
     pub lock: Lock,
     pub held: u64,
 }
 
 // The nuggets from the first up to the end.
-#[derive(Drop)]
+#[derive(Clone, Copy)]
 pub struct Span {
     pub first: u32,
     pub end: u32,

@@ -1,5 +1,7 @@
 // Format and mount: a drive opened over a lent volume, made afresh or as it stands.
 // It touches `drive`, `tree`, `nodes`, `records`, `keys`, `layout`, `answers` and `words`.
+#![tactic(auto)]
+
 mod head;
 
 ghost use Rattle.std.specs.Prelude.{◌≡◌, ◌+◌, ◌<◌, ◌≤◌, length};

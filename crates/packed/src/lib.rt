@@ -1,5 +1,7 @@
 // The drive as 144 bytes, for the C interface.
 // It touches `drive` and `words`.
+#![tactic(auto)]
+
 ghost use Rattle.std.specs.Prelude.{◌≡◌, ◌≤◌, length};
 ghost use Rattle.base.specs.Lists.{part};
 ghost use Rattle.words.specs.Le.{num};

@@ -1,5 +1,7 @@
 // The auditor's page for any input: which flakes are under which key, as a function on slices.
 // It touches `sheets` to mount and for the sheet's line, `records` and `layout` for the records, and `line`, `drive`, `answers` and `words`.
+#![tactic(auto)]
+
 ghost use Rattle.std.specs.Prelude.{[], ◌++◌, ◌+◌, ◌*◌, ◌≤◌, length, take};
 ghost use Rattle.base.specs.Pick.{pick};
 ghost use Rattle.records.specs.Journal.{bit};

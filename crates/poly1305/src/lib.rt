@@ -1,5 +1,7 @@
 // Poly1305 (RFC 8439 2.5): the tag of a message that is given in pieces of any length.
 // It touches `base`, `words` and `limbs`.
+#![tactic(auto)]
+
 ghost use Rattle.std.specs.Prelude.{◌≡◌, ◌+◌, ◌*◌, ◌<◌, ◌≤◌, length, take};
 ghost use Rattle.base.specs.Lists.{part};
 ghost use Rattle.words.specs.Le.{num};
@@ -10,7 +12,7 @@ ghost use Rattle.poly1305.specs.State.{started, absorbed, finished, GoodState};
 use limbs::Limbs;
 
 // The key's r and s, the accumulator, and the bytes of a block that isn't full yet.
-#[derive(Drop)]
+#[derive(Clone, Copy)]
 pub struct State {
     pub r: Limbs,
     pub acc: Limbs,

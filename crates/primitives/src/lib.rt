@@ -1,5 +1,7 @@
 // The C interface of the cipher, the tag and the hash, for hosts in C, benchmarks and comparisons.
 // It touches `chacha20`, `poly1305` and `blake2s`, and of `base` and `words` the definitions alone.
+#![tactic(auto)]
+
 ghost use Rattle.std.specs.Prelude.{◌≡◌, []};
 ghost use Rattle.chacha20.specs.ChaCha20.{encrypted};
 ghost use Rattle.poly1305.specs.Poly1305.{poly1305};

@@ -1,5 +1,7 @@
 // The C interface of keys and tree, which comparisons go through.
 // It touches `keys`, `tree` and `images`, and tests what it is given itself.
+#![tactic(auto)]
+
 ghost use Rattle.std.specs.Prelude.{◌≡◌};
 ghost use Rattle.keys.specs.Keys.{nugget_key, tag_key, check_of, seal_of};
 ghost use Rattle.keys.specs.Tags.{laid_out, named, tag_of};

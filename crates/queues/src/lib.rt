@@ -1,5 +1,7 @@
 // Document 02, Item 2: a queue of writes in one call.
 // It touches `writing` for each write, `drive`, `layout` and `answers` for the tests before the first one, and `words` for requests as bytes.
+#![tactic(auto)]
+
 ghost use Rattle.std.specs.Prelude.{◌≡◌, ◌+◌, ◌-◌, ◌<◌, ◌≤◌, ◌^◌, length};
 ghost use Rattle.queues.specs.Queue.{measure_by, queue_done, queue_volume};
 ghost use Rattle.queues.specs.Pass.{queued_at, run_at, refused_at, begun_run, added_run, wrote_one, wrote_volume, request_step, request_volume, pass_of};
@@ -9,21 +11,21 @@ use answers::Answer;
 use drive::Drive;
 
 // "a list of requests, each an offset and a length"
-#[derive(Drop)]
+#[derive(Clone, Copy)]
 pub struct Request {
     pub offset: u64,
     pub length: u64,
 }
 
 // "answers how many were done and that refusal"
-#[derive(Drop)]
+#[derive(Clone, Copy)]
 pub struct Outcome {
     pub answer: Answer,
     pub done: u64,
 }
 
 // What a queue hands back.
-#[derive(Drop)]
+#[derive(Clone, Copy)]
 pub struct Queued {
     pub outcome: Outcome,
     pub drive: Drive,
@@ -31,7 +33,7 @@ pub struct Queued {
 
 // Where a pass over the requests stands: what is handed back if nothing more is done, how many bytes of the buffer no request
 // has taken yet, and whether requests are written or their lengths only added up.
-#[derive(Drop)]
+#[derive(Clone, Copy)]
 struct Run {
     queued: Queued,
     unread: u64,

@@ -1,5 +1,7 @@
 // Document 01's read: all tests over all nuggets, then the contents laid into the reader's buffer.
 // It touches `nuggets` for the tests and contents of each nugget, and `drive`, `layout` and `answers`; it changes no volume.
+#![tactic(auto)]
+
 ghost use Rattle.std.specs.Prelude.{◌≡◌, ◌+◌, ◌-◌, ◌*◌, ◌<◌, ◌≤◌, length};
 ghost use Rattle.base.specs.Lists.{tab};
 ghost use Rattle.layout.specs.Spots.{capacity};

@@ -8,19 +8,20 @@ use Rattle.base.specs.Outcome.{Promise, OneOutcome}
 use Rattle.base.proofs.OutcomeLaws.{agree, ◌∥◌}
 use Rattle.recorder.specs.Session.{Holding}
 use Rattle.recorder.proofs as fn
+use Rattle.recorder.specs.contracts as said
 
 -- the plain claim that a clause makes, the same at every model
 abbrev claim : (P : (w : World) → Pr w) (read : (w : World) → ReadAt w (λ w. emp w.𝓤) no_know (P w)) → ((w : World) → (read w).owes ≡ (read w₀).owes) → Type 0
 claim P read same = AllOf (read w₀).owes
 
-abbrev sweep_all_post : Promise fn.sweep_all.ended
-sweep_all_post κs a r e = claim (λ w. (fn.sweep_all.clauses w.𝓛 w.𝓜.mem w.𝓡.run κs a).ensures tt r e) (λ w. r_last _) (λ w. refl)
+abbrev sweep_all_post : Promise said.sweep_all.ended
+sweep_all_post κs a r e = claim (λ w. (said.sweep_all.clauses w.𝓛 w.𝓜.mem w.𝓡.run κs a).ensures tt r e) (λ w. r_last _) (λ w. refl)
 
-pub sweep_all : OneOutcome fn.sweep_all.ended sweep_all_post
+pub sweep_all : OneOutcome said.sweep_all.ended sweep_all_post
 sweep_all κs a x y u v p q = (refl, agree (ap (λ (h : Holding). h.drive) p) (ap (λ (h : Holding). h.drive) q) ∥ agree (ap (λ (h : Holding). h.vol) p) (ap (λ (h : Holding). h.vol) q) ∥ refl)
 
-abbrev session_post : Promise fn.session.ended
-session_post κs a r e = claim (λ w. (fn.session.clauses w.𝓛 w.𝓜.mem w.𝓡.run κs a).ensures tt r e) (λ w. r_last _) (λ w. refl)
+abbrev session_post : Promise said.session.ended
+session_post κs a r e = claim (λ w. (said.session.clauses w.𝓛 w.𝓜.mem w.𝓡.run κs a).ensures tt r e) (λ w. r_last _) (λ w. refl)
 
-pub session : OneOutcome fn.session.ended session_post
+pub session : OneOutcome said.session.ended session_post
 session κs a x y u v p q = (agree p.0 q.0, refl ∥ refl ∥ refl ∥ refl ∥ agree p.1.0 q.1.0 ∥ refl ∥ agree p.1.1 q.1.1 ∥ refl)

@@ -1,5 +1,7 @@
 // A host in Rattle: it formats a drive, writes, changes the secret nugget by nugget, reads back and reports.
 // It touches `lent`, whose calls change one drive where it stands, and `lines` to print.
+#![tactic(auto)]
+
 mod lines;
 
 ghost use Rattle.std.specs.Prelude.{◌≡◌, length};
@@ -11,7 +13,7 @@ use layout::Shape;
 use reports::Report;
 
 // The shape of a drive, its outside counter, and where the text is written.
-#[derive(Drop)]
+#[derive(Clone, Copy)]
 pub struct Setup {
     pub shape: Shape,
     pub outside: u64,
@@ -19,7 +21,7 @@ pub struct Setup {
 }
 
 // What the calls of a session answered, and the report at its end.
-#[derive(Drop)]
+#[derive(Clone, Copy)]
 pub struct Heard {
     pub formatted: Answer,
     pub written: Answer,

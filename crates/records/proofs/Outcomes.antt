@@ -3,45 +3,46 @@ use mathlib.Core.Path.{refl}
 use Rattle.base.specs.Outcome.{OneOutcome}
 use Rattle.base.proofs.OutcomeLaws.{agree, ◌∥◌}
 use Rattle.records.proofs as fn
+use Rattle.records.specs.contracts as said
 
-pub read : OneOutcome fn.read.ended fn.read.Reads.Post
+pub read : OneOutcome said.read.ended fn.read.Reads.Post
 read κs a x y u v p q = (agree p q, refl)
 
-pub store : OneOutcome fn.store.ended fn.store.Reads.Post
+pub store : OneOutcome said.store.ended fn.store.Reads.Post
 store κs a x y u v p q = (refl, agree p q ∥ refl)
 
-pub has : OneOutcome fn.has.ended fn.has.Reads.Post
+pub has : OneOutcome said.has.ended fn.has.Reads.Post
 has κs a x y u v p q = (agree p q, refl)
 
-pub join : OneOutcome fn.join.ended fn.join.Reads.Post
+pub join : OneOutcome said.join.ended fn.join.Reads.Post
 join κs a x y u v p q = (agree p q, refl)
 
-pub share_none : OneOutcome fn.share_none.ended fn.share_none.Reads.Post
+pub share_none : OneOutcome said.share_none.ended fn.share_none.Reads.Post
 share_none κs a x y u v p q = (agree p q, refl)
 
-pub all : OneOutcome fn.all.ended fn.all.Reads.Post
+pub all : OneOutcome said.all.ended fn.all.Reads.Post
 all κs a x y u v p q = (agree p q, refl)
 
-pub range : OneOutcome fn.range.ended fn.range.Reads.Post
+pub range : OneOutcome said.range.ended fn.range.Reads.Post
 range κs a x y u v p q = (agree p q, refl)
 
-pub count : OneOutcome fn.count.ended fn.count.Reads.Post
+pub count : OneOutcome said.count.ended fn.count.Reads.Post
 count κs a x y u v p q = (agree p q, refl)
 
-pub well_formed : OneOutcome fn.well_formed.ended fn.well_formed.Reads.Post
+pub well_formed : OneOutcome said.well_formed.ended fn.well_formed.Reads.Post
 well_formed κs a x y u v p q = (agree p q, refl)
 
-pub way_of : OneOutcome fn.way_of.ended fn.way_of.Reads.Post
+pub way_of : OneOutcome said.way_of.ended fn.way_of.Reads.Post
 way_of κs a x y u v p q = (agree p q, refl)
 
-pub range_of : OneOutcome fn.range_of.ended fn.range_of.Reads.Post
+pub range_of : OneOutcome said.range_of.ended fn.range_of.Reads.Post
 range_of κs a x y u v p q = (agree p q, refl)
 
-pub is_rekey : OneOutcome fn.is_rekey.ended fn.is_rekey.Reads.Post
+pub is_rekey : OneOutcome said.is_rekey.ended fn.is_rekey.Reads.Post
 is_rekey κs a x y u v p q = (agree p q, refl)
 
-pub enciphers : OneOutcome fn.enciphers.ended fn.enciphers.Reads.Post
+pub enciphers : OneOutcome said.enciphers.ended fn.enciphers.Reads.Post
 enciphers κs a x y u v p q = (agree p q, refl)
 
-pub turn : OneOutcome fn.turn.ended fn.turn.Reads.Post
+pub turn : OneOutcome said.turn.ended fn.turn.Reads.Post
 turn κs a x y u v p q = (agree p q, refl)

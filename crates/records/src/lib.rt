@@ -1,5 +1,7 @@
 // A nugget's record, its masks as sets of flakes, and the rule of a write on one nugget.
 // It touches `base`, `words`, `codec` and `layout`.
+#![tactic(auto)]
+
 ghost use Rattle.std.specs.Prelude.{◌≡◌, ◌+◌, ◌<◌, ◌≤◌, ◌^◌, length};
 ghost use Rattle.std.proofs.lemmas.List.Edits.{sets};
 ghost use Rattle.layout.specs.Shape.{width_of};
@@ -11,7 +13,7 @@ ghost use Rattle.records.specs.Rule.{way_of, rekeys, enciphered, turned, CanRise
 
 use layout::Shape;
 
-#[derive(Drop)]
+#[derive(Clone, Copy)]
 pub struct Record {
     pub keycount: u64,
     pub spent: u64,
@@ -20,7 +22,7 @@ pub struct Record {
 }
 
 // What a record is held against: the head's epoch, whether the secret is being changed, and the head's counter.
-#[derive(Drop)]
+#[derive(Clone, Copy)]
 pub struct Gauge {
     pub epoch: u16,
     pub changing: bool,
@@ -28,7 +30,7 @@ pub struct Gauge {
 }
 
 // What a change does to one nugget: nothing, add the touched flakes, rekey it with them, or clear held bits.
-#[derive(Drop)]
+#[derive(Clone, Copy)]
 pub enum Way {
     Idle,
     Add(u64),

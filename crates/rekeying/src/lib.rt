@@ -1,5 +1,7 @@
 // The change of the master secret: begin, sweep and finish, each tested whole before its first store.
 // It touches `laying` for what a change stores, and `nuggets`, `tree`, `reports`, `records`, `layout`, `drive`, `answers` and `words`.
+#![tactic(auto)]
+
 mod admit;
 
 ghost use Rattle.std.specs.Prelude.{◌≡◌, ◌<◌};

@@ -2,6 +2,8 @@
 // is held, the old keystream and then the stored bytes. What scratch then holds goes to its place. So neither scratch nor the
 // volume ever holds contents, and each byte of the flake is stored once, as it stays.
 // It touches `keys` for pads and tags, `records` and `nuggets` for what is held, and `words`; of `changes` the definitions alone.
+#![tactic(auto)]
+
 ghost use Rattle.std.specs.Prelude.{◌≡◌, ◌+◌, ◌%◌, ◌<◌, ◌≤◌, ◌^◌, max, length};
 ghost use Rattle.keys.specs.Pads.{under};
 ghost use Rattle.keys.specs.Tags.{tag_of};
@@ -17,7 +19,7 @@ fn larger(a: usize, b: usize) -> usize
 }
 
 // The bytes that a piece and the written bytes share: n of them, from byte `at` of the piece and byte `from` of the written on.
-#[derive(Drop)]
+#[derive(Clone, Copy)]
 struct Meeting {
     at: usize,
     n: usize,

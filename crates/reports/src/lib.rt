@@ -1,5 +1,7 @@
 // The calls that tell of an open drive and change nothing: its report, and the stored bytes of a flake.
 // It touches `drive` and `tree` for the tests, `records` for the counts, and `layout` and `answers`.
+#![tactic(auto)]
+
 mod counting;
 mod told;
 

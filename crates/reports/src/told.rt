@@ -2,7 +2,7 @@
 use answers::Answer;
 
 // Nuggets moved, flakes present, and the present flakes of moved nuggets.
-#[derive(Drop)]
+#[derive(Clone, Copy)]
 pub struct Counts {
     pub moved: u32,
     pub flakes: u32,
@@ -11,7 +11,7 @@ pub struct Counts {
 
 // "N, nuggets moved (epoch equal to the head's), left, flakes present, and share", in hundredths of a percent;
 // then the present flakes in moved nuggets.
-#[derive(Drop)]
+#[derive(Clone, Copy)]
 pub struct Report {
     pub answer: Answer,
     pub n: u32,

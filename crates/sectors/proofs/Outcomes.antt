@@ -3,9 +3,10 @@ use mathlib.Core.Path.{refl}
 use Rattle.base.specs.Outcome.{OneOutcome}
 use Rattle.base.proofs.OutcomeLaws.{agree, ◌∥◌}
 use Rattle.sectors.proofs as fn
+use Rattle.sectors.specs.contracts as said
 
-pub encrypt : OneOutcome fn.encrypt.ended fn.encrypt.Reads.Post
+pub encrypt : OneOutcome said.encrypt.ended fn.encrypt.Reads.Post
 encrypt κs a x y u v p q = (refl, agree p q ∥ refl)
 
-pub decrypt : OneOutcome fn.decrypt.ended fn.decrypt.Reads.Post
+pub decrypt : OneOutcome said.decrypt.ended fn.decrypt.Reads.Post
 decrypt κs a x y u v p q = (refl, agree p q ∥ refl)

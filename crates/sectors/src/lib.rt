@@ -1,5 +1,7 @@
 // Whole sectors in a row under two keys, where they stand: each key is expanded once.
 // It touches `xts` for each sector and `aes` and `aes_back` for the keys, and of `base`, `words` and `field` the definitions alone.
+#![tactic(auto)]
+
 ghost use Rattle.std.specs.Prelude.{◌≡◌, ◌+◌, ◌/◌, ◌%◌, ◌<◌, ◌^◌, length};
 ghost use Rattle.field.specs.Tables.{inv_sbox_table};
 ghost use Rattle.aes.specs.Aes.{cipher};

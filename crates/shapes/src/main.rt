@@ -1,5 +1,7 @@
 // A program: shapes at and past document 01's limits, each with its length or a refusal.
 // It touches `layout`, and the toolchain's `io` to print.
+#![tactic(auto)]
+
 use layout::Shape;
 
 fn field(name: &[u8], x: u32) {

@@ -1,6 +1,8 @@
 // The sheet: standard input to one line of standard output.
 // It touches `sheets`, which makes the line, and the toolchain's `io` to read and write.
 
+#![tactic(auto)]
+
 // The buffer is as long as `sheet_line` asks by its type.
 fn main() {
     let mut input = [0u8; 61513];

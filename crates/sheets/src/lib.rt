@@ -1,5 +1,7 @@
 // The sheet's line for any input: what the program prints, as a function on slices.
 // It touches `opening` to mount, `reports` to report, and `line`, `answers` and `words`.
+#![tactic(auto)]
+
 ghost use Rattle.std.specs.Prelude.{◌≡◌, ◌≤◌, length, take};
 ghost use Rattle.line.specs.Lines.{Put};
 ghost use Rattle.sheets.specs.Sheet.{reported_line, mounted_text, mounted_by, sheet_line};

@@ -4,15 +4,16 @@ use Rattle.base.specs.Outcome.{OneOutcome}
 use Rattle.base.proofs.OutcomeLaws.{agree, ◌∥◌}
 use Rattle.standings.proofs.ReadingLaws.{drop_apart}
 use Rattle.standings.proofs as fn
+use Rattle.standings.specs.contracts as said
 
-pub reading_find : OneOutcome fn.reading.find.ended fn.reading.find.Reads.Post
+pub reading_find : OneOutcome said.reading.find.ended fn.reading.find.Reads.Post
 reading_find κs a x y u v p q = (agree p q, refl)
 
-pub reading_behind : OneOutcome fn.reading.behind.ended fn.reading.behind.Reads.Post
+pub reading_behind : OneOutcome said.reading.behind.ended fn.reading.behind.Reads.Post
 reading_behind κs a x y u v p q = (drop_apart _ p.0 q.0 (agree p.1 q.1), refl)
 
-pub put_standing : OneOutcome fn.put_standing.ended fn.put_standing.Reads.Post
+pub put_standing : OneOutcome said.put_standing.ended fn.put_standing.Reads.Post
 put_standing κs a x y u v p q = (agree p.behind q.behind, agree p.stored q.stored ∥ refl)
 
-pub found_in : OneOutcome fn.found_in.ended fn.found_in.Reads.Post
+pub found_in : OneOutcome said.found_in.ended fn.found_in.Reads.Post
 found_in κs a x y u v p q = (agree p q, refl)

@@ -1,5 +1,7 @@
 // How a drive stands in the change of its secret, and its sheet line read back.
 // It touches `line` for the line's bytes, `reports` for the counts and the share, and `words`.
+#![tactic(auto)]
+
 mod reading;
 
 ghost use Rattle.std.specs.Prelude.{◌≡◌, ◌+◌, ◌≤◌, length};
@@ -11,14 +13,14 @@ pub use reading::{behind, find};
 use reports::Counts;
 
 // N, and what is counted of its nuggets and flakes.
-#[derive(Drop)]
+#[derive(Clone, Copy)]
 pub struct Standing {
     pub n: u32,
     pub counts: Counts,
 }
 
 // A line that is taken, with what it tells; or one that isn't.
-#[derive(Drop)]
+#[derive(Clone, Copy)]
 pub enum Found {
     Taken(Standing),
     Bad,

@@ -1,5 +1,7 @@
 // A summary beside the tree: for each node what its nuggets count for, built, renewed along a path, and the report from its top.
 // It touches `reports` for the counts, `drive` and `tree` for the tests, and `records`, `layout`, `answers` and `words`.
+#![tactic(auto)]
+
 ghost use Rattle.std.specs.Prelude.{◌≡◌, ◌+◌, ◌-◌, ◌*◌, ◌<◌, ◌≤◌, length};
 ghost use Rattle.std.proofs.lemmas.List.Edits.{sets};
 ghost use Rattle.layout.specs.Shape.{leaves};

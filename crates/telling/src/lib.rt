@@ -1,5 +1,7 @@
 // The lines that a host prints: a refusal's, of an answer's image; the sheet's, of an open drive; the auditor's, of one nugget of it.
 // It touches `sheets` and `pages` for the lines, `reports`, `drive`, `tree` and `records` for what they tell, and `images`, `line` and `answers`.
+#![tactic(auto)]
+
 ghost use Rattle.std.specs.Prelude.{◌≡◌, ◌≤◌, length};
 ghost use Rattle.line.specs.Lines.{Put};
 ghost use Rattle.images.specs.Back.{answer_in};
@@ -11,7 +13,7 @@ use answers::Answer;
 use drive::Drive;
 
 // The answer that a line was put for, and how many bytes the line has.
-#[derive(Drop)]
+#[derive(Clone, Copy)]
 pub struct Told {
     pub answer: Answer,
     pub count: u32,

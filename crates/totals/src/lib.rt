@@ -1,5 +1,7 @@
 // The drives of a fleet: their totals, and the drive furthest behind.
 // It touches `standings` for how a drive stands, and `reports` for its counts.
+#![tactic(auto)]
+
 ghost use Rattle.std.specs.Prelude.{◌≡◌, true, ◌+◌, ◌*◌, ◌^◌, ◌<◌, ◌≤◌};
 ghost use Rattle.standings.specs.Standing.{possible};
 ghost use Rattle.totals.specs.Fleet.{fraction_of, is_behind, together, nobody, is_last, joined, Summed};
@@ -8,7 +10,7 @@ use reports::Counts;
 use standings::Standing;
 
 // How many drives, their totals, and the line number and standing of the drive furthest behind.
-#[derive(Drop)]
+#[derive(Clone, Copy)]
 pub struct Fleet {
     pub drives: u32,
     pub total: Standing,
@@ -17,7 +19,7 @@ pub struct Fleet {
 }
 
 // So much done of all.
-#[derive(Drop)]
+#[derive(Clone, Copy)]
 struct Fraction {
     done: u32,
     all: u32,

@@ -1,5 +1,7 @@
 // The tree over records and tags in a lent volume: the test of a path, of the whole, a path renewed, all of it built.
 // It touches `layout`, `answers`, `records` and `nodes`.
+#![tactic(auto)]
+
 ghost use Rattle.std.specs.Prelude.{◌≡◌, true, ◌*◌, ◌<◌, ◌≤◌, max};
 ghost use Rattle.layout.specs.Shape.{in_limits, leaves};
 ghost use Rattle.tree.specs.Path.{good_record, climbed, path_of, Rises};

@@ -1,5 +1,7 @@
 // Two volumes against one drive: where both pass the path of a nugget and differ in its record or tags, the two messages with
 // the same BLAKE2s value that this shows. It touches `tree` and `nodes` for the paths, `drive`, `layout`, `answers` and `words`.
+#![tactic(auto)]
+
 ghost use Rattle.std.specs.Prelude.{◌≡◌, ◌++◌, ◌+◌, ◌*◌, ◌<◌, ◌≤◌, length};
 ghost use Rattle.std.proofs.lemmas.List.Edits.{sets};
 ghost use Rattle.layout.specs.Shape.{leaves};
@@ -13,7 +15,7 @@ use drive::Drive;
 use layout::Shape;
 
 // What was answered, and how long the two messages are; 0 if there are none.
-#[derive(Drop)]
+#[derive(Clone, Copy)]
 pub struct Twins {
     pub answer: Answer,
     pub length: u32,

@@ -1,5 +1,7 @@
 // A program: the published vectors of RFC 8439 and RFC 7693, run through the proved crates.
 // It touches `chacha20`, `poly1305`, `blake2s`, `keys` and `words`, and the toolchain's `io` to print.
+#![tactic(auto)]
+
 mod cipher;
 mod hashes;
 mod inputs;

@@ -3,42 +3,43 @@ use mathlib.Core.Path.{refl}
 use Rattle.base.specs.Outcome.{OneOutcome}
 use Rattle.base.proofs.OutcomeLaws.{agree, ◌∥◌}
 use Rattle.words.proofs as fn
+use Rattle.words.specs.contracts as said
 
-pub rotate_left : OneOutcome fn.rotate_left.ended fn.rotate_left.Reads.Post
+pub rotate_left : OneOutcome said.rotate_left.ended fn.rotate_left.Reads.Post
 rotate_left κs a x y u v p q = (agree p q, refl)
 
-pub rotate_right : OneOutcome fn.rotate_right.ended fn.rotate_right.Reads.Post
+pub rotate_right : OneOutcome said.rotate_right.ended fn.rotate_right.Reads.Post
 rotate_right κs a x y u v p q = (agree p q, refl)
 
-pub wide : OneOutcome fn.wide.ended fn.wide.Reads.Post
+pub wide : OneOutcome said.wide.ended fn.wide.Reads.Post
 wide κs a x y u v p q = (agree p q, refl)
 
-pub load : OneOutcome fn.load.ended fn.load.Reads.Post
+pub load : OneOutcome said.load.ended fn.load.Reads.Post
 load κs a x y u v p q = (agree p.0 q.0, refl)
 
-pub load32 : OneOutcome fn.load32.ended fn.load32.Reads.Post
+pub load32 : OneOutcome said.load32.ended fn.load32.Reads.Post
 load32 κs a x y u v p q = (agree p q, refl)
 
-pub store : OneOutcome fn.store.ended fn.store.Reads.Post
+pub store : OneOutcome said.store.ended fn.store.Reads.Post
 store κs a x y u v p q = (refl, agree p q ∥ refl)
 
-pub store32 : OneOutcome fn.store32.ended fn.store32.Reads.Post
+pub store32 : OneOutcome said.store32.ended fn.store32.Reads.Post
 store32 κs a x y u v p q = (refl, agree p q ∥ refl)
 
-pub copy : OneOutcome fn.copy.ended fn.copy.Reads.Post
+pub copy : OneOutcome said.copy.ended fn.copy.Reads.Post
 copy κs a x y u v p q = (refl, agree p q ∥ refl)
 
-pub sixteen : OneOutcome fn.sixteen.ended fn.sixteen.Reads.Post
+pub sixteen : OneOutcome said.sixteen.ended fn.sixteen.Reads.Post
 sixteen κs a x y u v p q = (agree p q, refl)
 
-pub thirty_two : OneOutcome fn.thirty_two.ended fn.thirty_two.Reads.Post
+pub thirty_two : OneOutcome said.thirty_two.ended fn.thirty_two.Reads.Post
 thirty_two κs a x y u v p q = (agree p q, refl)
 
-pub xor : OneOutcome fn.xor.ended fn.xor.Reads.Post
+pub xor : OneOutcome said.xor.ended fn.xor.Reads.Post
 xor κs a x y u v p q = (refl, agree p q ∥ refl)
 
-pub equal : OneOutcome fn.equal.ended fn.equal.Reads.Post
+pub equal : OneOutcome said.equal.ended fn.equal.Reads.Post
 equal κs a x y u v p q = (agree p q, refl)
 
-pub clear : OneOutcome fn.clear.ended fn.clear.Reads.Post
+pub clear : OneOutcome said.clear.ended fn.clear.Reads.Post
 clear κs a x y u v p q = (refl, agree p q ∥ refl)

@@ -1,5 +1,7 @@
 // Little-endian numbers in slices, 32-bit words, and the xor of bytes.
 // It touches `base` alone.
+#![tactic(auto)]
+
 ghost use Rattle.std.specs.Prelude.{◌≡◌, ◌+◌, ◌*◌, ◌<◌, ◌≤◌, ◌^◌, length, replicate};
 ghost use Rattle.std.proofs.lemmas.List.Edits.{sets};
 ghost use Rattle.base.specs.Lists.{part, same};

@@ -3,18 +3,19 @@ use mathlib.Core.Path.{refl}
 use Rattle.base.specs.Outcome.{OneOutcome}
 use Rattle.base.proofs.OutcomeLaws.{agree, ◌∥◌}
 use Rattle.writing.proofs as fn
+use Rattle.writing.specs.contracts as said
 
-pub way_at : OneOutcome fn.way_at.ended fn.way_at.Reads.Post
+pub way_at : OneOutcome said.way_at.ended fn.way_at.Reads.Post
 way_at κs a x y u v p q = (agree p q, refl)
 
-pub admit : OneOutcome fn.admit.ended fn.admit.Reads.Post
+pub admit : OneOutcome said.admit.ended fn.admit.Reads.Post
 admit κs a x y u v p q = (agree p q, refl)
 
-pub mark_span : OneOutcome fn.mark_span.ended fn.mark_span.Reads.Post
+pub mark_span : OneOutcome said.mark_span.ended fn.mark_span.Reads.Post
 mark_span κs a x y u v p q = (refl, refl ∥ agree p q ∥ refl)
 
-pub tend_span : OneOutcome fn.tend_span.ended fn.tend_span.Reads.Post
+pub tend_span : OneOutcome said.tend_span.ended fn.tend_span.Reads.Post
 tend_span κs a x y u v p q = (refl, refl ∥ agree p q ∥ refl)
 
-pub write : OneOutcome fn.write.ended fn.write.Reads.Post
+pub write : OneOutcome said.write.ended fn.write.Reads.Post
 write κs a x y u v p q = (agree p.0 q.0, refl ∥ agree p.1 q.1 ∥ refl)

@@ -1,5 +1,7 @@
 // Document 01's write: all tests of all nuggets, then flakes and tags, records, leaves and paths, and the head.
 // It touches `nuggets` and `records` for the tests, `drive`, `layout` and `answers`, and `laying` for every store.
+#![tactic(auto)]
+
 ghost use Rattle.std.specs.Prelude.{◌≡◌, ◌+◌, ◌<◌, ◌≤◌, length};
 ghost use Rattle.layout.specs.Spots.{capacity};
 ghost use Rattle.layout.specs.Shaped.{Shaped};

@@ -3,18 +3,19 @@ use mathlib.Core.Path.{refl}
 use Rattle.base.specs.Outcome.{OneOutcome}
 use Rattle.base.proofs.OutcomeLaws.{agree, ◌∥◌}
 use Rattle.xts.proofs as fn
+use Rattle.xts.specs.contracts as said
 
-pub tweak : OneOutcome fn.tweak.ended fn.tweak.Reads.Post
+pub tweak : OneOutcome said.tweak.ended fn.tweak.Reads.Post
 tweak κs a x y u v p q = (agree p q, refl)
 
-pub encrypt_from : OneOutcome fn.encrypt_from.ended fn.encrypt_from.Reads.Post
+pub encrypt_from : OneOutcome said.encrypt_from.ended fn.encrypt_from.Reads.Post
 encrypt_from κs a x y u v p q = (refl, agree p q ∥ refl)
 
-pub decrypt_from : OneOutcome fn.decrypt_from.ended fn.decrypt_from.Reads.Post
+pub decrypt_from : OneOutcome said.decrypt_from.ended fn.decrypt_from.Reads.Post
 decrypt_from κs a x y u v p q = (refl, agree p q ∥ refl)
 
-pub encrypt_sector : OneOutcome fn.encrypt_sector.ended fn.encrypt_sector.Reads.Post
+pub encrypt_sector : OneOutcome said.encrypt_sector.ended fn.encrypt_sector.Reads.Post
 encrypt_sector κs a x y u v p q = (refl, agree p q ∥ refl)
 
-pub decrypt_sector : OneOutcome fn.decrypt_sector.ended fn.decrypt_sector.Reads.Post
+pub decrypt_sector : OneOutcome said.decrypt_sector.ended fn.decrypt_sector.Reads.Post
 decrypt_sector κs a x y u v p q = (refl, agree p q ∥ refl)

@@ -1,5 +1,7 @@
 // XTS-AES-256 of IEEE 1619 over sectors of 512 bytes, where they stand.
 // It touches `words`, `aes` and `aes_back`, and of `base` and `field` the definitions alone.
+#![tactic(auto)]
+
 ghost use Rattle.std.specs.Prelude.{◌≡◌, ◌∷◌, [], length};
 ghost use Rattle.words.specs.Le.{serialised};
 ghost use Rattle.words.specs.Xor.{xorl};
