@@ -1,0 +1,31 @@
+use Rattle.layout.specs.Parts.{tag_at}
+use Rattle.layout.proofs.Limits.{Limits, limits, inside, outside}
+use Rattle.layout.specs.Shape.{in_limits}
+use native.Mathlib.Omega.{arith}
+use mathlib.Core.Bool.{true}
+use mathlib.Core.Path.{◌≡◌, sym, ◌∙◌}
+use Rattle.layout.proofs.tag_at.Goals as goal
+
+pub index_of-requires : goal.index_of-requires
+index_of-requires c =
+    let s = c.args.s in
+    let h : in_limits s ≡ true = sym c.in_limits.ensures ∙ c.if-in_limits.true in
+    let l : Limits s = limits s h in
+    omega arith
+
+pub overflow_add-result : goal.overflow_add-result
+overflow_add-result c =
+    let s = c.args.s in
+    let h : in_limits s ≡ true = sym c.in_limits.ensures ∙ c.if-in_limits.true in
+    let l : Limits s = limits s h in
+    omega (arith, c.index_of.ensures.1, c.tags_at.ensures ∙ inside s h)
+
+pub returns-then-in_limits : goal.returns-then-in_limits
+returns-then-in_limits c =
+    let s = c.args.s in
+    let h : in_limits s ≡ true = sym c.in_limits.ensures ∙ c.if-in_limits.true in
+    let l : Limits s = limits s h in
+    rw (c.index_of.ensures.0, c.tags_at.ensures, inside s h) (sym (inside s h))
+
+pub returns-else-in_limits : goal.returns-else-in_limits
+returns-else-in_limits c = sym (outside c.args.s (tag_at c.args.s c.args.n c.args.f) (sym c.in_limits.ensures ∙ c.if-in_limits.false))

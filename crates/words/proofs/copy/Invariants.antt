@@ -1,0 +1,11 @@
+use lib.ListN.{length, drop}
+use Prim.Native.Nat.{◌≤◌, ◌-◌, ◌+◌}
+use mathlib.Core.Path.{◌≡◌}
+use lib.Seq.{sets}
+use Rattle.words.proofs.copy.Given as goal
+
+abbrev pub invariant-loop-i : goal.invariant-loop-i
+invariant-loop-i l = (l.i ≤ length l.from) × (length l.s ≡ length l.initial.s) × (sets l.s (l.at + l.i) (drop l.i l.from) ≡ sets l.initial.s l.at l.from)
+
+abbrev pub decreases-loop-i : goal.decreases-loop-i
+decreases-loop-i l = length l.from - l.i
