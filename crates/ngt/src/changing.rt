@@ -10,8 +10,7 @@ use discarding::Freed;
 use drive::Drive;
 
 // Begin, with a new secret.
-#[unsafe(no_mangle)]
-pub extern "C" fn ngt_begin(
+pub fn ngt_begin(
     image: &mut [u8; 144],
     vol: &mut [u8],
     secret: &[u8; 32],
@@ -30,8 +29,7 @@ pub extern "C" fn ngt_begin(
 }
 
 // Sweep, of one nugget.
-#[unsafe(no_mangle)]
-pub extern "C" fn ngt_sweep(
+pub fn ngt_sweep(
     image: &mut [u8; 144],
     vol: &mut [u8],
     nugget: u32,
@@ -50,8 +48,7 @@ pub extern "C" fn ngt_sweep(
 }
 
 // Finish.
-#[unsafe(no_mangle)]
-pub extern "C" fn ngt_finish(image: &mut [u8; 144], vol: &mut [u8], answer: &mut [u8; 16]) -> u32
+pub fn ngt_finish(image: &mut [u8; 144], vol: &mut [u8], answer: &mut [u8; 16]) -> u32
     ensures { Finished (drive_in image.old) vol.old
         image.old result vol.new image.new answer.new }
 {
@@ -75,8 +72,7 @@ fn writes_by(a: Answer, bytes: &[u8]) -> bool
 }
 
 // Write, from an offset on.
-#[unsafe(no_mangle)]
-pub extern "C" fn ngt_write(
+pub fn ngt_write(
     image: &mut [u8; 144],
     vol: &mut [u8],
     offset: u64,
@@ -96,8 +92,7 @@ pub extern "C" fn ngt_write(
 }
 
 // Import of a whole buffer; an accepted one always changes the drive, since no drive is without contents.
-#[unsafe(no_mangle)]
-pub extern "C" fn ngt_import(
+pub fn ngt_import(
     image: &mut [u8; 144],
     vol: &mut [u8],
     key: &[u8; 32],
@@ -125,8 +120,7 @@ fn counter_rose(d: Drive, next: Drive) -> bool
 }
 
 // Discard, of a flake range of one nugget.
-#[unsafe(no_mangle)]
-pub extern "C" fn ngt_discard(
+pub fn ngt_discard(
     image: &mut [u8; 144],
     vol: &mut [u8],
     nugget: u32,
@@ -160,8 +154,7 @@ fn eight(x: u64) -> [u8; 8]
 }
 
 // A queue of writes, "requests: 16 bytes each, offset and length".
-#[unsafe(no_mangle)]
-pub extern "C" fn ngt_queue(
+pub fn ngt_queue(
     image: &mut [u8; 144],
     vol: &mut [u8],
     requests: &[u8],

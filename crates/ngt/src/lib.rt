@@ -2,10 +2,10 @@
 // It touches the calls' crates, `packed` and `images` for the bytes, and `fleets` for the fleet's line.
 #![tactic(auto)]
 
-mod changing;
-mod lines;
-mod moves;
-mod summary;
+pub mod changing;
+pub mod lines;
+pub mod moves;
+pub mod summary;
 
 ghost use Rattle.std.specs.Prelude.{◌≡◌, ◌++◌};
 ghost use Rattle.words.specs.Le.{le};
@@ -20,8 +20,7 @@ use drive::Drive;
 use layout::Shape;
 
 // Format under version 1, with the image of the drive that it hands back.
-#[unsafe(no_mangle)]
-pub extern "C" fn ngt_format(
+pub fn ngt_format(
     vol: &mut [u8],
     n: u32,
     p: u32,
@@ -38,8 +37,7 @@ pub extern "C" fn ngt_format(
 }
 
 // Format under a version and a cipher.
-#[unsafe(no_mangle)]
-pub extern "C" fn ngt_format_as(
+pub fn ngt_format_as(
     vol: &mut [u8],
     n: u32,
     p: u32,
@@ -70,8 +68,7 @@ pub extern "C" fn ngt_format_as(
 }
 
 // Mount, with the image of the drive that it hands back.
-#[unsafe(no_mangle)]
-pub extern "C" fn ngt_mount(
+pub fn ngt_mount(
     vol: &[u8],
     present: &[u8; 32],
     old: &[u8; 32],
@@ -118,8 +115,7 @@ fn opened(image: [u8; 144]) -> Drive
 }
 
 // Read into a lent buffer.
-#[unsafe(no_mangle)]
-pub extern "C" fn ngt_read(
+pub fn ngt_read(
     image: &[u8; 144],
     vol: &[u8],
     offset: u64,
@@ -135,8 +131,7 @@ pub extern "C" fn ngt_read(
 }
 
 // Export into a lent buffer; `key` is the key for sectors, `tweak` the one for tweaks.
-#[unsafe(no_mangle)]
-pub extern "C" fn ngt_export(
+pub fn ngt_export(
     image: &[u8; 144],
     vol: &[u8],
     key: &[u8; 32],
@@ -154,8 +149,7 @@ pub extern "C" fn ngt_export(
 }
 
 // Report, "N, moved, left, flakes, share in hundredths of a percent, 4 bytes each; all zero if refused".
-#[unsafe(no_mangle)]
-pub extern "C" fn ngt_report(
+pub fn ngt_report(
     image: &[u8; 144],
     vol: &[u8],
     report: &mut [u8; 20],
@@ -190,8 +184,7 @@ fn span_image(d: Drive, vol: &[u8], nugget: u32, flake: u32) -> [u8; 16]
 }
 
 // Stored flake, as "where the part begins in the volume and its length, 8 bytes each; both zero if refused".
-#[unsafe(no_mangle)]
-pub extern "C" fn ngt_stored_flake(
+pub fn ngt_stored_flake(
     image: &[u8; 144],
     vol: &[u8],
     nugget: u32,
@@ -209,8 +202,7 @@ pub extern "C" fn ngt_stored_flake(
 }
 
 // The fleet's line of drives' lines, in the first bytes of `out`; how many they are.
-#[unsafe(no_mangle)]
-pub extern "C" fn ngt_fleet(lines: &[u8], out: &mut [u8; 192]) -> u32
+pub fn ngt_fleet(lines: &[u8], out: &mut [u8; 192]) -> u32
     ensures { Put out.old 0 (fleet_line lines.now) result out.new }
 {
     let k = fleets::fleet_line(lines, out);
@@ -226,8 +218,7 @@ fn four(x: u32) -> [u8; 4]
 }
 
 // Twins: two messages with one BLAKE2s value, of two volumes that pass one nugget's path and differ there.
-#[unsafe(no_mangle)]
-pub extern "C" fn ngt_twins(
+pub fn ngt_twins(
     image: &[u8; 144],
     first: &[u8],
     second: &[u8],

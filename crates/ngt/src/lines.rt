@@ -15,8 +15,7 @@ ghost use Rattle.ngt.specs.Lines.{Lined};
 use layout::Shape;
 
 // "Length of a volume [..] for a shape and version; 0 if out of limits."
-#[unsafe(no_mangle)]
-pub extern "C" fn ngt_length(n: u32, p: u32, f: u32, version: u16) -> u64
+pub fn ngt_length(n: u32, p: u32, f: u32, version: u16) -> u64
     ensures { result ≡ within (shape_as version 0 n p f) (length_of (shape_as version 0 n p f)) }
 {
     let s = Shape {
@@ -30,8 +29,7 @@ pub extern "C" fn ngt_length(n: u32, p: u32, f: u32, version: u16) -> u64
 }
 
 // "its capacity N P F"
-#[unsafe(no_mangle)]
-pub extern "C" fn ngt_capacity(n: u32, p: u32, f: u32) -> u64
+pub fn ngt_capacity(n: u32, p: u32, f: u32) -> u64
     ensures { result ≡ within (shape n p f) (capacity (shape n p f)) }
 {
     let s = Shape {
@@ -45,16 +43,14 @@ pub extern "C" fn ngt_capacity(n: u32, p: u32, f: u32) -> u64
 }
 
 // The refusal's line of an answer's image.
-#[unsafe(no_mangle)]
-pub extern "C" fn ngt_refusal_line(answer: &[u8; 16], out: &mut [u8; 128]) -> u32
+pub fn ngt_refusal_line(answer: &[u8; 16], out: &mut [u8; 128]) -> u32
     ensures { Put out.old 0 (refusal_text (answer_in answer.now)) result out.new }
 {
     telling::refusal_line(answer, out)
 }
 
 // The sheet's line for an open drive of any size.
-#[unsafe(no_mangle)]
-pub extern "C" fn ngt_sheet_line(
+pub fn ngt_sheet_line(
     image: &[u8; 144],
     vol: &[u8],
     out: &mut [u8; 192],
@@ -71,8 +67,7 @@ pub extern "C" fn ngt_sheet_line(
 }
 
 // The auditor's line of one nugget.
-#[unsafe(no_mangle)]
-pub extern "C" fn ngt_nugget_line(
+pub fn ngt_nugget_line(
     image: &[u8; 144],
     vol: &[u8],
     nugget: u32,

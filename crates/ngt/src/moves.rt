@@ -4,8 +4,7 @@ ghost use Rattle.packed.specs.Image.{drive_in};
 ghost use Rattle.ngt.specs.Moves.{MovedUp, MovedDown};
 
 // Version 1 to version 2.
-#[unsafe(no_mangle)]
-pub extern "C" fn ngt_move_up(
+pub fn ngt_move_up(
     image: &mut [u8; 144],
     vol: &[u8],
     second: &mut [u8],
@@ -24,8 +23,7 @@ pub extern "C" fn ngt_move_up(
 }
 
 // Version 2 to version 1.
-#[unsafe(no_mangle)]
-pub extern "C" fn ngt_move_down(
+pub fn ngt_move_down(
     image: &mut [u8; 144],
     vol: &[u8],
     second: &mut [u8],

@@ -6,8 +6,7 @@ ghost use Rattle.summaries.specs.Calls.{top_report, build_answer, build_summary,
 ghost use Rattle.ngt.specs.Summary.{Tallied, Summed};
 
 // "N, moved, left, flakes, share, done, 4 bytes each; all zero if refused".
-#[unsafe(no_mangle)]
-pub extern "C" fn ngt_tally(
+pub fn ngt_tally(
     image: &[u8; 144],
     vol: &[u8],
     report: &mut [u8; 24],
@@ -24,8 +23,7 @@ pub extern "C" fn ngt_tally(
 }
 
 // The whole summary, whatever the buffer held.
-#[unsafe(no_mangle)]
-pub extern "C" fn ngt_summary_build(
+pub fn ngt_summary_build(
     image: &[u8; 144],
     vol: &[u8],
     sum: &mut [u8],
@@ -41,8 +39,7 @@ pub extern "C" fn ngt_summary_build(
 }
 
 // One nugget's path.
-#[unsafe(no_mangle)]
-pub extern "C" fn ngt_summary_renew(
+pub fn ngt_summary_renew(
     image: &[u8; 144],
     vol: &[u8],
     sum: &mut [u8],
@@ -59,8 +56,7 @@ pub extern "C" fn ngt_summary_renew(
 }
 
 // "A report from the top entry".
-#[unsafe(no_mangle)]
-pub extern "C" fn ngt_summary_report(
+pub fn ngt_summary_report(
     image: &[u8; 144],
     vol: &[u8],
     sum: &[u8],
