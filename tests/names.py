@@ -17,13 +17,18 @@ STATED = re.compile(r"^ *(?:pub |abbrev |unfoldable )*(?:([^\s:(){}]+) :(?= |$)|
 WRITTEN = re.compile(r"\b(?:fn|struct|enum|const|mod) (\w+)|^    (?:pub )?([A-Za-z]\w*)(?:\(.*\)|: .*| \{.*)?,$", re.M)
 
 
+def kept(folder, name):
+    """The files below a folder, but for what the toolchain makes in a crate's out/."""
+    return (path for path in folder.rglob(name) if "out" not in path.parts)
+
+
 def declared():
     """Name to the crates that declare it."""
     names = {}
     for crate, folder in CRATES.items():
-        for path in folder.rglob("*.antt"):
+        for path in kept(folder, "*.antt"):
             names.setdefault(path.stem, set()).add(crate)
-        for path in (*folder.rglob("*.antt"), *folder.rglob("*.rt")):
+        for path in (*kept(folder, "*.antt"), *kept(folder, "*.rt")):
             for found in (STATED if path.suffix == ".antt" else WRITTEN).finditer(path.read_text()):
                 names.setdefault(found.group(1) or found.group(2), set()).add(crate)
     return names
@@ -31,7 +36,7 @@ def declared():
 
 def sources():
     """All that is said outside of the pages, as one text."""
-    paths = [pathlib.Path("Makefile"), *(path for top in ("crates", "include", "host", "second", "tests", "bench") for path in pathlib.Path(top).rglob("*"))]
+    paths = [pathlib.Path("Makefile"), *(path for top in ("crates", "include", "host", "second", "tests", "bench") for path in kept(pathlib.Path(top), "*"))]
     return "\n".join(path.read_text() for path in paths if path.suffix in (".antt", ".rt", ".c", ".h", ".py", ".sh", ".mk", "") and path.is_file()
                      and path.name not in ("stdin", "names.py"))
 
