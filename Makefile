@@ -10,17 +10,14 @@ bench:
 
 sheet:
 	@tests/needs.sh
-	@rt check sheet
 	@tests/run_built.sh sheet < crates/sheet/stdin
 
 audit:
 	@tests/needs.sh
-	@rt check audit
 	@tests/run_built.sh audit < crates/audit/stdin
 
 fleet:
 	@tests/needs.sh
-	@rt check fleet
 	@tests/run_built.sh fleet < crates/fleet/stdin
 
 # The library, the tool and the block device. FOR names the processor, this machine's if nothing is said; a library for another one
@@ -31,7 +28,7 @@ FOR ?= $(shell uname -m)
 MADE := target/hosts/$(FOR)
 CROSS := $(if $(filter-out $(shell uname -m),$(FOR)),$(FOR)-linux-gnu-)
 HOST_CC := $(CROSS)gcc -std=c11 -D_GNU_SOURCE -O2 -Wall -Wextra -Werror -fPIC -Iinclude
-PROVED := crates.txt $(shell find crates -name '*.rt' -o -name '*.antt')
+PROVED := crates.txt $(shell find crates -name out -prune -o \( -name '*.rt' -o -name '*.antt' \) -print)
 COMMON := $(wildcard host/common/*.c)
 TOOL := $(wildcard host/ngt/*.c)
 DEVICE := $(wildcard host/nbdkit/*.c)

@@ -2,7 +2,6 @@
 with numbers at their tops; the fullest volumes; a drive at 100.00 before and after its finish; and drives well sealed over
 records that are ill formed. All in either version and under either cipher.
 
-Run after `rt check audit`.
 """
 import inputs
 import audit

@@ -2,7 +2,7 @@
 
 Lines of real reports; each byte of a line changed; leading zeros, carriage returns, spaces, empty lines; numbers at and past what
 a volume can hold, and far past 64 bits; 255 to 258 lines; ties; fractions that round to one share; no newline at the end; no
-input. Run after `rt check fleet`. NGT_SEED sets the seed; a failure prints it with the smallest case.
+input. NGT_SEED sets the seed; a failure prints it with the smallest case.
 """
 import ctypes
 import random

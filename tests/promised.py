@@ -3,6 +3,7 @@
 The theorem stands in the crate's proofs/Outcomes.antt under the function's name, behind that of its module. It has
 to be stated over what the checker made of the function itself, so that a weaker `ensures` doesn't meet it; a copy
 of the words won't do. The checker proves it; this looks that none is missing and each is about its function.
+Crate NAME_c passes functions of NAME on to C; each has to have the words of the function that it calls.
 """
 import pathlib
 import re
@@ -12,10 +13,8 @@ import sys
 PRINTS = "its functions print, and no contract can say what is written"
 PROGRAMS = {"vectors": PRINTS, "vectors_aes": PRINTS}
 
-BASE = "use Rattle·base.specs.Outcome.{"
-CLAIM = "\nclaim P read same = AllOf (read w₀ .owes)\n"
-BY_HAND = "(w .𝓤) (w .H) (w .𝓖 .A) (w .𝓜 .mem) (w .𝓡 .run) κs a .ensures tt r e) (λ w. r-last _) (λ w. refl)"
-SHOWN = "(λ κs. (ℕ × ℕ) × List ℕ) (λ κs r. (ptr r, now r))"
+BASE = "use Rattle.base.specs.Outcome.{"
+SHOWN = "(λ κs. (ℕ × ℕ) × List ℕ) (λ κs r. (r.ref_ptr, r.now))"
 
 
 def functions(crate):
@@ -35,25 +34,37 @@ def said(page, name, ends):
 
 def is_promised(page, path, hands_back):
     """Whether the page has the theorem of this function."""
-    name, module = "-".join(path).replace("_", "-"), f"fn.{'.'.join(path)}"
-    promise = f"{module}.Reads.Post"
-    if f"abbrev {name}-post : Promise {module}.ended\n" in page:
-        claim = said(page, f"{name}-post κs a r e =", r"\n")
-        promise = f"{name}-post" if CLAIM in page and claim == f"claim (λ w. {module}.clauses {BY_HAND}" else None
-    kind = f"OneSeen {module}.ended {SHOWN}" if hands_back else f"OneOutcome {module}.ended"
-    return said(page, f"pub {name} :", f"{name} ") == f"{kind} {promise}"
+    name, module = "_".join(path), ".".join(path)
+    kind = f"OneSeen said.{module}.ended {SHOWN}" if hands_back else f"OneOutcome said.{module}.ended"
+    return said(page, f"pub {name} :", f"{name} ") == f"{kind} fn.{module}.Reads.Post"
+
+
+def stated(crate):
+    """Each export of a crate, or each function of the library that it passes on: its parameters, result and clauses."""
+    for source in sorted((crate / "src").rglob("*.rt")):
+        for found in re.finditer(r'^pub (?:extern "C" )?fn (\w+)(.*?)^\{', source.read_text(), re.M | re.S):
+            yield (source.name, found.group(1)), " ".join(found.group(2).split())
+
+
+def passed_on(crate):
+    """The functions of a crate of exports, and those that don't have the very words of the library's function of their name."""
+    of_library = dict(stated(crate.with_name(crate.name.removesuffix("_c"))))
+    exports = dict(stated(crate))
+    return len(exports), [name for (file, name), words in exports.items() if of_library.get((file, name)) != words]
 
 
 def lacking(crate):
     """The public functions of a crate, and those that have no theorem."""
+    if crate.name.endswith("_c"):
+        return passed_on(crate)
     every = list(functions(crate))
     if not every or (crate.name in PROGRAMS and (crate / "src" / "main.rt").exists()):
         return 0, []
     outcomes, root = crate / "proofs" / "Outcomes.antt", crate / "proofs" / "Lib.antt"
     page = outcomes.read_text() if outcomes.exists() else ""
     checked = root.exists() and "pub mod Outcomes\n" in root.read_text()
-    stated = BASE in page and f"use Rattle·{crate.name}·proofs.proofs as fn\n" in page
-    if not (checked and stated):
+    cited = (BASE, f"use Rattle.{crate.name}.proofs as fn\n", f"use Rattle.{crate.name}.specs.contracts as said\n")
+    if not checked or not all(line in page for line in cited):
         return len(every), ["::".join(path) for path, _ in every]
     return len(every), ["::".join(path) for path, hands_back in every if not is_promised(page, path, hands_back)]
 

@@ -17,7 +17,7 @@ def is_stale(shared):
     if not shared.exists():
         return True
     made = shared.stat().st_mtime
-    return any(path.stat().st_mtime >= made for path in (*(ROOT / "crates").rglob("*"), ROOT / "crates.txt", *MAKERS))
+    return any(path.stat().st_mtime >= made for path in (*(path for path in (ROOT / "crates").rglob("*") if "out" not in path.parts), ROOT / "crates.txt", *MAKERS))
 
 
 def build(crate, shared):

@@ -1,16 +1,23 @@
 #!/usr/bin/env bash
-# Runs a built program of target/bin on its standard input: tests/run_built.sh NAME [ARGUMENT ..]
-# Programs are for x86-64 and run under the toolchain's own loader and C library; another processor runs them in an emulator.
+# Runs a proved program on its standard input: tests/run_built.sh NAME [ARGUMENT ..]
+# `rt run` builds it as crates/NAME/out/NAME; one that is there and younger than every source is taken as it is.
 set -euo pipefail
-kit=$(dirname "$(dirname "$(rt doc)")")
-machine=$(uname -m)
-tools=$kit/on/$machine/toolchain
-program=$(cd "$(dirname "$0")/.." && pwd)/target/bin/$1
+cd "$(dirname "$0")/.."
+name=$1 program=crates/$1/out/$1
 shift
-[ -x "$program" ] || { echo "$program isn't built: rt check builds it" >&2; exit 1; }
-emulator=()
-if [ "$machine" != x86_64 ]; then
-    command -v qemu-x86_64 >/dev/null || { echo "qemu-x86_64 isn't here (Debian package qemu-user)" >&2; exit 1; }
-    emulator=(qemu-x86_64)
+
+is_young() {
+    [ -x "$program" ] && [ -z "$(find crates crates.txt -name out -prune -o -type f -newer "$program" -print -quit)" ]
+}
+
+if ! is_young; then
+    mkdir -p target/run
+    exec 9>"target/run/$name.lock"
+    flock 9
+    if ! is_young; then
+        (cd "crates/$name" && rt run </dev/null) >"target/run/$name.log" 2>&1 9>&- || { tail -n 20 "target/run/$name.log" >&2; exit 1; }
+        touch "$program"
+    fi
+    exec 9>&-
 fi
-exec "${emulator[@]}" "$tools/lib/ld-linux-x86-64.so.2" --library-path "$tools/lib" "$program" "$@"
+exec "$program" "$@"

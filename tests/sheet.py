@@ -1,7 +1,6 @@
 """The built sheet against the second program's: good inputs, wrong secrets and counters, every length that decides,
 and one flipped bit in each part of the volume and of each byte of the head.
 
-Run after `rt check sheet`.
 """
 import inputs
 import sheet
