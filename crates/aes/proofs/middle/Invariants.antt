@@ -1,0 +1,12 @@
+use mathlib.Core.Path.{◌≡◌}
+use Prim.Native.Nat.{◌≤◌, ◌-◌}
+use Rattle.aes.specs.Aes.{rounds}
+use Rattle.aes.specs.Code.{state_bytes}
+use Rattle.aes.proofs.middle.Given as goal
+
+-- One round a turn.
+abbrev pub invariant-loop-n : goal.invariant-loop-n
+invariant-loop-n l = (l.n ≤ 13) × (state_bytes l.x ≡ rounds l.w l.n (state_bytes l.initial.x))
+
+abbrev pub decreases-loop-n : goal.decreases-loop-n
+decreases-loop-n l = 13 - l.n
