@@ -1,5 +1,5 @@
 -- Steps that every walk uses, whatever it walks.
---     twice      a shared slice is had twice: one for the callee, one for the exit
+--     twice      a shared slice is had twice, given its elements' row laws: one for the callee, one for the exit
 --     told       what a callee promises, once the call has returned
 --     at         the place of a local
 --     lent-on    a `&mut [u8]` is lent on to the callee
@@ -9,7 +9,7 @@ use mathlib.Core.Path.{◌≡◌, refl, sym, subst}
 use Prim.Native.Nat.{ℕ, zero}
 use mathlib.Core.List.{[], ◌∷◌, List}
 use seplogic.Ra.Ura.{Ura}
-use seplogic.Ra.TreeShare.{full_share}
+use base.Fraction.{full_share}
 use lib.ListN.{length}
 use mir.Syntax.{Fn, Lifetime, Ty, named, erased, w8, mut, ty_ref, ty_int, Step as PStep, deref, field, place, copy, addr_of, aggregate, Body as Code, seq, assign}
 use mir.Val.{Val, vptr}
@@ -17,14 +17,14 @@ use base.Logic.{ent, sep, via, id⊢, mono∗, mono_r}
 use base.Fml.{Lft, fat, froom, fdies}
 use prog.Wp.{Calls, Loops, WpFn, Closed, Env, Spot, spot_of}
 use prog.Model.{Model}
-use prog.Routine.{Name, Env as Names}
+use prog.Routine.{Callee, Env as Names}
 use types.Logic.{Logic}
 use contract.Running.{Running, tables, tables_of}
 use types.Kit.{Goal, runs, frees, Post, Item, ‵, raw, some, later, ◌⊛◌, ◌$◌, Soaks, Seq, Step, step, move, use1, split, pick, await, mean, ⋆, nth, del, pull, push}
 use types.Run.{Walks as Ways, Finds, look, init, stop, hop, fld, from, load, addr, and_then, no_more, assigns, free1}
 use types.Part.{agg, whole, sub, look_in}
 use sound.WpLaws.{FmC, fm_of, WpFn-mono}
-use denote.RattleType.{RattleType}
+use denote.RattleType.{RattleType, RowLaws}
 use denote.Builtin.{u8}
 use denote.Ref.{Bor}
 use denote.Slice.{slice_ty, slice_val, Room, ShrSlice, shr_slice_vals, shr_slice_copy}
@@ -37,9 +37,9 @@ use denote.Triple.Table.{entered}
 use denote.Triple.Walked.{Stays, AllGo, Walks, walk_Meets}
 
 module _ {M : Type 1} {𝓤 : Ura M} {𝓛 : Logic 𝓤} {K : Type 0} {Γ : List (Item 𝓤)} {G : Goal 𝓤 𝓛.H} where
-  pub twice : K → (R : RattleType) (ℓ : Lifetime) (κ : Lft) (x : Bor (List R.Denot))
+  pub twice : K → (R : RattleType) (L : RowLaws R) (ℓ : Lifetime) (κ : Lft) (x : Bor (List R.Denot))
       → Step K 𝓛 (‵ ((ShrSlice ℓ κ R).own_val x (shr_slice_vals x)) ∷ ‵ ((ShrSlice ℓ κ R).own_val x (shr_slice_vals x)) ∷ Γ) G (‵ ((ShrSlice ℓ κ R).own_val x (shr_slice_vals x)) ∷ Γ) G
-  twice t R ℓ κ x = step (λ s. use1 𝓛 (‵ ((ShrSlice ℓ κ R).own_val x (shr_slice_vals x)) ⊛ ‵ ((ShrSlice ℓ κ R).own_val x (shr_slice_vals x))) ((shr_slice_copy 𝓛 ℓ κ R).twice x (shr_slice_vals x)) $ split t $ s)
+  twice t R L ℓ κ x = step (λ s. use1 𝓛 (‵ ((ShrSlice ℓ κ R).own_val x (shr_slice_vals x)) ⊛ ‵ ((ShrSlice ℓ κ R).own_val x (shr_slice_vals x))) ((shr_slice_copy 𝓛 ℓ κ R L).twice x (shr_slice_vals x)) $ split t $ s)
 
   pub told : K → Soaks G → (S : Ended) (c : Clauses 𝓤 S) (y : (triple_of 𝓛 S.signature (closing 𝓛 S c)).Ghost) {v : Val}
       → ((r : Res S.signature y.0.0) (ws : Lasts S y.0.0 y.0.3)
@@ -83,7 +83,7 @@ module _ {M : Type 1} {𝓤 : Ura M} {𝓛 : Logic 𝓤} {K : Type 0} {Γ : List
         (via 𝓤 (⋆ 𝓛 (‵ (froom τ b zero) ∷ ‵ (fdies τ b) ∷ del 𝓛 n (del 𝓛 n Γ))) (mono_r 𝓤 (H.room τ b zero) (push 𝓛 (‵ (fdies τ b)) (del 𝓛 n (del 𝓛 n Γ)))) (free1 t $ s).prf));
   })
 
-module _ {M : Type 1} {𝓤 : Ura M} (𝓛 : Logic 𝓤) (𝓜 : Model 𝓤 𝓛.H) (𝓡 : Running 𝓤 𝓛.H 𝓜) (S : Ended) (hs : Stays S.signature.params S.kept) (c : Clauses 𝓤 S) (γ : Names) (k : Name) (f : Fn) where
+module _ {M : Type 1} {𝓤 : Ura M} (𝓛 : Logic 𝓤) (𝓜 : Model 𝓤 𝓛.H) (𝓡 : Running 𝓤 𝓛.H 𝓜) (S : Ended) (hs : Stays S.signature.params S.kept) (c : Clauses 𝓤 S) (γ : Names) (k : Callee) (f : Fn) where
   open 𝓛 use {H}
 
   pub proves : AllGo 𝓛 S.signature.lifetimes S.signature.params S.kept hs → Closed 𝓤 H (tables 𝓤 H 𝓜 𝓡 γ).C (tables 𝓤 H 𝓜 𝓡 γ).Λ k f
