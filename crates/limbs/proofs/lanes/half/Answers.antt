@@ -1,0 +1,9 @@
+use mathlib.Core.Path.{sym}
+use native.Mathlib.Omega.{arith}
+use Rattle.words.proofs.LeLaws.{num-split}
+use Rattle.limbs.proofs.lanes.half.Goals as goal
+
+pub returns : goal.returns
+returns c =
+    let a = c.args in
+    rw (c.load32-a.ensures, c.load32-b.ensures) (sym (num-split a.m.now a.at 4 4 (omega arith)))

@@ -1,0 +1,11 @@
+use mathlib.Core.Path.{◌≡◌}
+use Prim.Native.Nat.{ℕ, ◌-◌, ◌<◌, ◌≤◌}
+use lib.ListN.{length}
+use Rattle.limbs.specs.Lanes.{lane_of}
+use Rattle.limbs.proofs.lanes.level.Given as goal
+
+abbrev pub invariant-loop-l : goal.invariant-loop-l
+invariant-loop-l l = (l.l ≤ 4) × (length l.h ≡ 20) × ((j : ℕ) → j < l.l → lane_of l.h j ≡ l.x)
+
+abbrev pub decreases-loop-l : goal.decreases-loop-l
+decreases-loop-l l = 4 - l.l
