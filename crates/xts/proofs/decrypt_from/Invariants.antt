@@ -1,0 +1,14 @@
+use mathlib.Core.Path.{◌≡◌}
+use Prim.Native.Nat.{◌≤◌, ◌-◌}
+use lib.ListN.{length}
+use Rattle.aes_back.specs.InvAes.{eq_inv_cipher}
+use Rattle.xts.proofs.SectorCode.{Left, length-inverse}
+use Rattle.xts.proofs.decrypt_from.Given as goal
+
+-- One block a turn.
+abbrev pub invariant-loop-j : goal.invariant-loop-j
+invariant-loop-j l =
+    (l.j ≤ 32) × (length l.d ≡ 512) × (length l.x ≡ 16) × Left (eq_inv_cipher l.dw) (length-inverse l.dw) l.initial.x l.initial.d l.j l.x l.d
+
+abbrev pub decreases-loop-j : goal.decreases-loop-j
+decreases-loop-j l = 32 - l.j
