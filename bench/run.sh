@@ -6,7 +6,7 @@ bash tests/needs.sh
 made=target/bench
 mkdir -p "$made"
 machine=$(uname -m)
-compiler=$(dirname "$(dirname "$(rt doc)")")/on/$machine/toolchain/bin/clang
+compiler=$(dirname "$(rt doc)")/toolchain/bin/clang
 own=-march=native
 [ "$machine" = x86_64 ] || own=-mcpu=native
 

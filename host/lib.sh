@@ -9,11 +9,11 @@ archive=target/staticlib/libngt.a module=target/staticlib/ngt.bc
 
 # What is newer than all that it is made of is taken as it is: making it proves the crate once more.
 is_new() {
-    [ -e "$1" ] && [ -z "$(find crates crates.txt -newer "$1" -print -quit)" ]
+    [ -e "$1" ] && [ -z "$(find crates crates.txt -name out -prune -o -type f -newer "$1" -print -quit)" ]
 }
 
 if [ "$machine" = x86_64 ]; then
-    bash tests/archive.sh ngt
+    tests/archive.sh ngt
     cp "$archive" "$out"
     exit 0
 fi
@@ -21,7 +21,7 @@ mkdir -p target/staticlib
 is_new "$module" || bash tests/module.sh ngt "$module"
 made=$(mktemp -d)
 trap 'rm -rf "$made"' EXIT
-kit=$(dirname "$(dirname "$(rt doc)")")
-"$kit/on/$(uname -m)/toolchain/bin/clang" --target="$machine-unknown-linux-gnu" -O3 -fPIC -Wno-override-module -c -x ir "$module" -o "$made/ngt.o" 2>"$made/said" || { cat "$made/said"; exit 1; }
+kit=$(dirname "$(rt doc)")
+"$kit/toolchain/bin/clang" --target="$machine-unknown-linux-gnu" -O3 -fPIC -Wno-override-module -c -x ir "$module" -o "$made/ngt.o" 2>"$made/said" || { cat "$made/said"; exit 1; }
 rm -f "$out"
 ar rcs "$out" "$made/ngt.o"

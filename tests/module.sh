@@ -1,30 +1,32 @@
 #!/usr/bin/env bash
 # module.sh CRATE OUT: the very module that the toolchain compiles into the crate's archive, kept as it is handed to the compiler.
+# What C calls of a library stands in a crate CRATE_c of its own.
 set -euo pipefail
-crate=$1 out=$2
-machine=$(uname -m)
-kit=$(dirname "$(dirname "$(rt doc)")")
+cd "$(dirname "$0")/.."
+crate=$1 out=$(realpath "$2")
+[ ! -d "crates/${crate}_c" ] || crate=${crate}_c
+kit=$(dirname "$(rt doc)")
 mine=$(mktemp -d)
 trap 'rm -rf "$mine"' EXIT
-mkdir -p "$mine/kit/on/$machine/toolchain/bin"
 
-# everything in the folder but one name
+# everything in the folder but some names
 all_but() {
     local part
-    for part in "$kit/$2"/*; do
-        [ "$(basename "$part")" = "$1" ] || ln -s "$part" "$mine/kit/$2/"
+    mkdir -p "$mine/kit/$1"
+    for part in "$kit/$1"/*; do
+        [[ " ${*:2} " == *" $(basename "$part") "* ]] || ln -s "$part" "$mine/kit/$1/"
     done
 }
-all_but on .
-all_but toolchain "on/$machine"
-all_but bin "on/$machine/toolchain"
-all_but clang "on/$machine/toolchain/bin"
-compiler=$kit/on/$machine/toolchain/bin/clang
-cat >"$mine/kit/on/$machine/toolchain/bin/clang" <<KEEP
+all_but . bin toolchain
+all_but bin rt rtlib.py
+cp "$kit/bin/rt" "$kit/bin/rtlib.py" "$mine/kit/bin/" # they find the kit by where they lie
+all_but toolchain bin
+all_but toolchain/bin clang
+cat >"$mine/kit/toolchain/bin/clang" <<KEEP
 #!/usr/bin/env bash
 for word in "\$@"; do case \$word in *.bc) cp "\$word" "$mine/module.bc" ;; esac; done
-exec "$compiler" "\$@"
+exec "$kit/toolchain/bin/clang" "\$@"
 KEEP
-chmod +x "$mine/kit/on/$machine/toolchain/bin/clang"
-RATTLE_HOME=$mine/kit rt staticlib "$crate"
+chmod +x "$mine/kit/toolchain/bin/clang"
+(cd "crates/$crate" && "$mine/kit/bin/rt" lib)
 cp "$mine/module.bc" "$out"
