@@ -1,11 +1,11 @@
 -- Under the words of the keys: what the loops did is the sectors under the keys.
-use mathlib.Core.Path.{◌≡◌, refl, ap, ap₂, sym, ◌∙◌}
+use mathlib.Core.Path.{◌≡◌, ap, ap₂, ◌∙◌}
 use mathlib.Core.List.{List}
 use Prim.Native.Nat.{ℕ, ◌/◌}
 use lib.ListN.{length}
 use Rattle.aes.specs.Aes.{cipher, key_expansion, aes256}
 use Rattle.aes.proofs.StateLaws.{length-cipher}
-use Rattle.aes_back.specs.InvAes.{eq_inv_cipher, key_expansion_eic, inv_aes256}
+use Rattle.aes_back.specs.InvAes.{eq_inv_cipher, key_expansion_eic}
 use Rattle.aes_back.proofs.EquivalentLaws.{equivalent_key}
 use Rattle.xts.specs.Xts.{over_blocks, tweak_under, sector_by, xts_encrypted, xts_decrypted, over_sectors}
 use Rattle.xts.proofs.SectorCode.{long-blocks, length-inverse}

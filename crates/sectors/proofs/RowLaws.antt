@@ -1,11 +1,11 @@
 -- Sectors in a row through any function of number and sector: one sector a turn, and a part of the row by its own sectors.
 use mathlib.Core.Path.{◌≡◌, refl, ap, ap₂, sym, subst, ◌∙◌}
-use mathlib.Core.List.{List, [], ◌∷◌, ◌++◌, append_assoc, append-nil}
+use mathlib.Core.List.{List, ◌++◌, append_assoc, append-nil}
 use Prim.Native.Nat.{ℕ, zero, suc, ◌+◌, ◌-◌, ◌*◌, ◌/◌, ◌%◌, ◌<◌, ◌≤◌}
 use native.Mathlib.Numerals.{add-one}
 use native.Mathlib.Omega.{arith}
 use borrow.Rule.Slice.PartMut.{put_mid}
-use lib.ListN.{length, take, drop, length-append, length-drop}
+use lib.ListN.{length, take, drop, length-append}
 use lib.Seq.{take_at, drop_at, sets, sets-eq, drop-drop, take-take, take-append-add, drop-append-add, length-take-le, take_all, length-sets}
 use Rattle.base.specs.Lists.{part}
 use Rattle.base.proofs.PartLaws.{back, part_to, part-front}
