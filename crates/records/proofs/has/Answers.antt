@@ -1,0 +1,12 @@
+use mathlib.Core.Path.{refl, sym}
+use native.Mathlib.Omega.{arith}
+use Rattle.records.specs.Journal.{bit}
+use Rattle.records.proofs.BitLaws.{none_above}
+use Rattle.records.proofs.has.Goals as goal
+
+pub returns-then-f-lt64 : goal.returns-then-f-lt64
+unfolding bit
+returns-then-f-lt64 c = refl
+
+pub returns-else-f-lt64 : goal.returns-else-f-lt64
+returns-else-f-lt64 c = sym (none_above 64 c.args.journal c.args.f (omega arith) c.if-f-lt64.false)
