@@ -1,7 +1,6 @@
 -- Each answer is read back from its image.
 use mathlib.Core.Path.{◌≡◌, refl, ap, ◌∙◌}
-use Prim.Native.Nat.{ℕ}
-use Rattle.codec.specs.Row.{Values, AllFit, row_in}
+use Rattle.codec.specs.Row.{Values, AllFit}
 use Rattle.answers.specs.declared.Answer.{Answer}
 use Rattle.answers.specs.declared.Answer.TheVariants as A
 use Rattle.answers.specs.declared.Place.TheVariants as P
