@@ -1,23 +1,19 @@
 -- RFC 8439 2.8's layout, read back from its end: the lengths stand there, and tell where associated data and text lie.
 use mathlib.Core.Path.{◌≡◌, refl, sym, ap, ap₂, ◌∙◌}
-use mathlib.Core.Bool.{false}
-use mathlib.Core.List.{List, [], ◌∷◌, ◌++◌, append_assoc}
+use mathlib.Core.List.{List, ◌++◌, append_assoc}
 use Prim.Native.Nat.{ℕ, ◌+◌, ◌-◌, ◌%◌, ◌^◌, ◌<◌, ◌≤◌}
 use native.Mathlib.Omega.{arith}
 use lib.Dec.{lit<}
 use lib.ListN.{length, length-append, take, drop, replicate, length-replicate}
 use lib.Seq.{sets, take_at, drop_at, take_all, drop-append-le}
 use Rattle.base.specs.Lists.{part}
-use Rattle.base.specs.Pick.{pick}
 use Rattle.base.proofs.PartLaws.{sets-front, drop-replicate}
 use Rattle.base.proofs.PickLaws.{no}
 use Rattle.words.specs.Le.{num, le}
 use Rattle.words.proofs.LeLaws.{num-le, length-le}
-use Rattle.messages.specs.Messages.{is_first}
 use Rattle.poly1305.specs.Poly1305.{poly1305}
 use Rattle.keys.specs.declared.Lock.{Lock}
-use Rattle.keys.specs.Pads.{Size}
-use Rattle.keys.specs.Tags.{pad16, laid_out, named, covered, LaidOutTold, LaidOutEven, Names, SameNamed, TagNames}
+use Rattle.keys.specs.Tags.{pad16, laid_out, named, covered, LaidOutTold, LaidOutEven, TagNames}
 
 length-pad16 : (l : List ℕ) → length (pad16 l) ≡ (16 - length l % 16) % 16
 unfolding pad16
