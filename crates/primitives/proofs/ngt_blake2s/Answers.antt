@@ -1,0 +1,7 @@
+use mathlib.Core.Path.{◌∙◌}
+use Rattle.primitives.proofs.Laws.{hashed}
+use Rattle.primitives.proofs.ngt_blake2s.Goals as goal
+
+pub returns : goal.returns
+returns c =
+    c.finish.ensures ∙ hashed _ c.absorb-t.ensures c.start-s.ensures
