@@ -1,3 +1,4 @@
+-- Four words, one after the other.
 use mathlib.Core.Path.{refl}
 use Rattle.aes.proofs.StateLaws.{stored}
 use Rattle.aes.proofs.bytes.Goals as goal

@@ -1,3 +1,4 @@
+-- A key, thirteen rounds, the last round.
 use mathlib.Core.Path.{◌∙◌}
 use Rattle.words.proofs.LeLaws.{owned_bytes}
 use Rattle.aes.proofs.RoundLaws.{cipher_code}

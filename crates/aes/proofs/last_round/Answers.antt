@@ -1,3 +1,4 @@
+-- Four columns, not mixed.
 use Rattle.aes.proofs.RoundLaws.{last_round_code}
 use Rattle.aes.proofs.last_round.Goals as goal
 

@@ -1,3 +1,4 @@
+-- Four words.
 use Rattle.aes.proofs.load.Goals as goal
 
 pub returns : goal.returns

@@ -1,3 +1,4 @@
+-- Four entries, three of them turned.
 use Rattle.aes.specs.Code.{looked_up}
 use Rattle.aes.proofs.looked_up.Goals as goal
 

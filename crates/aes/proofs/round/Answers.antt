@@ -1,3 +1,4 @@
+-- Four columns.
 use Rattle.aes.proofs.RoundLaws.{round_code}
 use Rattle.aes.proofs.round.Goals as goal
 

@@ -1,3 +1,4 @@
+-- Four bytes of the table, added up.
 use Rattle.aes.proofs.RoundLaws.{rows_code}
 use Rattle.aes.proofs.rows.Goals as goal
 

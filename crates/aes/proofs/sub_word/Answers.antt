@@ -1,3 +1,4 @@
+-- One word in all four places.
 use mathlib.Core.Path.{◌∙◌}
 use Rattle.aes.proofs.RoundLaws.{sub_word_code}
 use Rattle.aes.proofs.sub_word.Goals as goal

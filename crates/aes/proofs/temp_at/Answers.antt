@@ -1,3 +1,4 @@
+-- Three cases.
 use Rattle.aes.proofs.KeyLaws.{temp_0, temp_4, temp_n}
 use Rattle.aes.proofs.temp_at.Goals as goal
 

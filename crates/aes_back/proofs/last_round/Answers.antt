@@ -1,3 +1,4 @@
+-- Four columns, not mixed.
 use Rattle.aes_back.proofs.InvRoundLaws.{last_round_code}
 use Rattle.aes_back.proofs.last_round.Goals as goal
 

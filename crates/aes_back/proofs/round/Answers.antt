@@ -1,3 +1,4 @@
+-- Four columns.
 use Rattle.aes_back.proofs.InvRoundLaws.{round_code}
 use Rattle.aes_back.proofs.round.Goals as goal
 

@@ -1,3 +1,4 @@
+-- Four bytes of the table, loaded as a word.
 use mathlib.Core.Path.{◌∙◌}
 use Rattle.aes_back.proofs.InvRoundLaws.{rows_code}
 use Rattle.aes_back.proofs.rows.Goals as goal

@@ -1,3 +1,4 @@
+-- The equivalent inverse cipher is the inverse cipher.
 use mathlib.Core.Path.{ap, ◌∙◌}
 use mathlib.Core.List.{List}
 use Prim.Native.Nat.{ℕ}

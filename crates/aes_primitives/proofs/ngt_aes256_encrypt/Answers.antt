@@ -1,3 +1,4 @@
+-- The words of the key, and the table.
 use mathlib.Core.Path.{ap, ◌∙◌}
 use mathlib.Core.List.{List}
 use Prim.Native.Nat.{ℕ}

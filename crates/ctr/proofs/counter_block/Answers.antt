@@ -1,3 +1,4 @@
+-- Four words, turned.
 use Rattle.std.proofs.Common.{◌∙◌}
 use Rattle.ctr.proofs.CounterLaws.{counter_is}
 use Rattle.ctr.proofs.counter_block.Goals as goal

@@ -1,3 +1,4 @@
+-- The words of the key, and the table.
 use Rattle.std.proofs.Common.{ℕ, List, ap, ◌∙◌}
 use Rattle.ctr.specs.Ctr.{laid_under, counter_mode}
 use Rattle.ctr.proofs.lay.Goals as goal

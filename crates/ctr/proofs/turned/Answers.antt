@@ -1,3 +1,4 @@
+-- Four bytes, added up.
 use Rattle.std.proofs.Common.{arith}
 use Rattle.ctr.proofs.CounterLaws.{turned_is}
 use Rattle.ctr.proofs.turned.Goals as goal

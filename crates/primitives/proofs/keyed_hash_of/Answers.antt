@@ -1,3 +1,4 @@
+-- Three calls; the hash of the pieces is the hash of the message, for a key of 32 bytes.
 use mathlib.Core.Path.{◌∙◌}
 use Rattle.primitives.proofs.Laws.{hashed-keyed}
 use borrow.Author.Rules.{rules}

@@ -1,3 +1,4 @@
+-- Three calls; the hash of the pieces is the hash of the message.
 use mathlib.Core.Path.{◌∙◌}
 use Rattle.primitives.proofs.Laws.{hashed}
 use Rattle.primitives.proofs.ngt_blake2s.Goals as goal

@@ -1,3 +1,4 @@
+-- Three calls; the tag of the pieces is the tag of the message, for a key of 32 bytes.
 use mathlib.Core.Path.{◌∙◌}
 use Rattle.poly1305.proofs.StateLaws.{start-good}
 use Rattle.primitives.proofs.Laws.{tag-good, tagged}

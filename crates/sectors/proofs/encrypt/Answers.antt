@@ -1,3 +1,4 @@
+-- Both keys expanded, and the sectors under their words.
 use Rattle.sectors.proofs.KeyLaws.{encrypted_is}
 use Rattle.sectors.proofs.encrypt.Goals as goal
 

@@ -1,3 +1,4 @@
+-- The tweak before and behind the cipher.
 use Rattle.aes_back.specs.InvAes.{eq_inv_cipher}
 use Rattle.xts.proofs.SectorCode.{block_is}
 use Rattle.xts.proofs.decrypt_block.Goals as goal

@@ -1,3 +1,4 @@
+-- Both expansions, the tweak, 32 blocks.
 use Rattle.xts.proofs.SectorCode.{sector_back_is}
 use Rattle.xts.proofs.decrypt_sector.Goals as goal
 

@@ -1,3 +1,4 @@
+-- The tweak before and behind the cipher.
 use Rattle.aes.specs.Aes.{cipher}
 use Rattle.xts.proofs.SectorCode.{block_is}
 use Rattle.xts.proofs.encrypt_block.Goals as goal

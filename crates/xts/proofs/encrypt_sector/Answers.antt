@@ -1,3 +1,4 @@
+-- Both expansions, the tweak, 32 blocks.
 use Rattle.xts.proofs.SectorCode.{sector_is}
 use Rattle.xts.proofs.encrypt_sector.Goals as goal
 

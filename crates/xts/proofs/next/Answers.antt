@@ -1,3 +1,4 @@
+-- Four words, each with what the one before hands on.
 use mathlib.Core.Path.{◌∙◌}
 use native.Mathlib.Omega.{arith}
 use Rattle.xts.proofs.AlphaLaws.{next_is}

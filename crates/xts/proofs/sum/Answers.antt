@@ -1,3 +1,4 @@
+-- Column by column.
 use mathlib.Core.Path.{◌∙◌}
 use Rattle.words.proofs.LeLaws.{owned_bytes}
 use Rattle.xts.proofs.SectorCode.{sum_is}

@@ -1,3 +1,4 @@
+-- On the four words of the tweak.
 use mathlib.Core.Path.{ap, ◌∙◌}
 use Rattle.words.proofs.LeLaws.{owned_bytes}
 use Rattle.aes.specs.Code.{state_bytes}

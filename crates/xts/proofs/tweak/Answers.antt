@@ -1,3 +1,4 @@
+-- The number, lowest byte first, and zeros.
 use Rattle.xts.proofs.SectorCode.{tweak_is}
 use Rattle.xts.proofs.tweak.Goals as goal
 
