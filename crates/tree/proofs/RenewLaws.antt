@@ -1,7 +1,7 @@
 -- A path renewed: what stands, and what is left to renew.
 use mathlib.Core.Path.{◌≡◌}
 use mathlib.Core.List.{List}
-use Prim.Native.Nat.{ℕ, ◌+◌, ◌*◌, ◌<◌}
+use Prim.Native.Nat.{ℕ, ◌<◌}
 use native.Mathlib.Omega.{arith}
 use Rattle.heaps.proofs.HeapLaws as Heaps
 use Rattle.layout.specs.Shape.{leaves}

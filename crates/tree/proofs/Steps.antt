@@ -17,10 +17,10 @@ use Rattle.answers.specs.Numbers.{accepts}
 use Rattle.records.specs.Record.{record_of, well_formed}
 use Rattle.records.specs.declared.Record.{Record}
 use Rattle.records.specs.declared.Gauge.{Gauge}
-use Rattle.nodes.specs.Made.{good_node, store_node}
+use Rattle.nodes.specs.Made.{good_node}
 use Rattle.tree.specs.Path.{good_record, climbed, path_of, Rises}
 use Rattle.tree.specs.Whole.{records_from, nugget_leaf, bad_of, worst, at_node, whole_of}
-use Rattle.tree.specs.Renewed.{stored_up, renewed, stored_down}
+use Rattle.tree.specs.Renewed.{stored_up, renewed}
 use Rattle.tree.proofs.Heights.{rises-leaf}
 use Rattle.layout.specs.Shaped.{Shaped}
 use Rattle.layout.proofs.Limits.{lent_small}
