@@ -146,16 +146,6 @@ module _ (κ : Kit) (way : ℕ → Way) (l m : Ledger) (inv : Inv κ l) (step : 
   few-after n f h e =
       bit_below κ.p (m.records n).held f (formed-held κ.p (gauge_in m) (m.records n) (formed-after n h)) e
 
-  named-after : (n f : ℕ) → n < κ.n → bit (m.records n).held f ≡ true → last_of n f m.listing ≡ some (entry_at m n f)
-  named-after n f h d = last n f h ∙ go (told (bit (enciphered (way n) (before n)) f))
-    where
-      go : (bit (enciphered (way n) (before n)) f ≡ true) ⊎ (bit (enciphered (way n) (before n)) f ≡ false)
-          → or_else (last_of n f (pads_by κ.p (way n) n (before n) l.present)) (last_of n f l.listing) ≡ some (entry_at m n f)
-      go (inl e) = rw (last-by κ.p (way n) n (before n) l.present f (small n h) e, entry_new n f h e)
-      go (inr e) =
-          let (was, same) = entry_old n f h e d in
-          rw (last-by-none κ.p (way n) n (before n) l.present f e, same) (inv.named n f h was)
-
   laid-after : (n f : ℕ) → n < κ.n → bit (m.records n).held f ≡ true → m.stored n f ≡ xorl (m.plain n f) (κ.pad (entry_at m n f))
   laid-after n f h d = go (told (bit (enciphered (way n) (before n)) f))
     where
@@ -185,8 +175,17 @@ module _ (κ : Kit) (way : ℕ → Way) (l m : Ledger) (inv : Inv κ l) (step : 
     fresh = fresh-after;
     now = now-after;
     formed = formed-after;
-    named = named-after;
+    named = λ n f h d. last n f h ∙ named n f h d (told (bit (enciphered (way n) (before n)) f));
     laid = laid-after;
     blank = blank-after;
     tally = tally-after;
   }
+    where
+      -- the entry listed last is the one that a present flake lies under
+      named : (n f : ℕ) → n < κ.n → bit (m.records n).held f ≡ true
+          → (bit (enciphered (way n) (before n)) f ≡ true) ⊎ (bit (enciphered (way n) (before n)) f ≡ false)
+          → or_else (last_of n f (pads_by κ.p (way n) n (before n) l.present)) (last_of n f l.listing) ≡ some (entry_at m n f)
+      named n f h d (inl e) = rw (last-by κ.p (way n) n (before n) l.present f (small n h) e, entry_new n f h e) refl
+      named n f h d (inr e) =
+          let (was, same) = entry_old n f h e d in
+          rw (last-by-none κ.p (way n) n (before n) l.present f e, same) (inv.named n f h was)
