@@ -7,7 +7,7 @@ use native.Mathlib.Omega.{arith}
 use borrow.Author.Tests.{lt-ltb, le-leb, ltb-true, leb-true, lt-leb, leb-false}
 use lib.Dec.{ltb, leb}
 use Rattle.base.specs.Pick.{both}
-use Rattle.base.proofs.PickLaws.{both_left, both_right, both-on, alike, yes, no, told}
+use Rattle.base.proofs.PickLaws.{both_left, both_right, both-on, alike, told}
 use Rattle.layout.specs.declared.Shape.{Shape}
 use Rattle.layout.specs.Spots.{offset_at, capacity}
 use Rattle.layout.specs.Shape.{in_limits, within}

@@ -1,0 +1,13 @@
+use Rattle.nuggets.specs.Nugget.{secret_for}
+use Rattle.base.proofs.PickLaws.{yes, no}
+use borrow.Author.Tests.{eq-eqb, ne_eqb}
+use mathlib.Core.Path.{refl, sym}
+use Rattle.nuggets.proofs.secret_for.Goals as goal
+
+pub returns-then-epoch-d : goal.returns-then-epoch-d
+unfolding secret_for
+returns-then-epoch-d c = sym (yes _ (eq-eqb _ _ c.if-epoch-d.true) refl)
+
+pub returns : goal.returns
+unfolding secret_for
+returns c = sym (no _ (ne_eqb _ _ c.if-epoch-d.false) refl)
