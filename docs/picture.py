@@ -10,7 +10,7 @@ import sys
 def crates(text):
     lines = (line.split("#")[0].strip() for line in text.split("\n"))
     named = (line.split(":") for line in lines if line)
-    return {name.strip(): below.split() for name, below in named}
+    return {name.split()[0]: below.split() for name, below in named}
 
 
 def groups(text):

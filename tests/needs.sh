@@ -8,10 +8,6 @@ command -v python3 >/dev/null || missing+=(python3)
 python3 -c 'import cryptography' 2>/dev/null || missing+=(python3-cryptography)
 PATH=$PATH:/usr/sbin:/sbin command -v mke2fs >/dev/null || missing+=(e2fsprogs)
 [ ! -e /dev/mapper/control ] || PATH=$PATH:/usr/sbin:/sbin command -v cryptsetup >/dev/null || missing+=(cryptsetup-bin)
-if [ "$(uname -m)" != x86_64 ]; then
-    command -v qemu-x86_64 >/dev/null || missing+=(qemu-user)
-    command -v x86_64-linux-gnu-gcc >/dev/null || missing+=(gcc-x86-64-linux-gnu)
-fi
 [ ${#missing[@]} -eq 0 ] && exit 0
 as_root=()
 [ "$(id -u)" -eq 0 ] || as_root=(sudo)
