@@ -7,8 +7,8 @@ use Prim.Native.Nat.{ℕ, ◌+◌, ◌-◌, ◌*◌, ◌<◌, ◌≤◌}
 use native.Mathlib.Nat.{mul-le-mul_right}
 use native.Mathlib.Omega.{arith}
 use lib.Dec.{eqb, leb, ltb}
-use borrow.Author.Tests.{eqb-false, leb-true, leb-false, ltb-true, ltb-false, le-leb, lt-ltb}
-use Rattle.base.specs.Pick.{pick, both}
+use borrow.Author.Tests.{eqb-false, leb-true, ltb-true, ltb-false, le-leb, lt-ltb}
+use Rattle.base.specs.Pick.{both}
 use Rattle.base.proofs.PickLaws.{told, clash, no, both_left, both_right, both-on, both_no}
 use Rattle.layout.specs.declared.Shape.{Shape}
 use Rattle.layout.specs.Shape.{is_one}
@@ -18,7 +18,6 @@ use Rattle.layout.proofs.Places.{apart, index_told}
 use Rattle.answers.specs.declared.Answer.TheVariants as A
 use Rattle.answers.specs.Numbers.{accepts}
 use Rattle.answers.proofs.StageLaws.{passed, both_stages, spared, accepted_is}
-use Rattle.records.specs.declared.Record.{Record}
 use Rattle.records.specs.declared.Way.TheVariants.{Clear}
 use Rattle.records.specs.Journal.{flake_range}
 use Rattle.records.specs.Listing.{Entry}
@@ -31,7 +30,7 @@ use Rattle.drive.proofs.OpeningLaws.{opening_lent}
 use Rattle.nuggets.specs.Nugget.{contents_of}
 use Rattle.nuggets.specs.Tests.{path_for}
 use Rattle.changes.specs.Laid.{laid}
-use Rattle.changes.specs.Change.{pads_for, marked, marked_to, tended, tended_to, worked}
+use Rattle.changes.specs.Change.{pads_for, marked, marked_to, tended, worked}
 use Rattle.changes.specs.Discard.{range_fits, clears_none, clear_tests, discard_answer, clears, discard_ways, discard_work, discard_done, discard_volume, discards_at}
 use Rattle.changes.proofs.SweepLaws.{only_pads, only_marks, only_tends}
 

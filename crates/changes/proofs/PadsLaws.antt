@@ -15,7 +15,6 @@ use Rattle.records.specs.Record.{record_of}
 use Rattle.records.proofs.RecordLaws.{record_told}
 use Rattle.records.specs.Listing.{Entry, pads_of, pads_to}
 use Rattle.nodes.specs.Nodes.{node_in}
-use Rattle.keys.specs.Pads.{under}
 use Rattle.nuggets.specs.Nugget.{stored_in}
 use Rattle.changes.specs.Laid.{laid}
 use Rattle.changes.proofs.Each.{Each, each_map, Of, each-pads, chosen, Below, each_to}
