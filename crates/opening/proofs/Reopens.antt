@@ -13,7 +13,6 @@ use Rattle.base.specs.Pick.{pick}
 use Rattle.base.specs.Lists.{part, same}
 use Rattle.base.proofs.PickLaws.{yes, both_left, both_right, both-on}
 use Rattle.base.proofs.FoldLaws.{same_true, same_refl}
-use Rattle.words.specs.Le.{num}
 use Rattle.codec.specs.Row.{◌&◌, AllLong, AllFit, row_in}
 use Rattle.codec.proofs.RowLaws.{length-row, peel, apart, read_back}
 use Rattle.answers.specs.declared.Answer.TheVariants as A
