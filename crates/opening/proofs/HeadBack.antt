@@ -51,7 +51,7 @@ opened v present old outside e =
     let (keys, whole) = both_stages (keys_of d v outside) _ rest in
     let t₅ = passed (sealed d v) _ A.Seal refl keys in
     let t₆ = passed (checked d v) _ A.OldSecret refl t₅.1 in
-    let t₇ = passed (eqb d.counter outside) _ A.Counter refl t₆.1 in
+    let t₇ = passed _ A.Accepted A.Counter refl t₆.1 in
     record {
       head_long = leb-true 104 (length v) t₁.0;
       has_mark = t₂.0;

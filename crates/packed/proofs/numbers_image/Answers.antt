@@ -1,0 +1,8 @@
+use Rattle.packed.specs.Image.{numbers_image}
+use Rattle.words.specs.Le.{le}
+use mathlib.Core.Path.{◌∙◌}
+use Rattle.packed.proofs.numbers_image.Goals as goal
+
+pub returns : goal.returns
+unfolding numbers_image le
+returns c = c.store-8.ensures ∙ rw (c.store-7.ensures, c.store-6.ensures, c.store-5.ensures, c.store-4.ensures, c.store-3.ensures, c.store-2.ensures, c.store.ensures)
