@@ -4,7 +4,6 @@ use native.Mathlib.Omega.{arith}
 use Rattle.layout.proofs.Limits.{placed, lent_small}
 use Rattle.nodes.proofs.Bounds.{node-fits}
 use Rattle.twins.proofs.StepLaws.{parts_laid, inner_is}
-use borrow.Author.Rules.{rules}
 use Rattle.twins.proofs.lay_inner.Goals as goal
 
 pub overflow_mul-i : goal.overflow_mul-i
@@ -29,10 +28,6 @@ overflow_add-right_end c =
     let l = c.requires.0 in
     let q = lent_small l in
     omega (arith, q.few_leaves, q.few_tags, q.few_records, c.requires.2, placed a.s l.limited c.node_at-right.ensures)
-
--- look
-slice-aggregate-lay : tie.Need-slice-aggregate-lay
-slice-aggregate-lay c = search rules
 
 pub slice_bounds-lay-end-2 : goal.slice_bounds-lay-end-2
 slice_bounds-lay-end-2 c =

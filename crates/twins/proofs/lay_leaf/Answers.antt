@@ -41,10 +41,10 @@ lay-requires c =
     let at = c.record_at-record in
     let to = c.tag_at-tags in
     let width = c.width_of in
-    parts_room a.s a.vol.now st.new.0 at.result width.result to.result (16 * a.s.p) (length a.out.now)
+    parts_room a.s a.vol.now st.new.s at.result width.result to.result (16 * a.s.p) (length a.out.now)
     (omega (arith, record_room a.n l c.requires.1, at.ensures, width.ensures))
     (omega (arith, l.size, tags-inside a.s a.n c.requires.1, placed a.s l.limited to.ensures))
-    (omega (arith, start-long st.new.0 a.n (st.ensures ∙ letter_nugget a.n), width.ensures, q.narrow_record, q.few_flakes, c.requires.2))
+    (omega (arith, start-long st.new.s a.n (st.ensures ∙ letter_nugget a.n), width.ensures, q.narrow_record, q.few_flakes, c.requires.2))
 
 pub returns : goal.returns
 returns c =
@@ -54,6 +54,6 @@ returns c =
     let at = c.record_at-record in
     let to = c.tag_at-tags in
     let width = c.width_of in
-    parts_laid a.s a.vol.now st.new.0 at.result width.result to.result (16 * a.s.p) a.out.now _
-    (leaf_is a.s a.vol.now st.new.0 a.n (st.ensures ∙ letter_nugget a.n) at.ensures width.ensures (placed a.s l.limited to.ensures))
+    parts_laid a.s a.vol.now st.new.s at.result width.result to.result (16 * a.s.p) a.out.now _
+    (leaf_is a.s a.vol.now st.new.s a.n (st.ensures ∙ letter_nugget a.n) at.ensures width.ensures (placed a.s l.limited to.ensures))
     c.lay.ensures.0 c.lay.ensures.1

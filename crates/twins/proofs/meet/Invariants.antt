@@ -1,12 +1,8 @@
-use mathlib.Core.Path.{◌≡◌, refl, sym, ◌∙◌}
+use mathlib.Core.Path.{◌≡◌}
 use Prim.Native.Nat.{suc, ◌*◌, ◌<◌}
-use native.Mathlib.Omega.{arith}
 use Rattle.layout.specs.Shape.{leaves}
-use Rattle.layout.proofs.Limits.{lent_small}
 use Rattle.tree.specs.Path.{Rises}
-use Rattle.tree.proofs.Heights.{rises-some, rises-leaf}
 use Rattle.twins.specs.Twins.{agreeing, meeting}
-use Rattle.twins.proofs.MeetLaws.{agreeing-here, agreeing-on, agreeing_end, rises-on}
 use Rattle.twins.proofs.meet.Given as goal
 
 abbrev pub invariant-loop-k : goal.invariant-loop-k

@@ -1,8 +1,4 @@
 use Rattle.twins.proofs.StepLaws.{path-ends, path_other, path_stops}
-use mathlib.Core.Path.{sym, ◌∙◌}
-use Prim.Native.Nat.{ℕ}
-use lib.ListN.{length-map}
-use borrow.Author.Rules.{rules}
 use Rattle.twins.proofs.path_to.Goals as goal
 
 pub path-a-requires : goal.path-a-requires
@@ -10,11 +6,6 @@ path-a-requires c = rw c.shape_of-s.ensures c.requires
 
 pub first-top-requires : goal.first-top-requires
 first-top-requires c = rw c.shape_of-s.ensures c.requires.0
-
-pub slice_bounds-equal-end-then-accepted : goal.slice_bounds-equal-end-then-accepted
-slice_bounds-equal-end-then-accepted c =
-    let long = sym (length-map c.args.d.node (λ (x : ℕ). x)) ∙ c.well_formed.0.1.1.1.1.1.1.1.1.1.1.1.0.1.0.1 in
-    search (rules, long)
 
 pub returns-then-equal : goal.returns-then-equal
 returns-then-equal c =
