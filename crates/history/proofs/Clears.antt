@@ -1,5 +1,5 @@
 -- What a format clears, and what no call touches.
-use mathlib.Core.Path.{◌≡◌, refl, ap, sym, ◌∙◌, subst}
+use mathlib.Core.Path.{◌≡◌, refl, ap, ◌∙◌, subst}
 use mathlib.Core.Bool.{false}
 use mathlib.Core.List.{List, ◌∷◌}
 use Prim.Native.Nat.{ℕ, zero, suc, ◌+◌, ◌-◌, ◌<◌, ◌≤◌}
@@ -8,26 +8,20 @@ use lib.ListN.{length, take}
 use lib.Seq.{sets}
 use Rattle.base.specs.Lists.{part}
 use Rattle.base.proofs.PartLaws.{part-sets-above, drop-replicate}
-use Rattle.answers.specs.Numbers.{accepts}
 use Rattle.layout.specs.declared.Shape.{Shape}
-use Rattle.layout.specs.Shape.{shape}
 use Rattle.layout.specs.Parts.{length_of, tags_at, record_at, tag_at, flake_at}
 use Rattle.layout.proofs.Places.{record_inside, tag-inside, flake-inside, parts_inside}
 use Rattle.records.specs.Journal.{bit}
 use Rattle.records.specs.Record.{record_bytes, record_of}
 use Rattle.records.proofs.RecordLaws.{length_record}
 use Rattle.tree.proofs.BuildLaws.{built-outside}
-use Rattle.drive.specs.declared.Drive.{Drive}
-use Rattle.drive.specs.Drive.{shape_of, zeros}
+use Rattle.drive.specs.Drive.{zeros}
 use Rattle.opening.specs.Format.{fresh_record, fresh_from, bare, planted, fresh_drive, fresh_volume, format_volume}
-use Rattle.opening.proofs.FormatLaws.{format_lent}
 use Rattle.opening.proofs.Reopens.{length-head}
-use Rattle.nuggets.specs.Nugget.{stored_in}
 use Rattle.changes.specs.Change.{settled}
 use Rattle.changes.proofs.PutLaws.{Same, same_trans}
 use Rattle.changes.proofs.SettleLaws.{settled_same}
 use Rattle.changes.proofs.ViewLaws.{outside-same}
-use Rattle.history.specs.World.{World, Call}
 use Rattle.history.specs.Step.{step}
 use Rattle.history.specs.History.{Start, begun, history}
 use Rattle.history.specs.Pads.{FormatClears, AbsentStays}

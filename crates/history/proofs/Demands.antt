@@ -40,7 +40,6 @@ use Rattle.history.proofs.Sound.{Sound}
 use Rattle.history.proofs.Steps.{start_sound, sound, mount-back}
 use Rattle.history.proofs.Runs.{run-append, run-kept, run-zero, step_frees, step-writes}
 use Rattle.history.proofs.Counters.{base_of, run_base, run_raised, head-counter}
-use Rattle.opening.proofs.FormatLaws.{format_lent}
 use Rattle.records.specs.Record.{record_of}
 
 pub begun_base : (x : Start) → base_of (begun x).drive ≡ (x.shape, x.salt)

@@ -16,7 +16,7 @@ use Rattle.layout.specs.Spots.{offset_at}
 use Rattle.layout.proofs.Limits.{limits}
 use Rattle.records.specs.declared.Record.{Record}
 use Rattle.records.specs.declared.Way.TheVariants.{Idle, Clear}
-use Rattle.records.specs.Journal.{bit, share_none, flake_range}
+use Rattle.records.specs.Journal.{bit, flake_range}
 use Rattle.records.specs.Record.{record_of}
 use Rattle.records.specs.Rule.{cleared_by, enciphered, held_after, turned}
 use Rattle.records.specs.Listing.{Entry}
@@ -27,8 +27,7 @@ use Rattle.drive.specs.Drive.{shape_of, zeros}
 use Rattle.nuggets.specs.Nugget.{nugget_of, contents_of}
 use Rattle.nuggets.proofs.PieceLaws.{length-contents}
 use Rattle.changes.specs.Change.{settled}
-use Rattle.changes.specs.Discard.{clears_none, discard_answer, clears, discard_ways, discard_work, discarded_drive, discard_volume, discards_at}
-use Rattle.changes.proofs.Each.{chosen}
+use Rattle.changes.specs.Discard.{clears_none, discard_answer, clears, discard_ways, discard_work, discarded_drive, discards_at}
 use Rattle.changes.proofs.DiscardLaws.{Discards, discard-told, clears-room, discard-pads, range_in, range-told}
 use Rattle.ledger.proofs.TurnLaws.{clear-fits}
 use Rattle.history.specs.World.{World}

@@ -11,6 +11,7 @@ use Rattle.base.specs.Lists.{part, same}
 use Rattle.base.proofs.PickLaws.{both_left, both_right, both-on, clash}
 use Rattle.base.proofs.FoldLaws.{same_true, same_refl}
 use Rattle.answers.specs.declared.Answer.TheVariants as A
+use Rattle.layout.specs.declared.Shape.{Shape}
 use Rattle.layout.specs.Shape.{in_limits}
 use Rattle.layout.specs.Shaped.{Shaped}
 use Rattle.layout.specs.Parts.{length_of, node_at}
@@ -24,7 +25,7 @@ use Rattle.drive.specs.Drive.{shape_of, is_changing, headed}
 use Rattle.drive.specs.Head.{head_of}
 use Rattle.drive.specs.Opening.{state_fits as drive_fits, in_form, head_stands, opening_of}
 use Rattle.drive.proofs.HeadLaws.{form_limits}
-use Rattle.nuggets.specs.Nugget.{secret_for, stored_in}
+use Rattle.nuggets.specs.Nugget.{secret_for, lock_by, nugget_of}
 use Rattle.nuggets.specs.Tests.{good_flake, good_flake_of}
 use Rattle.opening.proofs.Reopens.{length-head}
 use Rattle.changes.specs.Change.{settled}
@@ -55,12 +56,19 @@ unfolding head_stands
 untouched-node {d} {v} x =
     same_true (node_in (shape_of d) v 1) d.node (both_right (same (part 0 104 v) (head_of d)) _ (opening-told d v x.opens).stands)
 
+-- a tag is right under a lock of the same numbers, by whatever shape and whatever flakes are held
+flake-kept : (s t : Shape) (v w : List ℕ) (n f held kept : ℕ) {salt salts by with : List ℕ} {k l : ℕ} → t ≡ s → Same s n f v w → salts ≡ salt → by ≡ with → l ≡ k
+    → good_flake s v (record { lock = lock_by s salt with n k; held = held }) f ≡ true → good_flake t w (record { lock = lock_by t salts by n l; held = kept }) f ≡ true
+unfolding good_flake
+flake-kept s t v w n f held kept shaped same salted secrets keycounts h = rw (shaped, same.tag, same.stored, salted, secrets, keycounts) h
+
 -- a flake whose bytes, tag, key and keycount are as they were has a right tag if it had one
 pub tag-kept : (d e : Drive) (v w : List ℕ) (n f : ℕ) → shape_of e ≡ shape_of d → e.salt ≡ d.salt → Same (shape_of d) n f v w
     → (record_of (shape_of d) w n).keycount ≡ (record_of (shape_of d) v n).keycount → secret_for e (record_of (shape_of d) w n).epoch ≡ secret_for d (record_of (shape_of d) v n).epoch
     → good_flake_of d v n f ≡ true → good_flake_of e w n f ≡ true
-unfolding good_flake
-tag-kept d e v w n f shaped salted kept keycounts secrets h = rw (shaped, kept.tag, kept.stored, keycounts, secrets, salted) h
+tag-kept d e v w n f shaped salted kept keycounts secrets h =
+    flake-kept (shape_of d) (shape_of e) v w n f (nugget_of d v n).held (nugget_of e w n).held shaped kept salted (ap (λ (s : Shape). secret_for e (record_of s w n).epoch) shaped ∙ secrets)
+    (ap (λ (s : Shape). (record_of s w n).keycount) shaped ∙ keycounts) h
 
 -- a head stored over an untouched volume, node 1 as it is: the records have to fit it, and it has to name their secrets as before
 module _ (d : Drive) (v : List ℕ) (x : Untouched d v) (salted : length d.salt ≡ 16) (state : State) (epoch counter : ℕ) (present old : List ℕ) where

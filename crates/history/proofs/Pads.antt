@@ -4,11 +4,10 @@ use mathlib.Core.Bool.{true}
 use mathlib.Core.Logic.{◌⊎◌}
 use mathlib.Core.List.{List, [], ◌∷◌, ◌++◌}
 use mathlib.Core.Option.{some}
-use Prim.Native.Nat.{ℕ, ◌+◌, ◌*◌, ◌/◌, ◌%◌, ◌^◌, ◌<◌, ◌≤◌}
+use Prim.Native.Nat.{ℕ, ◌+◌, ◌*◌, ◌%◌, ◌^◌, ◌<◌, ◌≤◌}
 use native.Mathlib.Omega.{arith}
 use lib.ListN.{length, get_elem?}
 use Rattle.records.specs.Journal.{bit}
-use Rattle.base.specs.Lists.{part}
 use Rattle.layout.proofs.Places.{record_room, parts_inside}
 use Rattle.base.proofs.PickLaws.{clash}
 use Rattle.base.proofs.FoldLaws.{same_true}

@@ -1,7 +1,6 @@
 -- After a rekey what is spent is what is held, over every history.
 use mathlib.Core.Path.{◌≡◌, refl, sym, ap, ◌∙◌}
 use mathlib.Core.Bool.{true}
-use mathlib.Core.List.{List}
 use Prim.Native.Nat.{ℕ, ◌<◌}
 use lib.ListN.{length}
 use Rattle.base.proofs.PickLaws.{clash, both_left, both_right}

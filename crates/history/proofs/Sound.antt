@@ -13,7 +13,7 @@ use Rattle.records.specs.Journal.{bit}
 use Rattle.drive.specs.declared.Drive.{Drive}
 use Rattle.drive.specs.declared.State.{State}
 use Rattle.drive.specs.declared.State.TheVariants.{Steady, Changing}
-use Rattle.drive.specs.Drive.{shape_of, is_changing, headed, zeros, counter_top}
+use Rattle.drive.specs.Drive.{shape_of, headed, zeros, counter_top}
 use Rattle.drive.specs.Opening.{state_fits}
 use Rattle.nuggets.specs.Nugget.{secret_for}
 use Rattle.opening.proofs.Reopens.{Handed}

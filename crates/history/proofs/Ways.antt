@@ -1,15 +1,14 @@
 -- The ways and the new contents of a write, of a sweep and of a discard.
 use mathlib.Core.Path.{◌≡◌, refl, sym, ap, ◌∙◌}
 use mathlib.Core.Bool.{Bool, true, false}
-use mathlib.Core.Logic.{◌⊎◌, inl, inr}
 use mathlib.Core.List.{List}
 use Prim.Native.Nat.{ℕ, ◌^◌, ◌<◌}
 use lib.Dec.{eqb}
 use lib.ListN.{length, get_or}
-use borrow.Author.Tests.{leb-true, ltb-true, lt-ltb}
-use Rattle.base.specs.Pick.{pick, both}
+use borrow.Author.Tests.{lt-ltb}
+use Rattle.base.specs.Pick.{pick}
 use Rattle.base.specs.Lists.{tab}
-use Rattle.base.proofs.PickLaws.{no, told, clash, both_left, both_right, both-on}
+use Rattle.base.proofs.PickLaws.{no, clash, both-on}
 use Rattle.base.proofs.TabLaws.{length-tab, get_or-tab, tab_ext}
 use Rattle.layout.specs.declared.Shape.{Shape}
 use Rattle.layout.specs.Spots.{offset_at}
