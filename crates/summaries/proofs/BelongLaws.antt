@@ -11,7 +11,7 @@ use Rattle.layout.specs.Shape.{height_of, leaves}
 use Rattle.layout.specs.declared.Shape.{Shape}
 use Rattle.layout.proofs.Limits.{Small}
 use Rattle.records.specs.Record.{record_of}
-use Rattle.summaries.specs.Entries.{summary_length, entry_at, entry_bytes, entry_part, beneath, built, renewed, renewed_all, listed, Belongs}
+use Rattle.summaries.specs.Entries.{summary_length, entry_at, entry_bytes, entry_part, built, renewed, renewed_all, listed, Belongs}
 use Rattle.summaries.proofs.EntryLaws.{beneath-alike, beneath-same}
 use Rattle.summaries.proofs.Heap.{sum_heap}
 

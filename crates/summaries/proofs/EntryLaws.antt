@@ -1,6 +1,6 @@
 -- An entry: its bytes decide it, it is read back, and what it has to tell hangs on its two or on its nugget's record.
 use Prim.{tt}
-use Rattle.std.proofs.Common.{◌≡◌, ℕ, ◌+◌, ◌-◌, ◌*◌, ◌%◌, ◌^◌, ◌<◌, ◌≤◌, Bool, true, false, eqb, ltb, ◌⊎◌, List, length, sym, refl, ap, ◌∙◌, inl, inr, add-zero, arith, ltb-false, ltb-true, le-ltb, lt-ltb}
+use Rattle.std.proofs.Common.{◌≡◌, ℕ, ◌+◌, ◌-◌, ◌*◌, ◌^◌, ◌<◌, ◌≤◌, Bool, true, false, eqb, ltb, ◌⊎◌, List, length, sym, refl, ap, ◌∙◌, inl, inr, add-zero, arith, ltb-false, ltb-true, le-ltb, lt-ltb}
 use lib.Seq.{sets}
 use Rattle.base.specs.Lists.{part}
 use Rattle.base.specs.Pick.{pick}

@@ -1,5 +1,5 @@
 -- The summary as a heap over one volume: a node is the 12 bytes of its entry, and there is nothing else in the buffer.
-use Rattle.std.proofs.Common.{◌≡◌, ℕ, ◌+◌, ◌*◌, ◌<◌, ◌≤◌, true, false, ltb, ◌⊎◌, List, length, sym, refl, ap, ◌∙◌, inl, inr, arith, ltb-false, ltb-true}
+use Rattle.std.proofs.Common.{◌≡◌, ℕ, ◌*◌, ◌<◌, ◌≤◌, true, false, ltb, ◌⊎◌, List, length, refl, ap, ◌∙◌, inl, inr, arith, ltb-false, ltb-true}
 use lib.Seq.{length-sets}
 use Rattle.base.proofs.PickLaws.{told}
 use Rattle.base.proofs.PartLaws.{part-sets, part-sets-above, part-sets-below}

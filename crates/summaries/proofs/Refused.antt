@@ -1,5 +1,5 @@
 -- "A refusal stores nothing": a refused building or renewing leaves the buffer as it came, a refused top report has no numbers.
-use Rattle.std.proofs.Common.{◌≡◌, ℕ, true, false, eqb, List, length, sym, refl, ap, ◌∙◌, ne_eqb}
+use Rattle.std.proofs.Common.{◌≡◌, ℕ, true, false, List, length, sym, refl, ap, ◌∙◌, ne_eqb}
 use Rattle.base.proofs.PickLaws.{no}
 use Rattle.answers.specs.declared.Answer.TheVariants as A
 use Rattle.answers.specs.Numbers.{accepts}

@@ -1,5 +1,5 @@
 -- The top entry of a summary that belongs is the sum over all records.
-use Rattle.std.proofs.Common.{◌≡◌, ℕ, zero, suc, ◌+◌, ◌-◌, ◌*◌, ◌%◌, ◌^◌, ◌<◌, ◌≤◌, true, false, eqb, ltb, ◌⊎◌, List, sym, refl, ap, ◌∙◌, ap₂, inl, inr, pow-suc, arith, ltb-false, ltb-true}
+use Rattle.std.proofs.Common.{◌≡◌, ℕ, zero, suc, ◌+◌, ◌-◌, ◌*◌, ◌%◌, ◌^◌, ◌<◌, ◌≤◌, true, false, eqb, ltb, ◌⊎◌, List, refl, ap, ◌∙◌, ap₂, inl, inr, pow-suc, arith, ltb-false, ltb-true}
 use Rattle.base.proofs.PickLaws.{told}
 use Rattle.heaps.proofs.HeapLaws.{by_two}
 use Rattle.layout.specs.Shape.{height_of, leaves}
@@ -11,7 +11,7 @@ use Rattle.tree.specs.Whole.{HasHeight}
 use Rattle.tree.proofs.Heights.{stands_left, stands_right, stands_inner, stands_last, stands_some, stands_bottom, stands_top}
 use Rattle.reports.specs.declared.told.Counts.{Counts}
 use Rattle.reports.specs.Counts.{count_of, none, plus, counts_in}
-use Rattle.summaries.specs.Entries.{entry_in, entry_part, rolled, at_leaf, beneath, Belongs}
+use Rattle.summaries.specs.Entries.{entry_in, rolled, at_leaf, beneath, Belongs}
 use Rattle.summaries.proofs.EntryLaws.{entry_read, beneath_narrow, beneath-two, beneath-leaf, leaf-nugget, leaf-past, leaf-few}
 
 counts_are : {a b : Counts} → a.moved ≡ b.moved → a.flakes ≡ b.flakes → a.done ≡ b.done → a ≡ b

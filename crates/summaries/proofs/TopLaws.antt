@@ -1,6 +1,6 @@
 -- "A report from the top entry equals the full report after Item 1, given a volume that passes the whole test and the summary
 -- that belongs to it."
-use Rattle.std.proofs.Common.{◌≡◌, ℕ, ◌^◌, ◌<◌, true, false, eqb, ◌⊎◌, List, length, sym, refl, ap, ◌∙◌, inl, inr, eq-eqb}
+use Rattle.std.proofs.Common.{◌≡◌, ℕ, ◌^◌, ◌<◌, true, false, eqb, ◌⊎◌, List, length, sym, refl, ◌∙◌, inl, inr, eq-eqb}
 use Rattle.base.specs.Pick.{pick}
 use Rattle.base.proofs.PickLaws.{yes, no, told}
 use Rattle.answers.specs.declared.Answer.{Answer}
@@ -16,13 +16,13 @@ use Rattle.tree.proofs.WholeLaws.{whole-formed}
 use Rattle.drive.specs.declared.Drive.{Drive}
 use Rattle.drive.specs.Drive.{shape_of, gauge_of}
 use Rattle.drive.specs.Opening.{measure_of, opening_of}
-use Rattle.drive.proofs.OpeningLaws.{opening-measured, opening_lent}
+use Rattle.drive.proofs.OpeningLaws.{opening_lent}
 use Rattle.reports.specs.declared.told.Report.{Report}
 use Rattle.reports.specs.declared.told.Counts.{Counts}
 use Rattle.reports.specs.Report.{report_answer, counted, refused, report_of}
 use Rattle.reports.specs.Counts.{counts_in, share_of}
 use Rattle.reports.proofs.CountLaws.{counts-below}
-use Rattle.summaries.specs.Entries.{summary_length, entry_in, Belongs}
+use Rattle.summaries.specs.Entries.{summary_length, entry_in}
 use Rattle.summaries.specs.Calls.{top_answer, top_report, BelongsTo}
 use Rattle.summaries.proofs.SumLaws.{top-counts}
 
