@@ -1,9 +1,8 @@
 -- What a discard hands back and leaves, from its answer and from what it clears.
 use mathlib.Core.Path.{◌≡◌, refl, sym, ap, ◌∙◌}
-use mathlib.Core.Bool.{Bool, true, false, not}
+use mathlib.Core.Bool.{true, false, not}
 use mathlib.Core.List.{List}
 use Prim.Native.Nat.{ℕ}
-use Rattle.base.specs.Pick.{pick, both}
 use Rattle.base.proofs.PickLaws.{both-on, both_off}
 use Rattle.answers.specs.declared.Answer.{Answer}
 use Rattle.answers.specs.Numbers.{accepts}
