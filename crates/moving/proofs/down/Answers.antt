@@ -1,0 +1,10 @@
+use mathlib.Core.Path.{refl}
+use Rattle.layout.specs.Shape.{known_version}
+use Rattle.moving.proofs.down.Goals as goal
+
+pub move_between-requires : goal.move_between-requires
+unfolding known_version
+move_between-requires c = refl
+
+pub returns : goal.returns
+returns c = c.move_between.ensures
