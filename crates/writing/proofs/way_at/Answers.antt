@@ -1,0 +1,16 @@
+use Rattle.writing.proofs.AnswerLaws.{way_is}
+use Rattle.records.specs.Record.{record_of}
+use Rattle.layout.specs.declared.Shape.{Shape}
+use mathlib.Core.Path.{◌∙◌, ap}
+use Rattle.writing.proofs.way_at.Goals as goal
+
+pub read-r-requires : goal.read-r-requires
+read-r-requires c = rw c.shape_of-s.ensures (c.requires.0, c.requires.3)
+
+pub touched-t-requires : goal.touched-t-requires
+touched-t-requires c = rw c.shape_of-s.ensures (c.requires.0.limited, c.requires.1, c.requires.2, c.requires.3)
+
+pub returns : goal.returns
+returns c =
+    let a = c.args in
+    way_is a.d a.vol.now a.o a.len a.n (c.read-r.ensures ∙ ap (λ (x : Shape). record_of x a.vol.now a.n) c.shape_of-s.ensures) c.shape_of-s.ensures c.touched-t.ensures c.way_of.ensures
