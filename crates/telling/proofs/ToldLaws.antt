@@ -13,7 +13,7 @@ use Rattle.answers.specs.declared.Answer.TheVariants as A
 use Rattle.answers.proofs.StageLaws.{both_stages, passed}
 use borrow.Author.Tests.{ltb-true}
 use Rattle.layout.specs.Shaped.{Shaped}
-use Rattle.layout.proofs.Limits.{Limits, limits}
+use Rattle.layout.proofs.Limits.{limits}
 use Rattle.line.specs.Lines.{Put, refusal_line}
 use Rattle.records.specs.Record.{record_of}
 use Rattle.drive.specs.declared.Drive.{Drive}
