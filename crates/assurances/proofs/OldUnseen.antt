@@ -19,7 +19,6 @@ use Rattle.reports.specs.Stored.{is_flake, stored_answer, stored_flake}
 use Rattle.changes.specs.Laid.{over}
 use Rattle.changes.specs.Write.{write_answer, writes, written_drive, write_done, write_volume, write_pads}
 use Rattle.changes.specs.Rekey.{begin_tests, begin_answer, begun_drive, begin_done, begin_volume, sweep_answer, sweep_done, sweep_volume, sweep_pads, finish_tests, finish_answer, finished_drive, finish_done, finish_volume}
-use Rattle.layout.specs.declared.Shape.{Shape}
 use Rattle.drive.specs.Drive.{shape_of}
 use Rattle.nodes.specs.Nodes.{node_in}
 use Rattle.changes.specs.Change.{marked_to, tended_to, worked, advanced, settled}

@@ -8,7 +8,7 @@ use native.Mathlib.Omega.{arith}
 use lib.Dec.{eqb, ltb}
 use lib.ListN.{length}
 use borrow.Author.Tests.{eq-eqb, ltb-true, lt-ltb}
-use Rattle.base.specs.Pick.{pick, either}
+use Rattle.base.specs.Pick.{pick}
 use Rattle.base.proofs.PickLaws.{yes, no, told, clash, either_left, either_right}
 use Rattle.answers.specs.declared.Answer.{Answer}
 use Rattle.answers.specs.declared.Answer.TheVariants as A
@@ -17,7 +17,7 @@ use Rattle.answers.proofs.StageLaws.{goes_on, stops, first-answers}
 use Rattle.layout.specs.declared.Shape.{Shape}
 use Rattle.layout.specs.Shape.{leaves}
 use Rattle.layout.specs.Shaped.{Shaped}
-use Rattle.layout.proofs.Limits.{Small, limits, lent_small}
+use Rattle.layout.proofs.Limits.{limits, lent_small}
 use Rattle.records.specs.declared.Record.{Record}
 use Rattle.records.specs.Record.{record_of}
 use Rattle.tree.specs.Path.{path_of}
@@ -30,19 +30,18 @@ use Rattle.changes.specs.Rekey.{begun_drive}
 use Rattle.changes.proofs.AnswerLaws.{begin-told}
 use Rattle.reports.specs.Counts.{count_of}
 use Rattle.summaries.specs.Entries.{summary_length, entry_in, built, renewed, renewed_all, listed, Belongs}
-use Rattle.summaries.specs.Calls.{top_answer, top_report, build_answer, build_summary, renew_answer, renew_summary, renew_each, BelongsTo}
+use Rattle.summaries.specs.Calls.{top_answer, build_answer, build_summary, renew_answer, renew_summary, renew_each}
 use Rattle.summaries.proofs.BelongLaws as Belong
 use Rattle.summaries.proofs.SumLaws.{leaf-entry, none-moved}
 use Rattle.summaries.proofs.TopLaws.{top_is_report}
-use Rattle.history.specs.World.{World, Call, begin}
-use Rattle.history.specs.Step.{answer_to, step, changes_by}
-use Rattle.history.specs.History.{Start, run, history}
-use Rattle.history.specs.Answers.{◌unless◌else◌, report_on, changing}
+use Rattle.history.specs.World.{World, begin}
+use Rattle.history.specs.Step.{answer_to, step}
+use Rattle.history.specs.History.{run, history}
 use Rattle.history.proofs.Quiet.{untouched_lent, whole_quiet}
 use Rattle.history.proofs.Sound.{Sound}
 use Rattle.history.proofs.Steps.{sound, step_sound, run_sound}
 use Rattle.history.proofs.Moves.{begin-leaves, begin_moves_none, steady-epoch}
-use Rattle.renewals.specs.Renewals.{Belonging, names, changed_by, begins, begun_by, SummaryAnswers, SummariesExactly, TopReports, BuildBelongs, RenewsAfter, StillBelongs, BeginEmpties, BeginSpoils}
+use Rattle.renewals.specs.Renewals.{Belonging, changed_by, SummariesExactly, TopReports, BuildBelongs, RenewsAfter, StillBelongs, BeginEmpties, BeginSpoils}
 use Rattle.renewals.proofs.Stays.{Stays, step_stays, run-stays}
 
 module _ (w : World) (x : Sound w) where

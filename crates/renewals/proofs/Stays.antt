@@ -4,7 +4,6 @@ use mathlib.Core.Bool.{Bool, true, false, not}
 use mathlib.Core.Logic.{◌⊎◌, inl, inr}
 use mathlib.Core.List.{List, [], ◌∷◌}
 use Prim.Native.Nat.{ℕ, ◌<◌}
-use lib.Dec.{eqb, ltb}
 use lib.ListN.{length}
 use borrow.Author.Tests.{eqb-true, eqb-false, ltb-true}
 use Rattle.base.specs.Pick.{pick, both}
@@ -22,13 +21,13 @@ use Rattle.nuggets.specs.Touched.{touched_of}
 use Rattle.opening.proofs.Reopens.{length-head}
 use Rattle.changes.specs.Change.{advanced, settled}
 use Rattle.changes.specs.Write.{writes, write_answer, write_way, write_work, written_drive, write_done, write_volume}
-use Rattle.changes.specs.Rekey.{begin_answer, begin_done, begin_volume, sweep_answer, sweep_ways, sweep_work, swept_drive, sweep_done, sweep_volume, finish_answer, finished_drive, finish_done, finish_volume}
-use Rattle.changes.specs.Discard.{discard_answer, clears, discard_ways, discard_work, discarded_drive, discard_done, discard_volume}
+use Rattle.changes.specs.Rekey.{begin_done, begin_volume, sweep_answer, sweep_ways, sweep_work, swept_drive, sweep_done, sweep_volume, finish_answer, finished_drive, finish_done, finish_volume}
+use Rattle.changes.specs.Discard.{clears, discard_ways, discard_work, discarded_drive, discard_done, discard_volume}
 use Rattle.changes.proofs.AnswerLaws.{sweep-told, write-told}
 use Rattle.changes.proofs.SettleLaws.{settled_record}
 use Rattle.changes.proofs.SweepLaws.{way_other}
 use Rattle.history.specs.World.{World, Call, mount, write, begin, sweep, finish, discard, asks}
-use Rattle.history.specs.Step.{answer_to, contents_after, world_after, step, changes_by}
+use Rattle.history.specs.Step.{contents_after, world_after, step, changes_by}
 use Rattle.history.specs.History.{run, among}
 use Rattle.history.proofs.Sound.{Sound}
 use Rattle.history.proofs.Ways.{written-turns, swept_turns}

@@ -1,6 +1,6 @@
 -- Document 02, Item 9, over every history: "Building it, and renewing one path after each change, gives the same summary as
 -- building it afresh; a begin rebuilds it." Each statement is proved, under the same name in small letters, in proofs/.
-use Rattle.std.specs.Prelude.{ℕ, ◌*◌, ◌<◌, ◌≤◌, ◌≡◌, Bool, true, false, not, List, [], ◌∷◌, eqb, ltb, length}
+use Rattle.std.specs.Prelude.{ℕ, ◌*◌, ◌<◌, ◌≤◌, ◌≡◌, Bool, true, false, not, List, eqb, ltb, length}
 use Rattle.base.specs.Pick.{both}
 use Rattle.answers.specs.declared.Answer.TheVariants as A
 use Rattle.answers.specs.Numbers.{accepts}
