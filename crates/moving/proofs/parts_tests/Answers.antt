@@ -24,10 +24,10 @@ unfolding parts_tests
 returns-then-accepted c =
     let a = c.args in
     let is : c.whole-a.result ≡ whole_of (shape_of a.d) (gauge_of a.d) a.vol.now = c.whole-a.ensures ∙ rw (c.shape_of.ensures, c.gauge_of.ensures) in
-    let held = c.held_pass-b.ensures in
-    held
+    let stopped = c.held_pass-b.ensures in
+    stopped
     ∙ sym (goes_on _ _ (ap accepts (sym is) ∙ sym c.accepted.ensures ∙ c.if-accepted.true)
-    ∙ stops _ _ (ap accepts (sym held) ∙ sym c.accepted-then-accepted.ensures ∙ c.if-accepted-2.false))
+    ∙ stops _ _ (ap accepts (sym stopped) ∙ sym c.accepted-then-accepted.ensures ∙ c.if-accepted-2.false))
 
 pub returns : goal.returns
 unfolding parts_tests
