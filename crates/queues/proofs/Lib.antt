@@ -2,5 +2,4 @@ pub mod StepLaws
 pub mod QueueLaws
 pub mod PassLaws
 pub mod ImageLaws
-pub mod Passing
 pub mod Outcomes

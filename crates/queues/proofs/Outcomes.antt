@@ -1,5 +1,5 @@
 -- No second outcome meets the words of a public function: each theorem is over its own `ensures`.
-use mathlib.Core.Path.{◌≡◌, refl}
+use mathlib.Core.Path.{refl}
 use Rattle.base.specs.Outcome.{OneOutcome}
 use Rattle.base.proofs.OutcomeLaws.{agree, ◌∥◌}
 use Rattle.queues.proofs as fn
