@@ -2,12 +2,11 @@
 use mathlib.Core.Path.{◌≡◌, refl, sym, ap, ◌∙◌}
 use mathlib.Core.Bool.{Bool, true, false}
 use mathlib.Core.List.{List}
-use Prim.Native.Nat.{ℕ, ◌+◌, ◌%◌, ◌/◌, ◌^◌, ◌<◌}
+use Prim.Native.Nat.{ℕ, ◌%◌, ◌^◌, ◌<◌}
 use native.Mathlib.Omega.{arith}
 use lib.Dec.{eqb}
 use lib.ListN.{length}
 use borrow.Author.Tests.{eq-eqb, ne_eqb, eqb-true}
-use Rattle.base.specs.Pick.{pick, both}
 use Rattle.base.specs.Lists.{same}
 use Rattle.base.proofs.PickLaws.{yes, no, both-on, both_off, both_left, both_right}
 use Rattle.layout.specs.declared.Shape.{Shape}
@@ -18,7 +17,6 @@ use Rattle.layout.proofs.Limits.{limits, inside, capacity-le}
 use Rattle.answers.specs.declared.Answer.{Answer}
 use Rattle.answers.specs.declared.Answer.TheVariants as A
 use Rattle.answers.specs.Numbers.{accepts}
-use Rattle.answers.specs.Stages.{and_then}
 use Rattle.answers.proofs.StageLaws.{goes_on, stops, both_stages, passed, spared}
 use Rattle.drive.specs.declared.Drive.{Drive}
 use Rattle.drive.specs.Drive.{shape_of}
