@@ -6,9 +6,9 @@ use native.Mathlib.Omega.{arith}
 use lib.ListN.{length, get_or, take, drop}
 use lib.Seq.{sets}
 use borrow.Author.Tests.{le-leb, lt-ltb}
-use Rattle.base.specs.Lists.{part, tab}
+use Rattle.base.specs.Lists.{part}
 use Rattle.base.proofs.PickLaws.{yes, both-on}
-use Rattle.base.proofs.PartLaws.{length_part, get_or-part, part-part, part_to, copied}
+use Rattle.base.proofs.PartLaws.{length_part, get_or-part, part-part, copied}
 use Rattle.base.proofs.TabLaws.{tab_ext}
 use Rattle.layout.specs.declared.Shape.{Shape}
 use Rattle.layout.specs.Spots.{offset_at}
