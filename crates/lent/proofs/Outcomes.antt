@@ -1,5 +1,5 @@
 -- No second outcome meets the words of a call on a lent drive: each theorem is over its own `ensures`.
-use mathlib.Core.Path.{◌≡◌, refl}
+use mathlib.Core.Path.{refl}
 use mathlib.Core.List.{List}
 use Prim.Native.Nat.{ℕ}
 use Rattle.base.specs.Outcome.{OneOutcome, OneSeen}

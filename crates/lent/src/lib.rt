@@ -86,9 +86,9 @@ pub fn stored_flake_at<'v>(d: &Drive, vol: &'v [u8], nugget: u32, flake: u32) ->
 
 // Document 01's write.
 pub fn write_at(d: &mut Drive, vol: &mut [u8], offset: u64, bytes: &[u8]) -> Answer
-    ensures { (result ≡ (write_done d.old vol.old offset bytes.now).answer)
-        × ((d.new ≡ (write_done d.old vol.old offset bytes.now).drive)
-        × (vol.new ≡ write_volume d.old vol.old offset bytes.now)) }
+    ensures { (result ≡ (write_done d.entry.now vol.old offset bytes.now).answer)
+        × ((d.new ≡ (write_done d.entry.now vol.old offset bytes.now).drive)
+        × (vol.new ≡ write_volume d.entry.now vol.old offset bytes.now)) }
 {
     let c = *d;
     let r = writing::write(c, vol, offset, bytes);
@@ -113,9 +113,9 @@ pub fn import_at(
     two: [u8; 32],
     bytes: &[u8],
 ) -> Answer
-    ensures { (result ≡ (import_done d.old vol.old one two bytes.now).answer)
-        × ((d.new ≡ (import_done d.old vol.old one two bytes.now).drive)
-        × (vol.new ≡ import_volume d.old vol.old one two bytes.now)) }
+    ensures { (result ≡ (import_done d.entry.now vol.old one two bytes.now).answer)
+        × ((d.new ≡ (import_done d.entry.now vol.old one two bytes.now).drive)
+        × (vol.new ≡ import_volume d.entry.now vol.old one two bytes.now)) }
 {
     let c = *d;
     let r = importing::import(c, vol, one, two, bytes);
@@ -125,9 +125,9 @@ pub fn import_at(
 
 // "Begin takes a new secret: state changing, epoch plus 1, the old secret kept."
 pub fn begin_at(d: &mut Drive, vol: &mut [u8], secret: [u8; 32]) -> Answer
-    ensures { (result ≡ (begin_done d.old vol.old secret).answer)
-        × ((d.new ≡ (begin_done d.old vol.old secret).drive)
-        × (vol.new ≡ begin_volume d.old vol.old secret)) }
+    ensures { (result ≡ (begin_done d.entry.now vol.old secret).answer)
+        × ((d.new ≡ (begin_done d.entry.now vol.old secret).drive)
+        × (vol.new ≡ begin_volume d.entry.now vol.old secret)) }
 {
     let c = *d;
     let r = rekeying::begin(c, vol, secret);
@@ -137,9 +137,9 @@ pub fn begin_at(d: &mut Drive, vol: &mut [u8], secret: [u8; 32]) -> Answer
 
 // "Sweep takes a nugget and rekeys it with T empty."
 pub fn sweep_at(d: &mut Drive, vol: &mut [u8], nugget: u32) -> Answer
-    ensures { (result ≡ (sweep_done d.old vol.old nugget).answer)
-        × ((d.new ≡ (sweep_done d.old vol.old nugget).drive)
-        × (vol.new ≡ sweep_volume d.old vol.old nugget)) }
+    ensures { (result ≡ (sweep_done d.entry.now vol.old nugget).answer)
+        × ((d.new ≡ (sweep_done d.entry.now vol.old nugget).drive)
+        × (vol.new ≡ sweep_volume d.entry.now vol.old nugget)) }
 {
     let c = *d;
     let r = rekeying::sweep(c, vol, nugget);
@@ -149,9 +149,9 @@ pub fn sweep_at(d: &mut Drive, vol: &mut [u8], nugget: u32) -> Answer
 
 // "Finish makes the state steady and zeroes the check."
 pub fn finish_at(d: &mut Drive, vol: &mut [u8]) -> Answer
-    ensures { (result ≡ (finish_done d.old vol.old).answer)
-        × ((d.new ≡ (finish_done d.old vol.old).drive)
-        × (vol.new ≡ finish_volume d.old vol.old)) }
+    ensures { (result ≡ (finish_done d.entry.now vol.old).answer)
+        × ((d.new ≡ (finish_done d.entry.now vol.old).drive)
+        × (vol.new ≡ finish_volume d.entry.now vol.old)) }
 {
     let c = *d;
     let r = rekeying::finish(c, vol);
@@ -161,9 +161,9 @@ pub fn finish_at(d: &mut Drive, vol: &mut [u8]) -> Answer
 
 // "Discard takes a flake range of one nugget and clears held bits only"
 pub fn discard_at(d: &mut Drive, vol: &mut [u8], freed: Freed) -> Answer
-    ensures { (result ≡ (discard_done d.old vol.old freed.nugget freed.first freed.count).answer)
-        × ((d.new ≡ (discard_done d.old vol.old freed.nugget freed.first freed.count).drive)
-        × (vol.new ≡ discard_volume d.old vol.old freed.nugget freed.first freed.count)) }
+    ensures { (result ≡ (discard_done d.entry.now vol.old freed.nugget freed.first freed.count).answer)
+        × ((d.new ≡ (discard_done d.entry.now vol.old freed.nugget freed.first freed.count).drive)
+        × (vol.new ≡ discard_volume d.entry.now vol.old freed.nugget freed.first freed.count)) }
 {
     let c = *d;
     let r = discarding::discard(c, vol, freed);
@@ -173,9 +173,9 @@ pub fn discard_at(d: &mut Drive, vol: &mut [u8], freed: Freed) -> Answer
 
 // "a list of requests, each an offset and a length, with the bytes joined in one buffer"
 pub fn queue_at(d: &mut Drive, vol: &mut [u8], rs: &[Request], bytes: &[u8]) -> Outcome
-    ensures { (result ≡ (queue_done d.old vol.old rs.now bytes.now).outcome)
-        × ((d.new ≡ (queue_done d.old vol.old rs.now bytes.now).drive)
-        × (vol.new ≡ queue_volume d.old vol.old rs.now bytes.now)) }
+    ensures { (result ≡ (queue_done d.entry.now vol.old rs.now bytes.now).outcome)
+        × ((d.new ≡ (queue_done d.entry.now vol.old rs.now bytes.now).drive)
+        × (vol.new ≡ queue_volume d.entry.now vol.old rs.now bytes.now)) }
 {
     let c = *d;
     let r = queues::queue(c, vol, rs, bytes);
@@ -185,9 +185,9 @@ pub fn queue_at(d: &mut Drive, vol: &mut [u8], rs: &[Request], bytes: &[u8]) -> 
 
 // Document 02, Item 6: "Moving up copies a version 1 volume into a second lent buffer as version 2": the drive becomes the second buffer's.
 pub fn up_at(d: &mut Drive, vol: &[u8], second: &mut [u8]) -> Answer
-    ensures { (result ≡ (up_done d.old vol.now (length second.old)).answer)
-        × ((d.new ≡ (up_done d.old vol.now (length second.old)).drive)
-        × (second.new ≡ up_second d.old vol.now second.old)) }
+    ensures { (result ≡ (up_done d.entry.now vol.now (length second.old)).answer)
+        × ((d.new ≡ (up_done d.entry.now vol.now (length second.old)).drive)
+        × (second.new ≡ up_second d.entry.now vol.now second.old)) }
 {
     let c = *d;
     let r = moving::up(c, vol, second);
@@ -197,9 +197,9 @@ pub fn up_at(d: &mut Drive, vol: &[u8], second: &mut [u8]) -> Answer
 
 // "Moving down is the reverse."
 pub fn down_at(d: &mut Drive, vol: &[u8], second: &mut [u8]) -> Answer
-    ensures { (result ≡ (down_done d.old vol.now (length second.old)).answer)
-        × ((d.new ≡ (down_done d.old vol.now (length second.old)).drive)
-        × (second.new ≡ down_second d.old vol.now second.old)) }
+    ensures { (result ≡ (down_done d.entry.now vol.now (length second.old)).answer)
+        × ((d.new ≡ (down_done d.entry.now vol.now (length second.old)).drive)
+        × (second.new ≡ down_second d.entry.now vol.now second.old)) }
 {
     let c = *d;
     let r = moving::down(c, vol, second);
