@@ -3,25 +3,23 @@ use mathlib.Core.Path.{◌≡◌, refl, sym, ap, ◌∙◌}
 use mathlib.Core.Bool.{true, false}
 use mathlib.Core.Logic.{⊎_elim}
 use mathlib.Core.List.{List}
-use Prim.Native.Nat.{ℕ, ◌+◌, ◌*◌, ◌<◌, ◌≤◌}
+use Prim.Native.Nat.{ℕ, ◌+◌, ◌*◌, ◌≤◌}
 use native.Mathlib.Omega.{arith}
 use lib.ListN.{length, get_or}
 use Rattle.base.specs.Lists.{part, tab}
 use Rattle.base.proofs.PickLaws.{yes, no, told}
 use Rattle.base.proofs.TabLaws.{length-tab, get_or-tab, tab_ext, part-tab}
-use Rattle.answers.specs.declared.Answer.{Answer}
-use Rattle.answers.specs.declared.Answer.TheVariants as A
 use Rattle.answers.specs.Numbers.{accepts}
 use Rattle.answers.proofs.StageLaws.{goes_on, stops, both_stages}
 use Rattle.drive.specs.declared.Drive.{Drive}
 use Rattle.drive.specs.declared.Done.{Done}
 use Rattle.nuggets.specs.Nugget.{byte_of}
 use Rattle.reading.specs.Read.{read_answer, read_buffer}
-use Rattle.changes.specs.Write.{write_answer, write_done, write_volume, write_pads}
+use Rattle.changes.specs.Write.{write_answer, write_done}
 use Rattle.xts.specs.Xts.{xts_encrypted}
 use Rattle.sectors.specs.Sectors.{encrypted_from}
 use Rattle.sectors.proofs.SectorLaws.{length-decrypted, encrypted_sector}
-use Rattle.handing.specs.Handing.{hand_answer, export_answer, import_answer, export_buffer, import_bytes, import_done, import_volume, import_pads}
+use Rattle.handing.specs.Handing.{hand_answer, export_answer, import_answer, export_buffer, import_done, import_volume, import_pads}
 use Rattle.handing.proofs.HandLaws.{hand_told}
 use Rattle.handed.specs.Calls.{ExportsSectors, ExportRefused, ImportIsWrite, ImportRefusedFirst, ImportAnswers}
 

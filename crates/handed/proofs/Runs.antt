@@ -10,7 +10,7 @@ use lib.Dec.{eqb}
 use lib.ListN.{length, get_or, replicate, length-replicate}
 use borrow.Author.Tests.{eqb-true, ne_eqb, le-leb, lt-ltb}
 use Rattle.base.specs.Pick.{pick, both}
-use Rattle.base.specs.Lists.{same, tab}
+use Rattle.base.specs.Lists.{same}
 use Rattle.base.proofs.PickLaws.{yes, no, told, clash, both-on, both_right, either_right}
 use Rattle.base.proofs.TabLaws.{get_or-tab}
 use Rattle.words.specs.Le.{Bytes}
@@ -41,11 +41,11 @@ use Rattle.drive.proofs.OpeningLaws.{opening_lent}
 use Rattle.nuggets.specs.Touched.{meets, touched_of}
 use Rattle.reading.specs.Read.{read_answer, read_buffer}
 use Rattle.changes.specs.Change.{advanced}
-use Rattle.changes.specs.Write.{write_way, write_answer, written_drive, write_done, write_volume, write_pads}
+use Rattle.changes.specs.Write.{write_answer, written_drive}
 use Rattle.changes.proofs.AnswerLaws.{write-told}
 use Rattle.sectors.specs.Sectors.{encrypted_from, decrypted_from}
-use Rattle.sectors.proofs.SectorLaws.{length-encrypted, length-decrypted, decrypted-back}
-use Rattle.handing.specs.Handing.{in_sectors, hand_answer, export_answer, import_answer, export_buffer, import_bytes, import_done, import_volume, import_pads}
+use Rattle.sectors.proofs.SectorLaws.{length-encrypted, decrypted-back}
+use Rattle.handing.specs.Handing.{in_sectors, hand_answer, export_answer, import_answer, export_buffer, import_bytes}
 use Rattle.handing.proofs.HandLaws.{hand_told}
 use Rattle.history.specs.World.{World, Call, asks, read, write}
 use Rattle.history.specs.Step.{answer_to, world_after, step}

@@ -12,7 +12,7 @@ use lib.Seq.{sets}
 use lib.Pow.{pow_mono}
 use borrow.Author.Tests.{eq-eqb, lt-ltb}
 use Rattle.base.specs.Pick.{pick}
-use Rattle.base.specs.Lists.{part, same}
+use Rattle.base.specs.Lists.{part}
 use Rattle.base.proofs.PickLaws.{yes, both_right, both-on}
 use Rattle.base.proofs.PartLaws.{part-sets}
 use Rattle.base.proofs.FoldLaws.{same_refl}

@@ -23,7 +23,7 @@ use Rattle.tree.proofs.WholeLaws.{whole-formed}
 use Rattle.drive.specs.Drive.{shape_of, gauge_of}
 use Rattle.moving.specs.Move.{ascending, kept_tests}
 use Rattle.moving.proofs.AnswerLaws.{each-accepted}
-use Rattle.moved.specs.Spent.{AllHeld, Lowest, SixteenTells}
+use Rattle.moved.specs.Spent.{AllHeld, SixteenTells}
 
 -- masks of which one lies in the other, bit by bit
 masks_same : (held spent : ℕ) → lies_in held spent ≡ true → ((f : ℕ) → bit spent f ≡ true → bit held f ≡ true) → spent ≡ held
