@@ -29,12 +29,7 @@ pub fn ngt_begin(
 }
 
 // Sweep, of one nugget.
-pub fn ngt_sweep(
-    image: &mut [u8; 144],
-    vol: &mut [u8],
-    nugget: u32,
-    answer: &mut [u8; 16],
-) -> u32
+pub fn ngt_sweep(image: &mut [u8; 144], vol: &mut [u8], nugget: u32, answer: &mut [u8; 16]) -> u32
     ensures { Swept (drive_in image.old) vol.old nugget
         image.old result vol.new image.new answer.new }
 {

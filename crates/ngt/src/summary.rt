@@ -6,12 +6,7 @@ ghost use Rattle.summaries.specs.Calls.{top_report, build_answer, build_summary,
 ghost use Rattle.ngt.specs.Summary.{Tallied, Summed};
 
 // "N, moved, left, flakes, share, done, 4 bytes each; all zero if refused".
-pub fn ngt_tally(
-    image: &[u8; 144],
-    vol: &[u8],
-    report: &mut [u8; 24],
-    answer: &mut [u8; 16],
-) -> u32
+pub fn ngt_tally(image: &[u8; 144], vol: &[u8], report: &mut [u8; 24], answer: &mut [u8; 16]) -> u32
     ensures { Tallied (report_of (drive_in image.now) vol.now) result report.new answer.new }
 {
     let d = crate::opened(*image);

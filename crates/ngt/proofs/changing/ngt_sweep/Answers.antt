@@ -1,0 +1,13 @@
+use Rattle.ngt.proofs.CallLaws.{changed_by_lem}
+use Rattle.answers.specs.Numbers.{accepts}
+use Rattle.drive.specs.declared.Drive.{Drive}
+use Rattle.drive.specs.declared.Done.{Done}
+use Rattle.changes.specs.Rekey.{sweep_done, sweep_volume}
+use Rattle.ngt.proofs.changing.ngt_sweep.Goals as goal
+
+pub returns : goal.returns
+returns c =
+    let a = c.args in
+    let e = c.sweep-done.ensures in
+    changed_by_lem (λ (z : Drive). sweep_done z a.vol.now a.nugget) (λ (z : Done). accepts z.answer) (λ (z : Drive). sweep_volume z a.vol.now a.nugget)
+    c.opened-d.ensures e.0 e.1 c.accepted.ensures c.keep.ensures c.number.ensures c.answer_image.ensures

@@ -1,0 +1,14 @@
+use Rattle.ngt.proofs.CallLaws.{changed_by_lem}
+use Rattle.answers.specs.Numbers.{accepts}
+use Rattle.drive.specs.declared.Drive.{Drive}
+use Rattle.drive.specs.declared.Done.{Done}
+use lib.ListN.{length}
+use Rattle.moving.specs.Move.{up_done, up_second}
+use Rattle.ngt.proofs.moves.ngt_move_up.Goals as goal
+
+pub returns : goal.returns
+returns c =
+    let a = c.args in
+    let e = c.up-done.ensures in
+    changed_by_lem (λ (z : Drive). up_done z a.vol.now (length a.second.now)) (λ (z : Done). accepts z.answer) (λ (z : Drive). up_second z a.vol.now a.second.now)
+    c.opened-d.ensures e.0 e.1 c.accepted.ensures c.keep.ensures c.number.ensures c.answer_image.ensures

@@ -1,0 +1,27 @@
+use Rattle.ngt.specs.Calls.{span_image}
+use Rattle.words.specs.Le.{le}
+use Rattle.drive.specs.Drive.{shape_of}
+use Rattle.layout.proofs.Limits.{inside}
+use Rattle.layout.specs.Parts.{flake_at}
+use Rattle.layout.specs.Shape.{within}
+use Rattle.layout.specs.declared.Shape.{Shape}
+use Rattle.answers.specs.Numbers.{accepts}
+use Rattle.base.proofs.PickLaws.{yes, no}
+use Prim.Native.Nat.{ℕ}
+use mathlib.Core.List.{◌++◌}
+use Rattle.ngt.proofs.CallLaws.{stored_limits}
+use mathlib.Core.Path.{refl, sym, ◌∙◌, ap}
+use Rattle.ngt.proofs.span_image.Goals as goal
+
+pub returns-then-accepted : goal.returns-then-accepted
+unfolding span_image
+returns-then-accepted c =
+    let a = c.args in
+    let ok = sym (ap accepts c.stored_flake_answer.ensures) ∙ sym c.accepted.ensures ∙ c.if-accepted.true in
+    let lim = stored_limits a.d a.vol.now a.nugget a.flake ok in
+    let at = c.flake_at.ensures ∙ ap (λ (s : Shape). within s (flake_at s a.nugget a.flake)) c.shape_of.ensures ∙ inside (shape_of a.d) lim in
+    c.two.ensures ∙ ap (λ (x : ℕ). le 8 x ++ le 8 a.d.f) at ∙ sym (yes _ ok refl)
+
+pub returns : goal.returns
+unfolding span_image
+returns c = sym (no _ (sym (ap accepts c.stored_flake_answer.ensures) ∙ sym c.accepted.ensures ∙ c.if-accepted.false) refl)
