@@ -1,9 +1,3 @@
-pub mod Again
-pub mod Turn
-pub mod Ask
-pub mod Calls
-pub mod Brings
-pub mod Frame
 pub mod SweepLaws
 pub mod Recorded
 pub mod Outcomes

@@ -1,5 +1,5 @@
 -- No second outcome meets the words of `sweep_all` and `session`: each theorem is over its own `ensures`.
-use mathlib.Core.Path.{◌≡◌, refl, ap}
+use mathlib.Core.Path.{refl, ap}
 use Rattle.base.specs.Outcome.{OneOutcome}
 use Rattle.base.proofs.OutcomeLaws.{agree, ◌∥◌}
 use Rattle.recorder.specs.Session.{Holding}

@@ -34,7 +34,7 @@ pub struct Heard {
 
 // Sweeps the nuggets 0 to n - 1.
 pub fn sweep_all(d: &mut Drive, vol: &mut [u8], n: u32)
-    ensures { holding d.new vol.new ≡ swept_from 0 n (holding d.old vol.old) }
+    ensures { holding d.new vol.new ≡ swept_from 0 n (holding d.entry.now vol.old) }
 {
     let mut k = 0;
     while k < n {
