@@ -43,7 +43,7 @@ def stated(crate):
     """Each export of a crate, or each function of the library that it passes on: its parameters, result and clauses."""
     for source in sorted((crate / "src").rglob("*.rt")):
         for found in re.finditer(r'^pub (?:extern "C" )?fn (\w+)(.*?)^\{', source.read_text(), re.M | re.S):
-            yield (source.name, found.group(1)), " ".join(found.group(2).split())
+            yield (source.name, found.group(1)), re.sub(r"\s|,(?=\s*\))", "", found.group(2))
 
 
 def passed_on(crate):
