@@ -40,7 +40,7 @@ def program(tally):
 
 def cited(tally, page):
     """Crate and theorem of each name that the page cites so."""
-    for crate, name in re.findall(r"`(\w+)` `([a-z-]+)`", page):
+    for crate, name in re.findall(r"`(\w+)` `([a-z_-]+)`", page):
         stated = [path for path in (ROOT / "crates" / crate / "proofs").glob("*.antt") if f"pub {name} :" in path.read_text()]
         tally.same("a theorem of that name", (crate, name), len(stated), 1)
 
