@@ -1,4 +1,4 @@
-/* The drive for hosts in C: link libngt.a, which `rt staticlib ngt` makes.
+/* The drive for hosts in C: link libngt.a, which `tests/archive.sh ngt` makes.
  *
  * No function has a precondition but that each pointer is to as many bytes as its type or its length says, and that no two
  * of them overlap (first and second of ngt_twins may be one or overlap: both are only read); a pointer whose length is 0 may be

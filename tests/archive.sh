@@ -9,14 +9,11 @@ made=$crate
 [ ! -d "crates/${crate}_c" ] || made=${crate}_c
 archive=$folder/lib$crate.a
 
-is_young() {
-    [ -e "$1" ] && [ -z "$(find crates crates.txt "$(dirname "$(rt doc)")/KIT-ID" -name out -prune -o -type f -newer "$1" -print -quit)" ]
-}
-
+. tests/young.sh
 mkdir -p "$folder"
 exec 9>"$folder/$crate.lock"
 flock 9
-if is_young "$archive"; then exit 0; fi
+! is_young "$archive" || exit 0
 rm -f "$archive"
 touch "$folder/$crate.began"
 (cd "crates/$made" && rt lib) >"$folder/$crate.log" 2>&1 9>&- || { tail -n 20 "$folder/$crate.log"; exit 1; }

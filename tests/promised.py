@@ -3,7 +3,7 @@
 The theorem stands in the crate's proofs/Outcomes.antt under the function's name, behind that of its module. It has
 to be stated over what the checker made of the function itself, so that a weaker `ensures` doesn't meet it; a copy
 of the words won't do. The checker proves it; this looks that none is missing and each is about its function.
-Crate NAME_c passes functions of NAME on to C; each has to have the words of the function that it calls.
+Crate NAME_c passes the functions of NAME on to C: each of them, with its very words.
 """
 import pathlib
 import re
@@ -47,10 +47,10 @@ def stated(crate):
 
 
 def passed_on(crate):
-    """The functions of a crate of exports, and those that don't have the very words of the library's function of their name."""
-    of_library = dict(stated(crate.with_name(crate.name.removesuffix("_c"))))
-    exports = dict(stated(crate))
-    return len(exports), [name for (file, name), words in exports.items() if of_library.get((file, name)) != words]
+    """The functions of a crate of exports and of its library, and those that aren't in both with the very same words."""
+    library, exports = dict(stated(crate.with_name(crate.name.removesuffix("_c")))), dict(stated(crate))
+    every = library.keys() | exports.keys()
+    return len(every), [name for file, name in sorted(every) if library.get((file, name)) != exports.get((file, name))]
 
 
 def lacking(crate):

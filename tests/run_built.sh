@@ -5,18 +5,16 @@ set -euo pipefail
 cd "$(dirname "$0")/.."
 name=$1 program=crates/$1/out/$1
 shift
+. tests/young.sh
 
-is_young() {
-    [ -x "$program" ] && [ -z "$(find crates crates.txt -name out -prune -o -type f -newer "$program" -print -quit)" ]
-}
-
-if ! is_young; then
+if ! is_young "$program"; then
     mkdir -p target/run
     exec 9>"target/run/$name.lock"
     flock 9
-    if ! is_young; then
+    if ! is_young "$program"; then
+        touch "target/run/$name.began"
         (cd "crates/$name" && rt run </dev/null) >"target/run/$name.log" 2>&1 9>&- || { tail -n 20 "target/run/$name.log" >&2; exit 1; }
-        touch "$program"
+        touch -r "target/run/$name.began" "$program"
     fi
     exec 9>&-
 fi
