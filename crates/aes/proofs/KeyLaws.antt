@@ -71,9 +71,14 @@ pub grown-none : (w : List ℕ) → Grown w w 0
 unfolding key_schedule
 grown-none w = record { goes = λ key e. e }
 
-pub grown_more : {w₀ : List ℕ} (w : List ℕ) (n : ℕ) {x : ℕ} → Grown w₀ w n → n < 52 → x ≡ temp_at (n + 8) (get_or w (n + 7) 0)
-    → Grown w₀ (set w (n + 8) (bit_xor (get_or w n 0) x)) (n + 1)
-grown_more w n g h ex = record { goes = λ key e. words_more key n h (g.goes key e) ex }
+pub grown_more : {w₀ : List ℕ} (w : List ℕ) (i : ℕ) {x : ℕ} → 8 ≤ i → Grown w₀ w (i - 8) → i < 60 → x ≡ temp_at i (get_or w (i - 1) 0)
+    → Grown w₀ (set w i (bit_xor (get_or w (i - 8) 0) x)) (i + 1 - 8)
+grown_more {w₀} w i {x} l g h ex =
+    let n = i - 8 in
+    let at : n + 8 ≡ i = omega arith in
+    let before : i - 1 ≡ n + 7 = omega arith in
+    let next : i + 1 - 8 ≡ n + 1 = omega arith in
+    record { goes = λ key e. rw next (ap (λ (m : ℕ). set w m (bit_xor (get_or w n 0) x)) (sym at) ∙ words_more key n (omega arith) (g.goes key e) (ex ∙ ap₂ (λ (m p : ℕ). temp_at m (get_or w p 0)) (sym at) before)) }
 
 pub grown-all : {w₀ w : List ℕ} (key : List ℕ) (n : ℕ) → Grown w₀ w n → n ≡ 52 → w₀ ≡ words_of 8 key ++ replicate 52 0 → w ≡ key_expansion key
 unfolding key_expansion

@@ -1,9 +1,8 @@
 -- A round on four words is the round on sixteen bytes.
 use mathlib.Core.Path.{◌≡◌, refl, ap, ap₂, sym, ◌∙◌}
-use mathlib.Core.List.{List, ◌++◌}
-use Prim.Native.Nat.{ℕ, ◌+◌, ◌*◌, ◌/◌, ◌%◌, ◌<◌}
+use mathlib.Core.List.{List}
+use Prim.Native.Nat.{ℕ, zero, suc, ◌+◌, ◌-◌, ◌*◌, ◌/◌, ◌%◌, ◌<◌, ◌≤◌}
 use native.Mathlib.Omega.{arith}
-use native.Mathlib.Numerals.{add-one}
 use lib.Bits.{bit_xor}
 use lib.ListN.{get_or}
 use Rattle.base.specs.Lists.{tab}
@@ -12,17 +11,14 @@ use Rattle.words.specs.Xor.{xorl}
 use Rattle.field.specs.Field.{matrix}
 use Rattle.field.specs.Sbox.{sbox}
 use Rattle.field.proofs.TableLaws.{sbox-lt}
-use Rattle.aes.specs.Aes.{sub_bytes, shift_rows, by_columns, mix_columns, round_key, add_round_key, sub_word, rounds, cipher}
+use Rattle.aes.specs.Aes.{sub_bytes, shift_rows, by_columns, mix_columns, round_key, add_round_key, sub_word, rounds}
 use Rattle.aes.specs.Code.{state_bytes, state_columns, sum_of, key_columns, looked_up, rows_by}
 use Rattle.aes.specs.Tables.{round_table}
 use Rattle.aes.specs.declared.Columns.{Columns}
 use Rattle.aes.proofs.WordLaws.{le-xor}
 use Rattle.aes.proofs.LookLaws.{entry, column_keyed, rows-keyed}
 use Rattle.aes.proofs.TableLaws.{round-at, second_at_lem}
-use Rattle.aes.proofs.StateLaws.{State, columns-back}
-
-abbrev app : List ℕ → List ℕ → List ℕ
-app x y = x ++ y
+use Rattle.aes.proofs.StateLaws.{State, app, columns-back}
 
 pub sum-bytes : (s k : Columns) → state_bytes (sum_of s k) ≡ xorl (state_bytes s) (state_bytes k)
 unfolding state_bytes serialised xorl le
@@ -86,21 +82,24 @@ unfolding rows_by sub_word tab le
 sub_word_code x = refl
 
 -- one round more
-pub rounds_more : (w s : List ℕ) (n : ℕ) (x k : Columns) {r : List ℕ} → k ≡ key_columns w (n + 1)
-    → r ≡ xorl (mix_columns (shift_rows (sub_bytes (state_bytes x)))) (state_bytes k) → state_bytes x ≡ rounds w n s → r ≡ rounds w (n + 1) s
+pub rounds_more : (w s : List ℕ) (n : ℕ) (x k : Columns) {r : List ℕ} → 1 ≤ n → k ≡ key_columns w n
+    → r ≡ xorl (mix_columns (shift_rows (sub_bytes (state_bytes x)))) (state_bytes k) → state_bytes x ≡ rounds w (n - 1) s → r ≡ rounds w (n + 1 - 1) s
 unfolding rounds add_round_key
-rounds_more w s n x k f e h =
+rounds_more w s zero x k l f e h = absurd (omega arith)
+rounds_more w s (suc n) x k l f e h =
+    let now : suc n - 1 ≡ n = omega arith in
+    let next : suc n + 1 - 1 ≡ suc n = omega arith in
     e
-    ∙ ap₂ (λ (y z : List ℕ). xorl (mix_columns (shift_rows (sub_bytes y))) z) h (ap state_bytes f ∙ key-bytes w (n + 1))
-    ∙ ap (λ (m : ℕ). xorl (mix_columns (shift_rows (sub_bytes (rounds w n s)))) (serialised (round_key w m))) (add-one n)
-    ∙ ap (λ (m : ℕ). rounds w m s) (sym (add-one n))
+    ∙ ap₂ (λ (y z : List ℕ). xorl (mix_columns (shift_rows (sub_bytes y))) z) (h ∙ ap (λ (m : ℕ). rounds w m s) now) (ap state_bytes f ∙ key-bytes w (suc n))
+    ∙ ap (λ (m : ℕ). rounds w m s) (sym next)
 
--- the whole cipher: key, rounds, last round
-pub cipher_code : (w b : List ℕ) (s k x y l z : Columns) → State b → s ≡ state_columns b → k ≡ key_columns w 0 → x ≡ sum_of s k
-    → state_bytes y ≡ rounds w 13 (state_bytes x) → l ≡ key_columns w 14 → state_bytes z ≡ xorl (shift_rows (sub_bytes (state_bytes y))) (state_bytes l) → state_bytes z ≡ cipher w b
-unfolding cipher add_round_key
-cipher_code w b s k x y l z good es ek ex ey el ez =
-    let first : xorl (state_bytes s) (state_bytes k) ≡ xorl b (serialised (round_key w 0))
-    = ap₂ xorl (ap state_bytes es ∙ columns-back b good) (ap state_bytes ek ∙ key-bytes w 0) in
+-- the whole cipher, either way: key m, rounds, a last round with key n
+pub cipher_code : (middle last : List ℕ → List ℕ) (w b : List ℕ) (m n : ℕ) (s k x y l z : Columns) → State b → s ≡ state_columns b → k ≡ key_columns w m
+    → x ≡ sum_of s k → state_bytes y ≡ middle (state_bytes x) → l ≡ key_columns w n → state_bytes z ≡ xorl (last (state_bytes y)) (state_bytes l)
+    → state_bytes z ≡ add_round_key w n (last (middle (add_round_key w m b)))
+unfolding add_round_key
+cipher_code middle last w b m n s k x y l z good es ek ex ey el ez =
+    let first : xorl (state_bytes s) (state_bytes k) ≡ xorl b (serialised (round_key w m))
+    = ap₂ xorl (ap state_bytes es ∙ columns-back b good) (ap state_bytes ek ∙ key-bytes w m) in
     ez
-    ∙ ap₂ (λ (p q : List ℕ). xorl (shift_rows (sub_bytes p)) q) (ey ∙ ap (rounds w 13) (ap state_bytes ex ∙ sum-bytes s k ∙ first)) (ap state_bytes el ∙ key-bytes w 14)
+    ∙ ap₂ (λ (p q : List ℕ). xorl (last p) q) (ey ∙ ap middle (ap state_bytes ex ∙ sum-bytes s k ∙ first)) (ap state_bytes el ∙ key-bytes w n)

@@ -109,7 +109,7 @@ bytes-state s =
     let w : List ℕ = s.a ∷ s.b ∷ s.c ∷ s.d ∷ [] in
     record { long = length-serialised w; bytes = serialised-bytes w }
 
-abbrev app : List ℕ → List ℕ → List ℕ
+abbrev pub app : List ℕ → List ℕ → List ℕ
 app x y = x ++ y
 
 column_back : (s : List ℕ) (at : ℕ) → at + 4 ≤ length s → Bytes s → le 4 (num (part at 4 s)) ≡ part at 4 s

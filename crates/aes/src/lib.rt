@@ -4,7 +4,7 @@
 
 mod tables;
 
-ghost use Rattle.std.specs.Prelude.{◌≡◌, ◌++◌, ◌<◌, ◌≤◌, replicate};
+ghost use Rattle.std.specs.Prelude.{◌≡◌, ℕ, List, ◌++◌, ◌<◌, ◌≤◌, replicate};
 ghost use Rattle.words.specs.Le.{words_of};
 ghost use Rattle.words.specs.Xor.{xorl};
 ghost use Rattle.field.specs.Sbox.{sbox};
@@ -12,6 +12,7 @@ ghost use Rattle.aes.specs.Aes.{sub_bytes, shift_rows, mix_columns, sub_word, te
 ghost use Rattle.aes.specs.Code.{state_bytes, state_columns, sum_of, key_columns, looked_up, rows_by};
 ghost use Rattle.aes.specs.Tables.{round_table};
 
+// The words of a block. Not `words::Quad`: the definitions of this crate and of `ctr` name them.
 #[derive(Clone, Copy)]
 pub struct Columns {
     pub a: u32,
@@ -24,15 +25,11 @@ pub struct Columns {
 pub fn load(block: [u8; 16]) -> Columns
     ensures { result ≡ state_columns block }
 {
-    let p = words::load32(&block, 0);
-    let q = words::load32(&block, 4);
-    let r = words::load32(&block, 8);
-    let s = words::load32(&block, 12);
     Columns {
-        a: p,
-        b: q,
-        c: r,
-        d: s,
+        a: words::load32(&block, 0),
+        b: words::load32(&block, 4),
+        c: words::load32(&block, 8),
+        d: words::load32(&block, 12),
     }
 }
 
@@ -85,85 +82,107 @@ pub fn looked_up(t: &[u32; 256], a: u32, b: u32, c: u32, d: u32) -> u32
     ensures { result ≡ looked_up t.now a b c d }
 {
     let p = t[(a % 256) as usize];
-    let q = words::rotate_left(t[(b / 256 % 256) as usize], 8);
-    let r = words::rotate_left(t[(c / 256 / 256 % 256) as usize], 16);
-    let s = words::rotate_left(t[(d / 256 / 256 / 256 % 256) as usize], 24);
+    let q = t[(b / 256 % 256) as usize].rotate_left(8);
+    let r = t[(c / 256 / 256 % 256) as usize].rotate_left(16);
+    let s = t[(d / 256 / 256 / 256 % 256) as usize].rotate_left(24);
     p ^ q ^ r ^ s
 }
 
-// SUBBYTES, SHIFTROWS, MIXCOLUMNS and ADDROUNDKEY.
-fn round(t: &[u32; 256], s: Columns, k: Columns) -> Columns
-    requires { t.now ≡ round_table }
-    ensures { state_bytes result ≡ xorl (mix_columns (shift_rows (sub_bytes (state_bytes s)))) (state_bytes k) }
-{
-    let p = looked_up(t, s.a, s.b, s.c, s.d);
-    let q = looked_up(t, s.b, s.c, s.d, s.a);
-    let r = looked_up(t, s.c, s.d, s.a, s.b);
-    let v = looked_up(t, s.d, s.a, s.b, s.c);
-    Columns {
-        a: p ^ k.a,
-        b: q ^ k.b,
-        c: r ^ k.c,
-        d: v ^ k.d,
+// One direction of a block cipher.
+pub trait Direction {
+    // What it makes of a block.
+    ghost turns: { Self → List ℕ → List ℕ };
+
+    fn turn(&self, block: [u8; 16]) -> [u8; 16]
+        ensures { result ≡ turns self.now block };
+}
+
+// The table of the rounds, lent.
+#[derive(Clone, Copy)]
+pub struct RoundTable<'a> {
+    pub entries: &'a [u32; 256],
+    ghost whole: { entries.now ≡ round_table },
+}
+
+impl RoundTable<'_> {
+    // SUBBYTES, SHIFTROWS, MIXCOLUMNS and ADDROUNDKEY.
+    fn round(self, s: Columns, k: Columns) -> Columns
+        ensures { state_bytes result ≡ xorl (mix_columns (shift_rows (sub_bytes (state_bytes s)))) (state_bytes k) }
+    {
+        let t = self.entries;
+        let mixed = Columns {
+            a: looked_up(t, s.a, s.b, s.c, s.d),
+            b: looked_up(t, s.b, s.c, s.d, s.a),
+            c: looked_up(t, s.c, s.d, s.a, s.b),
+            d: looked_up(t, s.d, s.a, s.b, s.c),
+        };
+        add(mixed, k)
+    }
+
+    // SUBBYTES and SHIFTROWS for one column: SBOX is the second byte of each entry.
+    fn rows(self, a: u32, b: u32, c: u32, d: u32) -> u32
+        ensures { result ≡ rows_by sbox a b c d }
+    {
+        let t = self.entries;
+        let p = t[(a % 256) as usize] / 256 % 256;
+        let q = t[(b / 256 % 256) as usize] / 256 % 256;
+        let r = t[(c / 256 / 256 % 256) as usize] / 256 % 256;
+        let s = t[(d / 256 / 256 / 256 % 256) as usize] / 256 % 256;
+        p + 256 * (q + 256 * (r + 256 * s))
+    }
+
+    // The last round, which mixes no columns.
+    fn last_round(self, s: Columns, k: Columns) -> Columns
+        ensures { state_bytes result ≡ xorl (shift_rows (sub_bytes (state_bytes s))) (state_bytes k) }
+    {
+        let shifted = Columns {
+            a: self.rows(s.a, s.b, s.c, s.d),
+            b: self.rows(s.b, s.c, s.d, s.a),
+            c: self.rows(s.c, s.d, s.a, s.b),
+            d: self.rows(s.d, s.a, s.b, s.c),
+        };
+        add(shifted, k)
+    }
+
+    // 5.2: what temp = w[i - 1] becomes before it is added to w[i - 8].
+    fn temp_at(self, i: usize, temp: u32) -> u32
+        requires { (8 ≤ i) × (i < 60) }
+        ensures { result ≡ temp_at i temp }
+    {
+        match i % 8 {
+            0 => sub_word(self.entries, temp.rotate_right(8)) ^ (1 << (i / 8 - 1)),
+            4 => sub_word(self.entries, temp),
+            _ => temp,
+        }
     }
 }
 
-// SUBBYTES and SHIFTROWS for one column: SBOX is the second byte of each entry.
-fn rows(t: &[u32; 256], a: u32, b: u32, c: u32, d: u32) -> u32
-    requires { t.now ≡ round_table }
-    ensures { result ≡ rows_by sbox a b c d }
-{
-    let p = t[(a % 256) as usize] / 256 % 256;
-    let q = t[(b / 256 % 256) as usize] / 256 % 256;
-    let r = t[(c / 256 / 256 % 256) as usize] / 256 % 256;
-    let s = t[(d / 256 / 256 / 256 % 256) as usize] / 256 % 256;
-    p + 256 * (q + 256 * (r + 256 * s))
+// The words of a key, and the table.
+#[derive(Clone, Copy)]
+pub struct Forward<'t, 'w> {
+    pub table: RoundTable<'t>,
+    pub words: &'w [u32; 60],
 }
 
-// The last round, which mixes no columns.
-fn last_round(t: &[u32; 256], s: Columns, k: Columns) -> Columns
-    requires { t.now ≡ round_table }
-    ensures { state_bytes result ≡ xorl (shift_rows (sub_bytes (state_bytes s))) (state_bytes k) }
-{
-    let p = rows(t, s.a, s.b, s.c, s.d);
-    let q = rows(t, s.b, s.c, s.d, s.a);
-    let r = rows(t, s.c, s.d, s.a, s.b);
-    let v = rows(t, s.d, s.a, s.b, s.c);
-    Columns {
-        a: p ^ k.a,
-        b: q ^ k.b,
-        c: r ^ k.c,
-        d: v ^ k.d,
+impl Direction for Forward<'_, '_> {
+    ghost turns = { λ c. cipher c.words.now };
+
+    fn turn(&self, block: [u8; 16]) -> [u8; 16] {
+        encrypt(self.table.entries, self.words, block)
     }
 }
 
-// Rounds 1 to 13.
-fn middle(t: &[u32; 256], w: &[u32; 60], s: Columns) -> Columns
-    requires { t.now ≡ round_table }
-    ensures { state_bytes result ≡ rounds w.now 13 (state_bytes s) }
-{
-    let mut x = s;
-    let mut n = 0;
-    while n < 13 {
-        n += 1;
-        let k = round_key(w, n);
-        x = round(t, x, k);
-    }
-    x
-}
-
-// 5.1: CIPHER under the words of a key; `t` is `table()`.
+// 5.1: CIPHER under the words of a key; `t` is `table()`, which `encrypt`, `sub_word` and `expand` ask for: docs/DECISIONS.md names them.
 pub fn encrypt(t: &[u32; 256], w: &[u32; 60], block: [u8; 16]) -> [u8; 16]
     requires { t.now ≡ round_table }
     ensures { result ≡ cipher w.now block }
 {
-    let s = load(block);
-    let first = round_key(w, 0);
-    let x = add(s, first);
-    let y = middle(t, w, x);
-    let last = round_key(w, 14);
-    let z = last_round(t, y, last);
-    bytes(z)
+    let table = RoundTable { entries: t };
+    let mut x = add(load(block), round_key(w, 0));
+    for n in 1..14 {
+        x = table.round(x, round_key(w, n));
+    }
+    bytes(table.last_round(x, round_key(w, 14)))
 }
 
 // 5.2: SUBWORD.
@@ -171,35 +190,16 @@ pub fn sub_word(t: &[u32; 256], x: u32) -> u32
     requires { t.now ≡ round_table }
     ensures { result ≡ sub_word x }
 {
-    rows(t, x, x, x, x)
-}
-
-fn temp_at(t: &[u32; 256], i: usize, temp: u32) -> u32
-    requires { (t.now ≡ round_table) × (8 ≤ i) × (i < 60) }
-    ensures { result ≡ temp_at i temp }
-{
-    if i % 8 == 0 {
-        let x = words::rotate_right(temp, 8);
-        let y = sub_word(t, x);
-        let j = (i / 8 - 1) as u32;
-        return y ^ (1u32 << j);
-    }
-    if i % 8 == 4 {
-        return sub_word(t, temp);
-    }
-    temp
+    RoundTable { entries: t }.rows(x, x, x, x)
 }
 
 // The key's eight words, and zeros.
 fn key_words(key: [u8; 32]) -> [u32; 60]
     ensures { result ≡ words_of 8 key ++ replicate 52 0 }
 {
-    let mut w = [0u32; 60];
-    let mut i = 0;
-    while i < 8 {
-        let x = words::load32(&key, 4 * i);
-        w[i] = x;
-        i += 1;
+    let mut w = [0; 60];
+    for i in 0..8 {
+        w[i] = words::load32(&key, 4 * i);
     }
     w
 }
@@ -209,12 +209,10 @@ pub fn expand(t: &[u32; 256], key: [u8; 32]) -> [u32; 60]
     requires { t.now ≡ round_table }
     ensures { result ≡ key_expansion key }
 {
+    let table = RoundTable { entries: t };
     let mut w = key_words(key);
-    let mut n = 0;
-    while n < 52 {
-        let x = temp_at(t, n + 8, w[n + 7]);
-        w[n + 8] = w[n] ^ x;
-        n += 1;
+    for i in 8..60 {
+        w[i] = w[i - 8] ^ table.temp_at(i, w[i - 1]);
     }
     w
 }

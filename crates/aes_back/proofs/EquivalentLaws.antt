@@ -1,13 +1,11 @@
 -- 5.3.5: EQINVCIPHER under the modified key schedule is INVCIPHER, so it undoes CIPHER.
 use mathlib.Core.Path.{◌≡◌, refl, ap, ap₂, sym, ◌∙◌}
-use mathlib.Core.List.{List, [], ◌∷◌, ◌++◌}
+use mathlib.Core.List.{List, [], ◌∷◌}
 use Prim.Native.Nat.{ℕ, zero, suc, ◌+◌, ◌*◌, ◌/◌, ◌%◌, ◌<◌, ◌≤◌}
 use native.Mathlib.Omega.{arith}
 use lib.Bits.{bit_xor}
 use lib.ListN.{get_or}
-use borrow.Author.Tests.{lt-ltb, le-ltb, le-leb, lt-leb}
 use Rattle.base.specs.Lists.{tab}
-use Rattle.base.proofs.PickLaws.{yes, no}
 use Rattle.base.proofs.TabLaws.{get_or-tab}
 use Rattle.words.specs.Le.{num, le, serialised}
 use Rattle.words.specs.Xor.{xorl}
@@ -16,13 +14,11 @@ use Rattle.field.specs.Field.{matrix}
 use Rattle.field.specs.Sbox.{inv_sbox}
 use Rattle.aes.specs.Aes.{by_columns, round_key, add_round_key, key_expansion, aes256}
 use Rattle.aes.proofs.LookLaws.{matrix-long, matrix-bytes}
-use Rattle.aes.proofs.StateLaws.{State}
+use Rattle.aes.proofs.StateLaws.{State, app}
 use Rattle.aes_back.specs.InvAes.{inv_shift_rows, inv_sub_bytes, inv_mix_column, inv_mix_columns, inv_rounds, inv_cipher, inv_aes256, mixed_word, modified_at, modified, key_expansion_eic, eq_rounds, eq_inv_cipher}
+use Rattle.aes_back.proofs.InvRoundLaws.{modified-low, modified_mid, modified-high}
 use Rattle.aes_back.proofs.MixLaws.{matrix-sum}
 use Rattle.aes_back.proofs.InverseLaws.{aes-inverse}
-
-abbrev app : List ℕ → List ℕ → List ℕ
-app x y = x ++ y
 
 mixed_bytes : (x : ℕ) → le 4 (mixed_word x) ≡ inv_mix_column (x % 256) (x / 256 % 256) (x / 256 / 256 % 256) (x / 256 / 256 / 256 % 256)
 unfolding mixed_word
@@ -51,16 +47,13 @@ module _ (w : List ℕ) where
   modified_at_lem i h = get_or-tab 60 (λ j. modified_at j (get_or w j 0)) i 0 h
 
   mixed_at : (i : ℕ) → 4 ≤ i → i < 56 → get_or (modified w) i 0 ≡ mixed_word (get_or w i 0)
-  unfolding modified_at
-  mixed_at i h l = modified_at_lem i (omega arith) ∙ no _ (le-ltb i 4 h) (no _ (lt-leb 56 i l) refl)
+  mixed_at i h l = modified_at_lem i (omega arith) ∙ sym (modified_mid i _ h l)
 
   low-at : (i : ℕ) → i < 4 → get_or (modified w) i 0 ≡ get_or w i 0
-  unfolding modified_at
-  low-at i h = modified_at_lem i (omega arith) ∙ yes _ (lt-ltb i 4 h) refl
+  low-at i h = modified_at_lem i (omega arith) ∙ sym (modified-low i _ h)
 
   high-at : (i : ℕ) → 56 ≤ i → i < 60 → get_or (modified w) i 0 ≡ get_or w i 0
-  unfolding modified_at
-  high-at i h l = modified_at_lem i l ∙ no _ (le-ltb i 4 (omega arith)) (yes _ (le-leb 56 i h) refl)
+  high-at i h l = modified_at_lem i l ∙ sym (modified-high i _ h)
 
   first_stands : (s : List ℕ) → add_round_key (modified w) 0 s ≡ add_round_key w 0 s
   unfolding add_round_key round_key

@@ -1,14 +1,15 @@
 -- A round back on four words is the round back on sixteen bytes.
 use mathlib.Core.Path.{◌≡◌, refl, ap, ap₂, sym, ◌∙◌}
-use mathlib.Core.Bool.{true, false}
 use mathlib.Core.List.{List, [], ◌∷◌, ◌++◌}
-use Prim.Native.Nat.{ℕ, zero, suc, ◌-◌, ◌/◌, ◌%◌, ◌<◌}
+use Prim.Native.Nat.{ℕ, zero, suc, ◌+◌, ◌/◌, ◌%◌, ◌<◌, ◌≤◌}
 use native.Mathlib.Omega.{arith}
 use lib.Bits.{bit_xor}
-use lib.Dec.{ltb, leb}
-use lib.ListN.{get_or}
+use borrow.Author.Tests.{lt-ltb, le-ltb, le-leb, lt-leb}
+use Rattle.std.proofs.lemmas.List.{set-get_or}
+use lib.ListN.{length, get_or, set, drop}
 use Rattle.base.specs.Lists.{tab}
 use Rattle.base.proofs.PickLaws.{yes, no}
+use Rattle.base.proofs.TabLaws.{tab-none, tab_more, tab-next, tab-all}
 use Rattle.words.specs.Le.{num, le, serialised}
 use Rattle.words.specs.Xor.{xorl}
 use Rattle.words.proofs.LeLaws.{le-num}
@@ -17,18 +18,15 @@ use Rattle.field.specs.Sbox.{sbox, inv_sbox}
 use Rattle.field.specs.Tables.{inv_sbox_table}
 use Rattle.field.proofs.TableLaws.{sbox-lt, inv_sbox-at, inv_sbox-lt, sbox-back}
 use Rattle.aes.specs.Aes.{by_columns, round_key, add_round_key, sub_word}
-use Rattle.aes.specs.Code.{state_bytes, state_columns, sum_of, key_columns, looked_up, rows_by}
+use Rattle.aes.specs.Code.{state_bytes, key_columns, looked_up, rows_by}
 use Rattle.aes.specs.declared.Columns.{Columns}
 use Rattle.aes.proofs.WordLaws.{four_bytes}
 use Rattle.aes.proofs.LookLaws.{entry, looked_up_lem, column_keyed, rows-keyed}
-use Rattle.aes.proofs.StateLaws.{State, columns-back}
-use Rattle.aes.proofs.RoundLaws.{sum-bytes, key-bytes}
-use Rattle.aes_back.specs.InvAes.{inv_shift_rows, inv_sub_bytes, inv_mix_columns, mixed_word, modified_at, eq_rounds, eq_inv_cipher}
+use Rattle.aes.proofs.StateLaws.{app}
+use Rattle.aes.proofs.RoundLaws.{key-bytes}
+use Rattle.aes_back.specs.InvAes.{inv_shift_rows, inv_sub_bytes, inv_mix_columns, mixed_word, modified_at, modified, eq_rounds}
 use Rattle.aes_back.specs.Tables.{inv_round_table}
 use Rattle.aes_back.proofs.InvTableLaws.{inv_round-at}
-
-abbrev app : List ℕ → List ℕ → List ℕ
-app x y = x ++ y
 
 module _ (t : List ℕ) (whole : t ≡ inv_round_table) where
   has : (x : ℕ) → x < 256 → get_or t x 0 ≡ entry 0x0e 0x09 0x0d 0x0b (inv_sbox x)
@@ -65,17 +63,38 @@ module _ (t : List ℕ) (whole : t ≡ inv_round_table) where
       let e3 : inv_sbox (y / 256 / 256 / 256 % 256) ≡ x / 256 / 256 / 256 % 256 = ap inv_sbox (ap (at 3) bytes) ∙ sbox-back (x / 256 / 256 / 256 % 256) (omega arith) in
       f ∙ looked_up_lem 0x0e 0x09 0x0d 0x0b t inv_sbox has inv_sbox-lt y y y y ∙ (λ i. num (matrix 0x0e 0x09 0x0d 0x0b (e0 i) (e1 i) (e2 i) (e3 i)))
 
-pub modified-low : (i x : ℕ) → ltb i 4 ≡ true → x ≡ modified_at i x
+pub modified-low : (i x : ℕ) → i < 4 → x ≡ modified_at i x
 unfolding modified_at
-modified-low i x e = sym (yes _ e refl)
+modified-low i x h = sym (yes _ (lt-ltb i 4 h) refl)
 
-pub modified-high : (i x : ℕ) → ltb i 4 ≡ false → leb 56 i ≡ true → x ≡ modified_at i x
+pub modified-high : (i x : ℕ) → 56 ≤ i → x ≡ modified_at i x
 unfolding modified_at
-modified-high i x e f = sym (no _ e (yes _ f refl))
+modified-high i x h = let l : 4 ≤ i = omega arith in sym (no _ (le-ltb i 4 l) (yes _ (le-leb 56 i h) refl))
 
-pub modified_mid : (i x : ℕ) → ltb i 4 ≡ false → leb 56 i ≡ false → mixed_word x ≡ modified_at i x
+pub modified_mid : (i x : ℕ) → 4 ≤ i → i < 56 → mixed_word x ≡ modified_at i x
 unfolding modified_at
-modified_mid i x e f = sym (no _ e (no _ f refl))
+modified_mid i x h l = sym (no _ (le-ltb i 4 h) (no _ (lt-leb 56 i l) refl))
+
+-- the first n words of w are modified, the others as they were in d
+abbrev pub Modified : List ℕ → ℕ → List ℕ → Type 0
+Modified d n w = w ≡ tab n (λ j. modified_at j (get_or d j 0)) ++ drop n d
+
+-- m words that stand
+standing : (d w : List ℕ) (m n : ℕ) → ((j : ℕ) → n ≤ j → j < n + m → get_or d j 0 ≡ modified_at j (get_or d j 0)) → n + m ≤ length d → Modified d n w → Modified d (n + m) w
+standing d w zero n same l e = let z : n + 0 ≡ n = omega arith in rw z e
+standing d w (suc m) n same l e =
+    let now : Modified d (n + 1) (set w n (get_or w n 0))
+    = tab_more _ d n e (tab-next _ d n 0 e (omega arith) ∙ same n (omega arith) (omega arith)) (omega arith) in
+    let next : n + suc m ≡ n + 1 + m = omega arith in
+    rw next (standing d w m (n + 1) (λ j h b. same j (omega arith) (omega arith)) (omega arith) (rw (set-get_or w n 0) at now))
+
+pub modified_first : (d : List ℕ) → length d ≡ 60 → Modified d 4 d
+modified_first d l = standing d d 4 0 (λ j h b. modified-low j _ (omega arith)) (omega arith) (tab-none _ d)
+
+pub modified_all : (d w : List ℕ) (n : ℕ) → length d ≡ 60 → n ≡ 56 → Modified d n w → w ≡ modified d
+unfolding modified
+modified_all d w n l e h =
+    tab-all _ d 60 60 (standing d w 4 56 (λ j g b. modified-high j _ g) (omega arith) (rw e at h)) refl (omega arith)
 
 -- what the code loads as a column's rows
 pub rows_code : (t : List ℕ) → t ≡ inv_sbox_table → (a b c d : ℕ)
@@ -101,29 +120,17 @@ last_round_code s k ep eq er ev =
     (ap₂ app (rows-keyed inv_sbox inv_sbox-lt s.d s.c s.b s.a k.d ev) refl)))
 
 -- a round done, and what is left gives what is asked
-pub rounds-less : (dw s : List ℕ) (n : ℕ) (x k y : Columns) → 0 < n → k ≡ key_columns dw n
-    → state_bytes y ≡ xorl (inv_mix_columns (inv_shift_rows (inv_sub_bytes (state_bytes x)))) (state_bytes k) → eq_rounds dw n (state_bytes x) ≡ s → eq_rounds dw (n - 1) (state_bytes y) ≡ s
+pub rounds-less : (dw s : List ℕ) (n m : ℕ) (x k y : Columns) → n ≡ suc m → k ≡ key_columns dw n
+    → state_bytes y ≡ xorl (inv_mix_columns (inv_shift_rows (inv_sub_bytes (state_bytes x)))) (state_bytes k) → eq_rounds dw n (state_bytes x) ≡ s → eq_rounds dw m (state_bytes y) ≡ s
 unfolding eq_rounds add_round_key
-rounds-less dw s zero x k y h f e g = absurd (omega arith)
-rounds-less dw s (suc n) x k y h f e g =
-    let less : suc n - 1 ≡ n = omega arith in
-    ap (λ (m : ℕ). eq_rounds dw m (state_bytes y)) less
-    ∙ ap (eq_rounds dw n)
-    (e ∙ ap (λ (z : List ℕ). xorl (inv_mix_columns (inv_shift_rows (inv_sub_bytes (state_bytes x)))) z) (ap state_bytes f ∙ key-bytes dw (suc n)))
+rounds-less dw s n m x k y h f e g =
+    ap (eq_rounds dw m)
+    (e
+    ∙ ap (λ (z : List ℕ). xorl (inv_mix_columns (inv_shift_rows (inv_sub_bytes (state_bytes x)))) z)
+    (ap state_bytes f ∙ key-bytes dw n ∙ ap (λ (j : ℕ). serialised (round_key dw j)) h))
+    ∙ ap (λ (j : ℕ). eq_rounds dw j (state_bytes x)) (sym h)
     ∙ g
 
 pub rounds-none : (dw u s : List ℕ) (n : ℕ) → n ≡ 0 → eq_rounds dw n u ≡ s → u ≡ s
 unfolding eq_rounds
 rounds-none dw u s n e g = rw e at g
-
--- the whole cipher: key, rounds, last round
-pub cipher_code : (dw b : List ℕ) (s k x y l z : Columns) → State b → s ≡ state_columns b → k ≡ key_columns dw 14 → x ≡ sum_of s k
-    → state_bytes y ≡ eq_rounds dw 13 (state_bytes x) → l ≡ key_columns dw 0 → state_bytes z ≡ xorl (inv_shift_rows (inv_sub_bytes (state_bytes y))) (state_bytes l)
-    → state_bytes z ≡ eq_inv_cipher dw b
-unfolding eq_inv_cipher add_round_key
-cipher_code dw b s k x y l z good es ek ex ey el ez =
-    let first : xorl (state_bytes s) (state_bytes k) ≡ xorl b (serialised (round_key dw 14))
-    = ap₂ xorl (ap state_bytes es ∙ columns-back b good) (ap state_bytes ek ∙ key-bytes dw 14) in
-    ez
-    ∙ ap₂ (λ (p q : List ℕ). xorl (inv_shift_rows (inv_sub_bytes p)) q) (ey ∙ ap (eq_rounds dw 13) (ap state_bytes ex ∙ sum-bytes s k ∙ first))
-    (ap state_bytes el ∙ key-bytes dw 0)

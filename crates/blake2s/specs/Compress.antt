@@ -3,7 +3,7 @@ use Rattle.std.specs.Prelude.{ℕ, zero, suc, ◌+◌, ◌/◌, ◌%◌, ◌^◌
 use Rattle.base.specs.Pick.{pick}
 use Rattle.base.specs.Lists.{tab}
 use Rattle.words.specs.Word.{add32, rotr}
-use Rattle.blake2s.specs.declared.rounds.Quad.{Quad}
+use Rattle.words.specs.declared.Quad.{Quad}
 
 -- 2.6: word i is the first 32 bits behind the point of the square root of a prime, of the first eight in turn; appendix D lists them
 unfoldable pub iv : List ℕ

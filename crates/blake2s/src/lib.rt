@@ -4,13 +4,14 @@
 
 mod rounds;
 
-ghost use Rattle.std.specs.Prelude.{◌≡◌, ◌≤◌, min, length};
+ghost use Rattle.std.specs.Prelude.{◌≡◌, ◌≤◌, length};
 ghost use Rattle.words.specs.Le.{serialised};
 ghost use Rattle.blake2s.specs.Hash.{initial, padded};
 ghost use Rattle.blake2s.specs.Stream.{started, started_keyed, absorbed, finished};
 
 // A hash under way: the chain value, the block that waits, how many of its bytes count (64 or more: all), and the
-// number of bytes compressed so far.
+// number of bytes compressed so far. No ghost field: `absorb` and `finish` answer on any State, its fields being public;
+// no heap, so a buffer of fixed size and how much of it is taken.
 #[derive(Clone, Copy)]
 pub struct State {
     pub chain: [u32; 8],
@@ -25,19 +26,18 @@ fn first_chain(kk: u32) -> [u32; 8]
     ensures { result ≡ initial kk }
 {
     let mut h = rounds::IV;
-    h[0] = h[0] ^ 0x0101_0000;
-    h[0] = h[0] ^ (kk * 256);
-    h[0] = h[0] ^ 32;
+    h[0] ^= 0x0101_0000;
+    h[0] ^= kk * 256;
+    h[0] ^= 32;
     h
 }
 
 pub fn start() -> State
     ensures { result ≡ started }
 {
-    let h = first_chain(0);
     State {
-        chain: h,
-        buffer: [0u8; 64],
+        chain: first_chain(0),
+        buffer: [0; 64],
         fill: 0,
         count: 0,
     }
@@ -48,7 +48,7 @@ fn pad(from: &[u8]) -> [u8; 64]
     requires { length from.now ≤ 64 }
     ensures { result ≡ padded from.now }
 {
-    let mut b = [0u8; 64];
+    let mut b = [0; 64];
     words::copy(&mut b, 0, from);
     b
 }
@@ -56,47 +56,39 @@ fn pad(from: &[u8]) -> [u8; 64]
 pub fn start_keyed(key: [u8; 32]) -> State
     ensures { result ≡ started_keyed key }
 {
-    let h = first_chain(32);
-    let b = pad(&key);
     State {
-        chain: h,
-        buffer: b,
+        chain: first_chain(32),
+        buffer: pad(&key),
         fill: 64,
         count: 0,
     }
 }
 
-fn least(a: usize, b: usize) -> usize
-    ensures { result ≡ min a b }
-{
-    if a < b { a } else { b }
-}
-
 pub fn absorb(s: State, m: &[u8]) -> State
     ensures { result ≡ absorbed s m.now }
 {
-    let mut h = s.chain;
-    let mut b = s.buffer;
-    let mut fill = s.fill;
-    let mut count = s.count;
-    let mut i = 0;
-    while i < m.len() {
-        // A full block is compressed only when more bytes come, since the last one is flagged.
-        if 64 <= fill {
-            count = std::num::wrapping_add_u64(count, 64);
-            let n = rounds::compress(h, b, count, false);
-            h = n;
-            fill = 0;
-        }
-        let n = least(64 - fill, m.len() - i);
-        let end = i + n;
-        words::copy(&mut b, fill, &m[i..end]);
-        fill = fill + n;
-        i = end;
+    let State {
+        mut chain,
+        mut buffer,
+        mut fill,
+        mut count,
+    } = s;
+    let (first, rest) = m.split_at(m.len().min(64usize.saturating_sub(fill)));
+    if !first.is_empty() {
+        words::copy(&mut buffer, fill, first);
+        fill += first.len();
+    }
+    // A full block is compressed only when more bytes come, since the last one is flagged.
+    for block in rest.chunks(64) {
+        count = count.wrapping_add(64);
+        let next = rounds::compress(chain, buffer, count, false);
+        chain = next;
+        words::copy(&mut buffer, 0, block);
+        fill = block.len();
     }
     State {
-        chain: h,
-        buffer: b,
+        chain,
+        buffer,
         fill,
         count,
     }
@@ -106,11 +98,9 @@ pub fn absorb(s: State, m: &[u8]) -> State
 fn bytes_of(h: [u32; 8]) -> [u8; 32]
     ensures { result ≡ serialised h }
 {
-    let mut r = [0u8; 32];
-    let mut i = 0;
-    while i < 8 {
-        words::store32(&mut r, 4 * i, h[i]);
-        i += 1;
+    let mut r = [0; 32];
+    for (i, x) in h.iter().enumerate() {
+        words::store32(&mut r, 4 * i, *x);
     }
     r
 }
@@ -118,11 +108,8 @@ fn bytes_of(h: [u32; 8]) -> [u8; 32]
 pub fn finish(s: State) -> [u8; 32]
     ensures { result ≡ finished s }
 {
-    let h = s.chain;
-    let b = s.buffer;
-    let fill = least(s.fill, 64);
-    let t = std::num::wrapping_add_u64(s.count, fill as u64);
-    let p = pad(&b[..fill]);
-    let n = rounds::compress(h, p, t, true);
-    bytes_of(n)
+    let fill = s.fill.min(64);
+    let t = s.count.wrapping_add(fill as u64);
+    let block = pad(&s.buffer[..fill]);
+    bytes_of(rounds::compress(s.chain, block, t, true))
 }

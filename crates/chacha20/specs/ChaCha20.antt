@@ -4,7 +4,7 @@ use Rattle.base.specs.Lists.{tab}
 use Rattle.words.specs.Word.{add32, rotl}
 use Rattle.words.specs.Le.{words_of, serialised}
 use Rattle.words.specs.Xor.{xorl}
-use Rattle.chacha20.specs.declared.Quad.{Quad}
+use Rattle.words.specs.declared.Quad.{Quad}
 
 -- 2.1: the quarter round, four times a sum, a xor and a rotation to the left, by 16, 12, 8 and 7 bits
 unfoldable pub quarter : ℕ → ℕ → ℕ → ℕ → Quad

@@ -1,12 +1,15 @@
 -- A number of four 32-bit words: from bytes, to limbs, and back to bytes.
 use mathlib.Core.Path.{◌≡◌, refl, ap, sym, ◌∙◌}
+use mathlib.Core.Bool.{Bool, true, false}
 use mathlib.Core.List.{List, ◌++◌}
 use Prim.Native.Nat.{ℕ, ◌+◌, ◌*◌, ◌/◌, ◌%◌, ◌^◌, ◌<◌, ◌≤◌}
 use native.Mathlib.Nat.{add_assoc, add_comm}
 use native.Mathlib.Omega.{arith}
+use lib.Dec.{lit≤}
 use lib.ListN.{length, replicate}
 use lib.Bits.{bit_or, or_shifted_r}
 use lib.Seq.{sets}
+use Rattle.std.specs.Int.{from_bool}
 use Rattle.base.specs.Lists.{part}
 use Rattle.words.specs.Le.{num, le}
 use Rattle.words.proofs.LeLaws.{num-split, le_join}
@@ -37,6 +40,10 @@ cut lo hi top =
     let e3 : lo / 2 ^ 52 + hi % 2 ^ 14 * 2 ^ 12 + 2 ^ 26 * (hi / 2 ^ 14 + 2 ^ 26 * top) ≡ lo / 2 ^ 52 + 2 ^ 12 * hi + 2 ^ 52 * top = omega arith in
     let e2 : lo / 2 ^ 26 % 2 ^ 26 + 2 ^ 26 * (lo / 2 ^ 52 + 2 ^ 12 * hi + 2 ^ 52 * top) ≡ lo / 2 ^ 26 + 2 ^ 38 * hi + 2 ^ 78 * top = omega arith in
     rw (e4, e3, e2) (omega arith)
+
+pub from_bool-le : (b : Bool) → from_bool b ≤ 1
+from_bool-le true = lit≤ tt
+from_bool-le false = lit≤ tt
 
 -- four words cut into limbs, with `one` at bit 128
 pub joined : (a b c d one : ℕ) → c < 2 ^ 32 → d < 2 ^ 32

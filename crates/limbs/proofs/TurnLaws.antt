@@ -2,7 +2,7 @@
 use mathlib.Core.Path.{◌≡◌, refl, ap, sym, ◌∙◌}
 use mathlib.Core.List.{List, [], ◌∷◌, ◌++◌}
 use Prim.Native.Nat.{ℕ, zero, suc, ◌+◌, ◌-◌, ◌*◌, ◌%◌, ◌^◌, ◌<◌, ◌≤◌}
-use native.Mathlib.Nat.{mul_comm, zero-add, add-zero, sub-zero, mod-eq_of_lt, mod-lt, sub-eq-zero_of_le}
+use native.Mathlib.Nat.{mul_comm, zero-add, add-zero, mod-eq_of_lt, mod-lt, sub-eq-zero_of_le}
 use native.Mathlib.Omega.{arith}
 use lib.Dec.{lit<}
 use lib.ListN.{length, take, drop, length-drop}
@@ -10,10 +10,10 @@ use lib.Seq.{drop-drop, take_all, length-take-le}
 use Rattle.base.specs.Lists.{part}
 use Rattle.words.specs.Le.{num}
 use Rattle.limbs.specs.declared.Limbs.{Limbs}
-use Rattle.limbs.specs.Limbs.{value, p}
-use Rattle.limbs.specs.Bounds.{Below, Sums, step_by, steps_by}
+use Rattle.limbs.specs.Limbs.{at, value, p}
+use Rattle.limbs.specs.Bounds.{Below, Sums, Fives, step_by, steps_by}
 use Rattle.limbs.specs.Turns.{turn, turns}
-use Rattle.limbs.proofs.Field.{plus, mod_in}
+use Rattle.limbs.proofs.Field.{plus, mod_in, product}
 use Rattle.limbs.proofs.Digits.{wraps}
 use Rattle.words.proofs.LeLaws.{num-append}
 
@@ -34,6 +34,18 @@ sums_below h x y s =
       b4 = omega (arith, s.s4, x.b4, y.b4);
     }
 
+-- h times r by the five sums of products; v has what leaves the top
+pub products : (h : Limbs) {r v : Limbs} {d0 d1 d2 d3 d4 : ℕ} → Fives r v
+    → d0 ≡ h.l0 * r.l0 + h.l1 * v.l4 + h.l2 * v.l3 + h.l3 * v.l2 + h.l4 * v.l1
+    → d1 ≡ h.l0 * r.l1 + h.l1 * r.l0 + h.l2 * v.l4 + h.l3 * v.l3 + h.l4 * v.l2
+    → d2 ≡ h.l0 * r.l2 + h.l1 * r.l1 + h.l2 * r.l0 + h.l3 * v.l4 + h.l4 * v.l3
+    → d3 ≡ h.l0 * r.l3 + h.l1 * r.l2 + h.l2 * r.l1 + h.l3 * r.l0 + h.l4 * v.l4
+    → d4 ≡ h.l0 * r.l4 + h.l1 * r.l3 + h.l2 * r.l2 + h.l3 * r.l1 + h.l4 * r.l0
+    → at (2 ^ 26) d0 d1 d2 d3 d4 % p ≡ value h * value r % p
+products h {r} {v} {d0} {d1} {d2} {d3} {d4} f e0 e1 e2 e3 e4 =
+    product (2 ^ 26) p wraps h.l0 h.l1 h.l2 h.l3 h.l4 r.l0 r.l1 r.l2 r.l3 r.l4 d0 d1 d2 d3 d4
+    (rw (f.f1, f.f2, f.f3, f.f4) at e0) (rw (f.f2, f.f3, f.f4) at e1) (rw (f.f3, f.f4) at e2) (rw f.f4 at e3) e4
+
 -- what one turn leaves is below p
 pub turn-lt : (r a : ℕ) (b : List ℕ) → turn r a b < p
 unfolding turn p
@@ -48,10 +60,6 @@ num-one b e = num-append b (1 ∷ []) ∙ rw e
 step_is : (top r h t : ℕ) (b : List ℕ) → t % p ≡ (h + (num b + 2 ^ 104 * top)) * r % p → t % p ≡ step_by top r (h % p) b
 unfolding step_by
 step_is top r h t b f = f ∙ mod_in (2 ^ 26) p wraps h (num b + 2 ^ 104 * top) r ∙ rw (mul_comm r (h % p + (num b + 2 ^ 104 * top)))
-
--- before the first turn
-pub steps_none : (top n r a : ℕ) (m : List ℕ) → steps_by top (n - 0) r a (drop (16 * 0) m) ≡ steps_by top n r a m
-steps_none top n r a m = rw (sub-zero n)
 
 -- the next turn
 pub steps_more : (top n i r h t : ℕ) (m : List ℕ) {T : ℕ} → i < n → t % p ≡ (h + (num (part (16 * i) 16 m) + 2 ^ 104 * top)) * r % p

@@ -1,10 +1,9 @@
 -- What is known of limbs on the way: how large each may be, and what a carry or a product leaves.
-use Rattle.std.specs.Prelude.{◌≡◌, List, take, drop, ℕ, zero, suc, ◌+◌, ◌*◌, ◌^◌, ◌/◌, ◌%◌, ◌<◌, ◌≤◌}
+use Rattle.std.specs.Prelude.{◌≡◌, List, get_or, take, drop, ℕ, zero, suc, ◌+◌, ◌*◌, ◌^◌, ◌/◌, ◌%◌, ◌<◌, ◌≤◌}
 use Rattle.words.specs.Le.{num}
 use Rattle.limbs.specs.declared.Limbs.{Limbs}
 use Rattle.limbs.specs.declared.Cut.{Cut}
 use Rattle.limbs.specs.declared.Rippled.{Rippled}
-use Rattle.limbs.specs.declared.Words.{Words}
 use Rattle.limbs.specs.Limbs.{at, value, quad, p}
 
 -- each limb is below m
@@ -60,12 +59,12 @@ pub record Fives (r v : Limbs) : Type 0 where
   pub f4 : v.l4 ≡ 5 * r.l4
 
 -- the 32-bit words of the digits, and what is left above
-pub record Worded (x : Limbs) (r : Words) : Type 0 where
-  pub ba : r.a < 2 ^ 32
-  pub bb : r.b < 2 ^ 32
-  pub bc : r.c < 2 ^ 32
-  pub bd : r.d < 2 ^ 32
-  pub whole : value x ≡ quad r.a r.b r.c (r.d + 2 ^ 32 * (x.l4 / 2 ^ 24))
+pub record Worded (x : Limbs) (r : List ℕ) : Type 0 where
+  pub ba : get_or r 0 0 < 2 ^ 32
+  pub bb : get_or r 1 0 < 2 ^ 32
+  pub bc : get_or r 2 0 < 2 ^ 32
+  pub bd : get_or r 3 0 < 2 ^ 32
+  pub whole : value x ≡ quad (get_or r 0 0) (get_or r 1 0) (get_or r 2 0) (get_or r 3 0 + 2 ^ 32 * (x.l4 / 2 ^ 24))
 
 -- a turn with t added at bit 104: with t = 2^24 that is the appended 1 of a whole block
 unfoldable pub step_by : ℕ → ℕ → ℕ → List ℕ → ℕ

@@ -21,6 +21,11 @@ sum_by_powers r a b c d = a * (r * r * r * r) + b * (r * r * r) + c * (r * r) + 
 abbrev pub weighed : ℕ → List ℕ → ℕ
 weighed r h = sum_by_powers r (value (lane_of h 0)) (value (lane_of h 1)) (value (lane_of h 2)) (value (lane_of h 3))
 
+-- numbers of 32-bit limbs in four lanes
+pub record Narrow (h : List ℕ) : Type 0 where
+  pub long : length h ≡ 20
+  pub at : (l : ℕ) → l < 4 → Below (2 ^ 32) (lane_of h l)
+
 -- v has x in lane l, and in the others what w has
 pub record LanePut (l : ℕ) (x : Limbs) (w v : List ℕ) : Type 0 where
   pub long : length v ≡ length w

@@ -5,10 +5,10 @@ ghost use Rattle.std.specs.Prelude.{◌≡◌, ◌+◌, ◌*◌, ◌%◌, ◌^�
 ghost use Rattle.base.specs.Lists.{part};
 ghost use Rattle.words.specs.Le.{num};
 ghost use Rattle.limbs.specs.Limbs.{value, p};
-ghost use Rattle.limbs.specs.Bounds.{Below, Stands, Fives, Ran, steps_by};
-ghost use Rattle.limbs.specs.Lanes.{lane_of, weighed, LanePut, Level, LanesFit, Multiplies, Blocks, Turned};
+ghost use Rattle.limbs.specs.Bounds.{Below, Stands, Ran, steps_by};
+ghost use Rattle.limbs.specs.Lanes.{lane_of, weighed, Narrow, LanePut, Level, LanesFit, Multiplies, Blocks, Turned};
 
-use crate::Limbs;
+use crate::{Limbs, Multiplier};
 
 #[derive(Clone, Copy)]
 struct Block {
@@ -16,43 +16,79 @@ struct Block {
     hi: u64,
 }
 
-// The number in lane l.
-fn lane(h: &[u64; 20], l: usize) -> Limbs
-    requires { (l < 4) × Below (2 ^ 32) (lane_of h.now l) }
-    ensures { result ≡ lane_of h.now l }
-{
-    Limbs {
-        l0: h[l] as u32,
-        l1: h[4 + l] as u32,
-        l2: h[8 + l] as u32,
-        l3: h[12 + l] as u32,
-        l4: h[16 + l] as u32,
-    }
+// Limb k of the number in lane l lies at 4 k + l.
+#[derive(Clone, Copy)]
+struct Lanes {
+    limbs: [u64; 20],
+    ghost narrow: { Narrow limbs },
 }
 
-// x into lane l.
-fn put(h: &mut [u64; 20], l: usize, x: Limbs)
-    requires { (length h.old ≡ 20) × (l < 4) }
-    ensures { LanePut l x h.old h.new }
-{
-    h[l] = x.l0 as u64;
-    h[4 + l] = x.l1 as u64;
-    h[8 + l] = x.l2 as u64;
-    h[12 + l] = x.l3 as u64;
-    h[16 + l] = x.l4 as u64;
-}
-
-// The same number in each lane.
-fn level(x: Limbs) -> [u64; 20]
-    ensures { Level x result }
-{
-    let mut h = [0u64; 20];
-    let mut l = 0;
-    while l < 4 {
-        put(&mut h, l, x);
-        l += 1;
+impl Lanes {
+    // The same number in each lane: as a plain number a factor loses the product by one instruction.
+    fn level(x: Limbs) -> Lanes
+        ensures { Level x result.limbs }
+    {
+        let mut h = Lanes { limbs: [0; 20] };
+        for l in 0..4 {
+            h.put(l, x);
+        }
+        h
     }
-    h
+
+    // The number in lane l.
+    fn get(&self, l: usize) -> Limbs
+        requires { l < 4 }
+        ensures { result ≡ lane_of self.now.limbs l }
+    {
+        Limbs {
+            l0: self.limbs[l] as u32,
+            l1: self.limbs[4 + l] as u32,
+            l2: self.limbs[8 + l] as u32,
+            l3: self.limbs[12 + l] as u32,
+            l4: self.limbs[16 + l] as u32,
+        }
+    }
+
+    // x into lane l.
+    fn put(&mut self, l: usize, x: Limbs)
+        requires { l < 4 }
+        ensures { LanePut l x self.old.limbs self.new.limbs }
+    {
+        self.limbs[l] = u64::from(x.l0);
+        self.limbs[4 + l] = u64::from(x.l1);
+        self.limbs[8 + l] = u64::from(x.l2);
+        self.limbs[12 + l] = u64::from(x.l3);
+        self.limbs[16 + l] = u64::from(x.l4);
+    }
+
+    // Each lane times that of q, and the four blocks at `at` added.
+    fn turn(&mut self, q: &Lanes, v: &Lanes, m: &[u8], at: usize)
+        requires { LanesFit self.old.limbs × Multiplies q.now.limbs v.now.limbs × (at + 64 ≤ length m.now) }
+        ensures { Turned q.now.limbs m.now at self.old.limbs self.new.limbs }
+    {
+        for l in 0..4 {
+            let by = Multiplier {
+                r: q.get(l),
+                v: v.get(l),
+            };
+            let n = halves(m, at + 16 * l);
+            let x = mul_add(self.get(l), by, n);
+            self.put(l, x);
+        }
+    }
+
+    // The lanes added, each times its power of r.
+    fn fold(&self, by: Multiplier) -> Limbs
+        requires { LanesFit self.now.limbs }
+        ensures { Ran (weighed (value by.r) self.now.limbs % p) result }
+    {
+        let zeros = [0u8; 16];
+        let mut x = Limbs::default();
+        for l in 0..4 {
+            x = crate::run(crate::add(x, self.get(l)), by, &zeros, 1, false);
+        }
+        x
+    }
 }
 
 fn half(m: &[u8], at: usize) -> u64
@@ -61,7 +97,7 @@ fn half(m: &[u8], at: usize) -> u64
 {
     let a = words::load32(m, at);
     let b = words::load32(m, at + 4);
-    (a as u64) + 0x1_0000_0000 * (b as u64)
+    u64::from(a) + 0x1_0000_0000 * u64::from(b)
 }
 
 // The halves of a block by themselves, so that each is compiled to one load.
@@ -76,10 +112,11 @@ fn halves(m: &[u8], at: usize) -> Block
 }
 
 // h times r with a block and its 1 at bit 128 added: the block's parts join the sums of products before the carry.
-fn mul_add(h: Limbs, r: Limbs, v: Limbs, n: Block) -> Limbs
-    requires { Below (2 ^ 29) h × Below (2 ^ 26 + 2 ^ 20) r × Fives r v }
-    ensures { Stands (value h * value r + (n.lo + 2 ^ 64 * n.hi + 2 ^ 104 * 2 ^ 24)) result }
+fn mul_add(h: Limbs, by: Multiplier, n: Block) -> Limbs
+    requires { Below (2 ^ 29) h }
+    ensures { Stands (value h * value by.r + (n.lo + 2 ^ 64 * n.hi + 2 ^ 104 * 2 ^ 24)) result }
 {
+    let Multiplier { r, v } = by;
     let d0 = crate::dot(h, r.l0, v.l4, v.l3, v.l2, v.l1) + n.lo % 0x400_0000;
     let d1 = crate::dot(h, r.l1, r.l0, v.l4, v.l3, v.l2) + n.lo / 0x400_0000;
     let d2 = crate::dot(h, r.l2, r.l1, r.l0, v.l4, v.l3) + n.hi % 0x4000 * 0x1000;
@@ -88,74 +125,32 @@ fn mul_add(h: Limbs, r: Limbs, v: Limbs, n: Block) -> Limbs
     crate::carry(d0, d1, d2, d3, d4)
 }
 
-// Each lane times that of q, and the four blocks at `at` added.
-fn turn_four(h: &mut [u64; 20], q: &[u64; 20], v: &[u64; 20], m: &[u8], at: usize)
-    requires { (length h.old ≡ 20) × LanesFit h.old × Multiplies q.now v.now × (at + 64 ≤ length m.now) }
-    ensures { Turned q.now m.now at h.old h.new }
-{
-    let mut l = 0;
-    while l < 4 {
-        let n = halves(m, at + 16 * l);
-        let x = mul_add(lane(&*h, l), lane(q, l), lane(v, l), n);
-        put(&mut *h, l, x);
-        l += 1;
-    }
-}
-
 // The first four blocks, and a in lane 0.
-fn first(a: Limbs, m: &[u8]) -> [u64; 20]
+fn first(a: Limbs, m: &[u8]) -> Lanes
     requires { Below (2 ^ 26) a × (64 ≤ length m.now) }
-    ensures { Blocks a m.now result }
+    ensures { Blocks a m.now result.limbs }
 {
-    let mut h = [0u64; 20];
-    let mut l = 0;
-    while l < 4 {
-        let n = crate::number(m, 16 * l, 1);
-        put(&mut h, l, n);
-        l += 1;
+    let mut h = Lanes { limbs: [0; 20] };
+    for l in 0..4 {
+        h.put(l, crate::number(m, 16 * l, true));
     }
-    let x = crate::add(a, lane(&h, 0));
-    put(&mut h, 0, x);
+    let x = crate::add(a, h.get(0));
+    h.put(0, x);
     h
 }
 
-// The lanes added, each times its power of r.
-fn fold(h: &[u64; 20], r: Limbs, v: Limbs) -> Limbs
-    requires { LanesFit h.now × Below (2 ^ 26 + 2 ^ 20) r × Fives r v }
-    ensures { Ran (weighed (value r) h.now % p) result }
-{
-    let zeros = [0u8; 16];
-    let mut x = Limbs {
-        l0: 0,
-        l1: 0,
-        l2: 0,
-        l3: 0,
-        l4: 0,
-    };
-    let mut k = 0;
-    while k < 4 {
-        let y = crate::run(crate::add(x, lane(h, k)), r, v, &zeros, 1, 0);
-        x = y;
-        k += 1;
-    }
-    x
-}
-
 // 4 g turns with the first blocks of m. The fourth power of r is what three turns with zeros make of r.
-pub(crate) fn run_four(a: Limbs, r: Limbs, v: Limbs, m: &[u8], g: usize) -> Limbs
-    requires { Below (2 ^ 26) a × Below (2 ^ 26) r × Fives r v × (0 < g) × (64 * g ≤ length m.now) }
-    ensures { Ran (steps_by (2 ^ 24) (4 * g) (value r) (value a % p) m.now) result }
+pub(crate) fn run_four(a: Limbs, by: Multiplier, m: &[u8], g: usize) -> Limbs
+    requires { Below (2 ^ 26) a × (0 < g) × (64 * g ≤ length m.now) }
+    ensures { Ran (steps_by (2 ^ 24) (4 * g) (value by.r) (value a % p) m.now) result }
 {
     let zeros = [0u8; 48];
-    let r4 = crate::run(r, r, v, &zeros, 3, 0);
-    let v4 = crate::fives(r4);
-    let q = level(r4);
-    let f = level(v4);
+    let fourth = Multiplier::new(crate::run(by.r, by, &zeros, 3, false));
+    let q = Lanes::level(fourth.r);
+    let v = Lanes::level(fourth.v);
     let mut h = first(a, m);
-    let mut i = 1;
-    while i < g {
-        turn_four(&mut h, &q, &f, m, 64 * i);
-        i += 1;
+    for i in 1..g {
+        h.turn(&q, &v, m, 64 * i);
     }
-    fold(&h, r, v)
+    h.fold(by)
 }

@@ -2,8 +2,8 @@
 use mathlib.Core.Path.{◌≡◌, refl, ap, sym, ◌∙◌}
 use mathlib.Core.Logic.{⊎_elim}
 use mathlib.Core.List.{List, [], ◌∷◌, ◌++◌}
-use Prim.Native.Nat.{ℕ, zero, suc, ◌+◌, ◌-◌, ◌*◌, ◌/◌, ◌%◌, ◌^◌, ◌<◌, ◌≤◌}
-use native.Mathlib.Nat.{zero-add, sub-zero, lt_of_lt_of_le}
+use Prim.Native.Nat.{ℕ, zero, suc, ◌+◌, ◌*◌, ◌/◌, ◌%◌, ◌^◌, ◌<◌, ◌≤◌}
+use native.Mathlib.Nat.{zero-add, lt_of_lt_of_le}
 use native.Mathlib.Omega.{arith}
 use borrow.Author.Tests.{eq-eqb, ne_eqb, ltb-true, ltb-false}
 use lib.Dec.{ltb, lit<, lit≤}
@@ -37,13 +37,13 @@ unfolding ended
 ended-begun s e = no _ (ne_eqb s.fill 0 e) refl
 
 -- the last block, laid into zeros with its 1
-pub ended_by : (s : State) (v : List ℕ) (x : Limbs) → GoodState s → (s.fill ≡ 0 → ⊥) → v ≡ sets zero_block 0 (take (s.fill - 0) s.buf)
+pub ended_by : (s : State) (v : List ℕ) (x : Limbs) → GoodState s → (s.fill ≡ 0 → ⊥) → v ≡ sets zero_block 0 (take s.fill s.buf)
     → x ≡ limbs_of (value s.r * (value s.acc + num (set v s.fill 1)) % p) → value x ≡ ended s
 unfolding turn
 ended_by s v x g e f h =
     let l = take s.fill s.buf in
     let number : num (set v s.fill 1) ≡ num (l ++ (1 ∷ [])) =
-    rw (f, sub-zero s.fill) (num-laid l s.fill (length-take-le s.fill s.buf (omega (arith, g.whole, g.room))) g.room) in
+    rw f (num-laid l s.fill (length-take-le s.fill s.buf (omega (arith, g.whole, g.room))) g.room) in
     let whole : x ≡ limbs_of (value s.r * (value s.acc + num (l ++ (1 ∷ []))) % p) = rw number at h in
     ap value whole ∙ value_limbs _ (turn-lt (value s.r) (value s.acc) l) ∙ sym (ended-begun s e)
 

@@ -1,5 +1,5 @@
 -- Laws of the state: pieces join, a good state stays good, and 16 bytes at once are one turn.
-use mathlib.Core.Path.{◌≡◌, refl, sym, ◌∙◌}
+use mathlib.Core.Path.{◌≡◌, refl, ap, sym, ◌∙◌}
 use mathlib.Core.Bool.{Bool, true, false}
 use mathlib.Core.Logic.{◌⊎◌, inl, inr}
 use mathlib.Core.List.{List, [], ◌∷◌, ◌++◌}
@@ -10,17 +10,19 @@ use native.Mathlib.Omega.{arith}
 use borrow.Author.Tests.{lt-ltb, le-ltb, ltb-true, ltb-false}
 use lib.Dec.{ltb, lit<}
 use lib.ListN.{length, take, drop, set, length-set, length-drop}
-use lib.Seq.{sets, take-add, take_all, length-take-le}
+use lib.Seq.{sets, length-sets, take-add, take_all, length-take-le}
 use Rattle.base.specs.Pick.{pick}
 use Rattle.base.specs.Lists.{fold, part}
 use Rattle.base.proofs.FoldLaws.{fold-append}
 use Rattle.base.proofs.PickLaws.{yes, no, told}
 use Rattle.limbs.specs.declared.Limbs.{Limbs}
-use Rattle.limbs.specs.Limbs.{value, limbs_of, p}
+use Rattle.words.specs.Le.{num}
+use Rattle.limbs.specs.Limbs.{value, limbs_of, quad, p}
 use Rattle.limbs.specs.Turns.{turn, turns}
 use Rattle.limbs.proofs.Digits.{limbs_below, limbs_reduced, value_limbs}
 use Rattle.limbs.proofs.TurnLaws.{turn-lt}
 use Rattle.poly1305.specs.declared.State.{State}
+use Rattle.poly1305.specs.Poly1305.{clamp}
 use Rattle.poly1305.specs.State.{zero_block, started, emptied, held, push, absorbed, GoodState}
 use Rattle.base.proofs.PartLaws.{sets-full}
 
@@ -31,6 +33,12 @@ join s a b = sym (fold-append push s a b)
 pub start-good : (key : List ℕ) → GoodState (started key)
 unfolding started p
 start-good key = record { key = limbs_below _; sum = limbs_reduced 0 (lit< tt); pad = limbs_below _; room = lit< tt; whole = refl }
+
+-- the limbs that start puts together
+pub starts : (key : List ℕ) {r a s : Limbs} → r ≡ limbs_of (clamp (num (part 0 16 key))) → a ≡ limbs_of (quad 0 0 0 0) → s ≡ limbs_of (num (part 16 16 key))
+    → record { r = r; acc = a; s = s; buf = zero_block; fill = 0 } ≡ started key
+unfolding started quad
+starts key e f g = rw (e, f, g)
 
 pub emptied-good : (s : State) (a : ℕ) → GoodState s → a < p → GoodState (emptied s a)
 emptied-good s a g h = record { key = g.key; sum = limbs_reduced a h; pad = g.pad; room = lit< tt; whole = refl }
@@ -61,6 +69,9 @@ pub absorbed-good : (s : State) (m : List ℕ) → GoodState s → GoodState (ab
 unfolding fold
 absorbed-good s [] g = g
 absorbed-good s (b ∷ m) g = absorbed-good (push s b) m (push-good s b g)
+
+pub goes_on : (s : State) (m : List ℕ) {t : State} → GoodState s → t ≡ absorbed s m → GoodState t
+goes_on s m g e = rw e (absorbed-good s m g)
 
 either : (t : Bool) (x y z : State) → x.s ≡ z.s → y.s ≡ z.s → (pick t x y).s ≡ z.s
 either true x y z e f = e
@@ -128,14 +139,18 @@ pub run_none : (n : ℕ) (s : State) (l : List ℕ) → n ≡ 0 → s ≡ absorb
 unfolding fold
 run_none n s l e = rw e
 
--- the state with the limbs of a
-pub emptied-by : (s : State) {x : Limbs} (a : ℕ) → x ≡ limbs_of a → record { r = s.r; acc = x; s = s.s; buf = zero_block; fill = 0 } ≡ emptied s a
-emptied-by s a e = rw e
-
--- one turn over a block
-pub one-turn : (r a : ℕ) (l : List ℕ) → length l ≡ 16 → turns 1 r a l ≡ turn r a l
+-- a turn with a block that m has filled
+pub topped : (s : State) (m b : List ℕ) {x : Limbs} → GoodState s → s.fill + length m ≡ 16 → b ≡ sets s.buf s.fill m → x ≡ limbs_of (turns 1 (value s.r) (value s.acc) b)
+    → record { r = s.r; acc = x; s = s.s; buf = zero_block; fill = 0 } ≡ absorbed s m
 unfolding turns
-one-turn r a l e = rw (take_all 16 l (omega arith))
+topped s m b g h e f =
+    let whole : length b ≡ 16 = ap length e ∙ length-sets s.buf s.fill m ∙ g.whole in
+    rw (f, take_all 16 b (omega arith), e) (sym (filled m s g h))
+
+-- turns with the blocks of m
+pub ran : (n : ℕ) (s : State) (m : List ℕ) {x : Limbs} → GoodState s → s.fill ≡ 0 → (n ≡ 0 → ⊥) → 16 * n ≤ length m → x ≡ limbs_of (turns n (value s.r) (value s.acc) m)
+    → record { r = s.r; acc = x; s = s.s; buf = zero_block; fill = 0 } ≡ absorbed s (take (16 * n) m)
+ran n s m g e z h f = rw f (sym (run n s m g e z h))
 
 -- a piece in two
 pub two : (s : State) (m : List ℕ) (k : ℕ) {t u : State} → k ≤ length m → t ≡ absorbed s (take k m) → u ≡ absorbed t (part k (length m - k) m) → u ≡ absorbed s m

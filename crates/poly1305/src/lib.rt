@@ -11,7 +11,7 @@ ghost use Rattle.poly1305.specs.State.{started, absorbed, finished, GoodState};
 
 use limbs::Limbs;
 
-// The key's r and s, the accumulator, and the bytes of a block that isn't full yet.
+// The key's r and s, the accumulator, and a block that isn't full yet: no heap, so a buffer of fixed size and how much of it is taken.
 #[derive(Clone, Copy)]
 pub struct State {
     pub r: Limbs,
@@ -19,6 +19,13 @@ pub struct State {
     pub s: Limbs,
     pub buf: [u8; 16],
     pub fill: usize,
+}
+
+// A state that start and absorb give.
+#[derive(Clone, Copy)]
+pub struct Authenticator {
+    pub state: State,
+    pub ghost good: { GoodState state },
 }
 
 fn clamped(key: &[u8]) -> Limbs
@@ -48,128 +55,114 @@ fn number(b: &[u8], at: usize) -> Limbs
     limbs::pack(w0, w1, w2, w3)
 }
 
-pub fn start(key: [u8; 32]) -> State
-    ensures { result ≡ started key }
+pub fn start(key: [u8; 32]) -> Authenticator
+    ensures { result.state ≡ started key }
 {
-    let r = clamped(&key);
-    let acc = limbs::pack(0, 0, 0, 0);
-    let s = number(&key, 16);
-    State {
-        r: r,
-        acc: acc,
-        s: s,
-        buf: [0u8; 16],
-        fill: 0,
+    Authenticator {
+        state: State {
+            r: clamped(&key),
+            acc: limbs::pack(0, 0, 0, 0),
+            s: number(&key, 16),
+            buf: [0; 16],
+            fill: 0,
+        },
     }
 }
 
 // The bytes of m behind those in the buffer, which they don't fill.
-fn lay(s: State, m: &[u8]) -> State
-    requires { GoodState s × (s.fill + length m.now < 16) }
-    ensures { result ≡ absorbed s m.now }
+fn lay(a: Authenticator, m: &[u8]) -> Authenticator
+    requires { a.state.fill + length m.now < 16 }
+    ensures { result.state ≡ absorbed a.state m.now }
 {
-    let r = s.r;
-    let acc = s.acc;
-    let pad = s.s;
-    let fill = s.fill;
-    let mut buf = s.buf;
-    words::copy(&mut buf, fill, m);
-    let n = fill + m.len();
-    State {
-        r: r,
-        acc: acc,
-        s: pad,
-        buf: buf,
-        fill: n,
+    let state = a.state;
+    let mut buf = state.buf;
+    words::copy(&mut buf, state.fill, m);
+    Authenticator {
+        state: State {
+            buf,
+            fill: state.fill + m.len(),
+            ..state
+        },
     }
 }
 
 // The bytes of m behind those in the buffer, which they fill.
-fn top_up(s: State, m: &[u8]) -> State
-    requires { GoodState s × (s.fill + length m.now ≡ 16) }
-    ensures { (result ≡ absorbed s m.now) × (result.fill ≡ 0) }
+fn top_up(a: Authenticator, m: &[u8]) -> Authenticator
+    requires { a.state.fill + length m.now ≡ 16 }
+    ensures { (result.state ≡ absorbed a.state m.now) × (result.state.fill ≡ 0) }
 {
-    let r = s.r;
-    let acc = s.acc;
-    let pad = s.s;
-    let fill = s.fill;
-    let mut buf = s.buf;
-    words::copy(&mut buf, fill, m);
-    let sum = limbs::blocks(acc, r, &buf, 1);
-    State {
-        r: r,
-        acc: sum,
-        s: pad,
-        buf: [0u8; 16],
-        fill: 0,
+    let state = a.state;
+    let mut buf = state.buf;
+    words::copy(&mut buf, state.fill, m);
+    let acc = limbs::blocks(state.acc, state.r, &buf, 1);
+    Authenticator {
+        state: State {
+            acc,
+            buf: [0; 16],
+            fill: 0,
+            ..state
+        },
     }
 }
 
 // The first n blocks of m, from an empty buffer on.
-fn push_blocks(s: State, m: &[u8], n: usize) -> State
-    requires { GoodState s × (s.fill ≡ 0) × (16 * n ≤ length m.now) }
-    ensures { (result ≡ absorbed s (take (16 * n) m.now)) × (result.fill ≡ 0) }
+fn push_blocks(a: Authenticator, m: &[u8], n: usize) -> Authenticator
+    requires { (a.state.fill ≡ 0) × (16 * n ≤ length m.now) }
+    ensures { (result.state ≡ absorbed a.state (take (16 * n) m.now)) × (result.state.fill ≡ 0) }
 {
     if n == 0 {
-        return s;
+        return a;
     }
-    let r = s.r;
-    let acc = s.acc;
-    let pad = s.s;
-    let sum = limbs::blocks(acc, r, m, n);
-    State {
-        r: r,
-        acc: sum,
-        s: pad,
-        buf: [0u8; 16],
-        fill: 0,
+    let state = a.state;
+    let acc = limbs::blocks(state.acc, state.r, m, n);
+    Authenticator {
+        state: State {
+            acc,
+            buf: [0; 16],
+            fill: 0,
+            ..state
+        },
     }
 }
 
 // All of m, from an empty buffer on.
-fn aligned(s: State, m: &[u8]) -> State
-    requires { GoodState s × (s.fill ≡ 0) }
-    ensures { result ≡ absorbed s m.now }
+fn aligned(a: Authenticator, m: &[u8]) -> Authenticator
+    requires { a.state.fill ≡ 0 }
+    ensures { result.state ≡ absorbed a.state m.now }
 {
-    let len = m.len();
-    let n = len / 16;
-    let e = 16 * n;
-    let x = push_blocks(s, m, n);
-    lay(x, &m[e..len])
+    let n = m.len() / 16;
+    lay(push_blocks(a, m, n), &m[16 * n..])
 }
 
-pub fn absorb(s: State, m: &[u8]) -> State
-    requires { GoodState s }
-    ensures { result ≡ absorbed s m.now }
+pub fn absorb(a: Authenticator, m: &[u8]) -> Authenticator
+    ensures { result.state ≡ absorbed a.state m.now }
 {
-    let len = m.len();
-    let fill = s.fill;
+    let fill = a.state.fill;
     if fill == 0 {
-        return aligned(s, m);
+        return aligned(a, m);
     }
-    let k = 16 - fill;
-    if len < k {
-        return lay(s, m);
+    let room = 16 - fill;
+    if m.len() < room {
+        return lay(a, m);
     }
-    let x = top_up(s, &m[0..k]);
-    aligned(x, &m[k..len])
+    aligned(top_up(a, &m[..room]), &m[room..])
 }
 
-pub fn finish(s: State) -> [u8; 16]
-    requires { GoodState s }
-    ensures { result ≡ finished s }
+pub fn finish(a: Authenticator) -> [u8; 16]
+    ensures { result ≡ finished a.state }
 {
-    let r = s.r;
-    let acc = s.acc;
-    let pad = s.s;
-    let fill = s.fill;
-    let buf = s.buf;
+    let State {
+        r,
+        acc,
+        s,
+        buf,
+        fill,
+    } = a.state;
     if fill == 0 {
-        return limbs::total(acc, pad);
+        return limbs::total(acc, s);
     }
-    let mut b = [0u8; 16];
-    words::copy(&mut b, 0, &buf[0..fill]);
+    let mut b = [0; 16];
+    words::copy(&mut b, 0, &buf[..fill]);
     b[fill] = 1;
-    let sum = limbs::last(acc, r, &b);
-    limbs::total(sum, pad)
+    limbs::total(limbs::last(acc, r, &b), s)
 }

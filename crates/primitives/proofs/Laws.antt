@@ -1,13 +1,12 @@
 -- What start and absorb leave for finish.
-use mathlib.Core.Path.{◌≡◌, ap, sym, subst, ◌∙◌}
+use mathlib.Core.Path.{◌≡◌, ap, ◌∙◌}
 use mathlib.Core.List.{List, []}
 use Prim.Native.Nat.{ℕ}
 use lib.ListN.{length}
 use Rattle.words.specs.Le.{Bytes}
 use Rattle.poly1305.specs.declared.State.{State}
-use Rattle.poly1305.specs.State.{started, absorbed, finished, GoodState}
+use Rattle.poly1305.specs.State.{started, absorbed, finished}
 use Rattle.poly1305.specs.Poly1305.{poly1305}
-use Rattle.poly1305.proofs.StateLaws.{start-good, absorbed-good}
 use Rattle.poly1305.proofs.Mac.{mac}
 use Rattle.blake2s.specs.declared.State as B
 use Rattle.blake2s.specs.Stream as stream
@@ -17,9 +16,6 @@ use Rattle.blake2s.proofs.FaceLaws.{absorbed-hash, absorbed-keyed-hash}
 module _ {s t : State} (key m : List ℕ) (starts : s ≡ started key) (absorbs : t ≡ absorbed s m) where
   both : t ≡ absorbed (started key) m
   both = absorbs ∙ ap (λ (x : State). absorbed x m) starts
-
-  pub tag-good : GoodState t
-  tag-good = subst GoodState (sym both) (absorbed-good (started key) m (start-good key))
 
   pub tagged : length key ≡ 32 → Bytes key → finished t ≡ poly1305 key m
   tagged l b = ap finished both ∙ mac key m l b

@@ -15,7 +15,7 @@ pub extern "C" fn ngt_chacha20(d: &mut [u8], key: &[u8; 32], nonce: &[u8; 12], c
     chacha20::lay(d, *key, *nonce, counter);
 }
 
-// What is known of an array by value isn't known of one behind a reference: its length, and that its numbers are bytes.
+// A function of its own, over a copy of the key: written in line it costs the tag a thirtieth (bench/).
 fn tag_of(key: [u8; 32], m: &[u8]) -> [u8; 16]
     ensures { result ≡ poly1305 key m.now }
 {
@@ -37,17 +37,7 @@ pub extern "C" fn ngt_poly1305(m: &[u8], key: &[u8; 32], tag: &mut [u8; 16])
 pub extern "C" fn ngt_blake2s(m: &[u8], out: &mut [u8; 32])
     ensures { out.new ≡ blake2s [] m.now }
 {
-    let s = blake2s::start();
-    let t = blake2s::absorb(s, m);
-    *out = blake2s::finish(t);
-}
-
-fn keyed_hash_of(key: [u8; 32], m: &[u8]) -> [u8; 32]
-    ensures { result ≡ blake2s key m.now }
-{
-    let s = blake2s::start_keyed(key);
-    let t = blake2s::absorb(s, m);
-    blake2s::finish(t)
+    *out = blake2s::finish(blake2s::absorb(blake2s::start(), m));
 }
 
 // RFC 7693 3.3: the hash of `m` under a key of 32 bytes.
@@ -55,5 +45,5 @@ fn keyed_hash_of(key: [u8; 32], m: &[u8]) -> [u8; 32]
 pub extern "C" fn ngt_blake2s_keyed(m: &[u8], key: &[u8; 32], out: &mut [u8; 32])
     ensures { out.new ≡ blake2s key.now m.now }
 {
-    *out = keyed_hash_of(*key, m);
+    *out = blake2s::finish(blake2s::absorb(blake2s::start_keyed(*key), m));
 }

@@ -4,21 +4,10 @@ use mathlib.Core.List.{List}
 use Prim.Native.Nat.{ℕ, ◌/◌}
 use lib.ListN.{length}
 use Rattle.aes.specs.Aes.{cipher, key_expansion, aes256}
-use Rattle.aes.proofs.StateLaws.{length-cipher}
 use Rattle.aes_back.specs.InvAes.{eq_inv_cipher, key_expansion_eic}
 use Rattle.aes_back.proofs.EquivalentLaws.{equivalent_key}
 use Rattle.xts.specs.Xts.{over_blocks, tweak_under, sector_by, xts_encrypted, xts_decrypted, over_sectors}
-use Rattle.xts.proofs.SectorCode.{long-blocks, length-inverse}
 use Rattle.sectors.specs.Sectors.{encrypted_from, decrypted_from}
-
--- each sector stays 512 bytes
-pub long-under : (w v : List ℕ) (i : ℕ) (d : List ℕ) → length (sector_by (cipher w) v i d) ≡ 512
-unfolding sector_by
-long-under w v i d = long-blocks (cipher w) (length-cipher w) 32 (tweak_under v i) d
-
-pub long-back : (dw v : List ℕ) (i : ℕ) (d : List ℕ) → length (sector_by (eq_inv_cipher dw) v i d) ≡ 512
-unfolding sector_by
-long-back dw v i d = long-blocks (eq_inv_cipher dw) (length-inverse dw) 32 (tweak_under v i) d
 
 -- a sector from its tweak on
 pub turned : (f : List ℕ → List ℕ) (v : List ℕ) (i : ℕ) (d : List ℕ) {t z : List ℕ} → t ≡ tweak_under v i → z ≡ over_blocks f 32 t d → z ≡ sector_by f v i d

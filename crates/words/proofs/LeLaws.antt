@@ -1,5 +1,5 @@
 -- Laws of little-endian numbers: a number read back, bytes read back, one more byte, and numbers in parts.
-use mathlib.Core.Path.{◌≡◌, refl, ap}
+use mathlib.Core.Path.{◌≡◌, refl, ap, sym, ◌∙◌}
 use mathlib.Core.List.{List, [], ◌∷◌, ◌++◌}
 use Prim.Native.Nat.{ℕ, zero, suc, ◌+◌, ◌-◌, ◌*◌, ◌/◌, ◌%◌, ◌^◌, ◌<◌, ◌≤◌}
 use native.Mathlib.Nat.{pow-suc, pow-le-pow_right, add-suc, lt_of_lt_of_le, suc-add, zero-add}
@@ -7,9 +7,9 @@ use native.Mathlib.Numerals.{add-one}
 use lib.Dec.{lit≤, lit<}
 use native.Mathlib.Omega.{arith}
 use lib.ListN.{length, get_or, set, take, drop, length-append}
-use lib.Seq.{drop-cons, get_or-drop, sets, take-add, drop-drop}
+use lib.Seq.{drop-cons, get_or-drop, get_or_at, sets, take_at, take-take, take-add, drop-drop}
 use Rattle.base.specs.Lists.{part}
-use Rattle.base.proofs.PartLaws.{part-sets, length_part}
+use Rattle.base.proofs.PartLaws.{part-sets, length_part, get_or-part}
 use Rattle.words.specs.Le.{num, le, serialised, Bytes}
 use mir.Syntax.{w8}
 use mir.Val.{Val}
@@ -83,28 +83,55 @@ pub num-part : (k : ℕ) (l : List ℕ) (at : ℕ) → at < length l → num (pa
 unfolding num
 num-part k l at h = rw (drop-cons l at 0 h)
 
--- a loop that loads from the highest byte down: the next byte's place in the sum, and the bound
-pub num-down : (k : ℕ) (l : List ℕ) (at i : ℕ) → 0 < i → i ≤ k → at + k ≤ length l
-    → num (part (at + i) (k - i) l) * 256 + get_or l (at + (i - 1)) 0 ≡ num (part (at + (i - 1)) (k - (i - 1)) l)
-num-down k l at zero z h room = absurd (omega arith)
-num-down k l at (suc j) z h room =
-    let e : suc j - 1 ≡ j = omega arith in
-    let f : k - j ≡ suc (k - suc j) = omega arith in
-    rw (e, f, num-part (k - suc j) l (at + j) (omega arith), add-suc at j) (omega arith)
+-- a part of bytes is small
+pub num-part-lt : (l : List ℕ) → Bytes l → (at k : ℕ) → at + k ≤ length l → num (part at k l) < 256 ^ k
+num-part-lt l h at k room = rw (length_part at k l room) at (num-lt (part at k l) (bytes-part at k l h))
 
-pub num-none : (k : ℕ) (l : List ℕ) (at : ℕ) → (0 ≡ num (part (at + k) (k - k) l)) × (0 < 256 ^ (k - k))
+pub num-part-fits : (l : List ℕ) → Bytes l → (at k : ℕ) → k ≤ 8 → at + k ≤ length l → num (part at k l) < 2 ^ 64
+num-part-fits l h at k e room = lt_of_lt_of_le (num-part-lt l h at k room) (pow-le-pow_right {n = 256} (lit≤ tt) {i = k} {j = 8} e)
+
+-- a loop that loads from the highest byte down: `left` are the bytes to come
+pub down_start : (l left : List ℕ) (at k : ℕ) → left ≡ part at k l → at + k ≤ length l
+    → (length left ≤ k) × (left ≡ part at (length left) l) × (0 ≡ num (part (at + length left) (k - length left) l))
 unfolding num
-num-none k l at = let e : k - k ≡ 0 = omega arith in rw e (refl, omega arith)
+down_start l left at k e room =
+    let n : length left ≡ k = ap length e ∙ length_part at k l room in
+    let z : k - k ≡ 0 = omega arith in
+    rw (n, z) (omega arith, e, refl)
 
-pub down_lt : (k i r b : ℕ) → r < 256 ^ (k - i) → b < 256 → 0 < i → i ≤ k → r * 256 + b < 256 ^ (k - (i - 1))
-down_lt k zero r b h s z l = absurd (omega arith)
-down_lt k (suc j) r b h s z l =
-    let e : suc j - 1 ≡ j = omega arith in
-    let f : k - j ≡ suc (k - suc j) = omega arith in
-    rw (e, f, pow-suc 256 (k - suc j)) (omega arith)
+-- one turn: the last of them joins the sum
+pub down_next : (l : List ℕ) (at k : ℕ) {was : List ℕ} (left : List ℕ) {r : ℕ} (b : ℕ)
+    → was ≡ left ++ (b ∷ [])
+    → was ≡ part at (length was) l
+    → length was ≤ k
+    → r ≡ num (part (at + length was) (k - length was) l)
+    → at + k ≤ length l
+    → (length left ≤ k) × (left ≡ part at (length left) l) × (r * 256 + b ≡ num (part (at + length left) (k - length left) l))
+down_next l at k {was} left {r} b e h small value room =
+    let n = length left in
+    let more : length was ≡ suc n = ap length e ∙ length-append left (b ∷ []) ∙ add-one n in
+    let same : left ++ (b ∷ []) ≡ part at (suc n) l = sym e ∙ rw more at h in
+    let low : n < suc n = omega arith in
+    let byte : b ≡ get_or l (at + n) 0 = sym (get_or_at left b [] 0 n refl) ∙ ap (λ (x : List ℕ). get_or x n 0) same ∙ get_or-part at (suc n) l n 0 low in
+    let front : left ≡ part at n l = sym (take_at left (b ∷ []) n refl) ∙ ap (λ (x : List ℕ). take n x) same ∙ take-take n (suc n) (drop at l) (omega arith) in
+    let so_far : r ≡ num (part (at + suc n) (k - suc n) l) = rw more at value in
+    let f : k - n ≡ suc (k - suc n) = omega arith in
+    (omega arith, front, rw (f, num-part (k - suc n) l (at + n) (omega arith), so_far, byte, add-suc at n) (omega arith))
 
-pub down_fits : (k i r b : ℕ) → r < 256 ^ (k - i) → b < 256 → 0 < i → i ≤ k → k ≤ 8 → r * 256 + b < 2 ^ 64
-down_fits k i r b h s z l e = lt_of_lt_of_le (down_lt k i r b h s z l) (pow-le-pow_right {n = 256} (lit≤ tt) {i = k - (i - 1)} {j = 8} (omega arith))
+-- and the sum fits
+pub down_fits : (l : List ℕ) (at k : ℕ) {was : List ℕ} (left : List ℕ) {r : ℕ} (b : ℕ)
+    → was ≡ left ++ (b ∷ [])
+    → was ≡ part at (length was) l
+    → length was ≤ k
+    → r ≡ num (part (at + length was) (k - length was) l)
+    → at + k ≤ length l
+    → Bytes l
+    → k ≤ 8
+    → r * 256 + b < 2 ^ 64
+down_fits l at k left b e h small value room bytes low =
+    let q = down_next l at k left b e h small value room in
+    let n = length left in
+    omega (arith, q.0, q.2, num-part-fits l bytes (at + n) (k - n) (omega arith) (omega (arith, q.0)))
 
 -- a loop that stores from the lowest byte up
 pub le_next : (k i y : ℕ) → i < k → le (k - i) y ≡ y % 256 ∷ le (k - (i + 1)) (y / 256)
@@ -114,13 +141,12 @@ le_next k i y h =
     rw f
 
 -- its turn, and its end
-pub sets-le-next : (s : List ℕ) (at k i y : ℕ) → i < k
-    → sets (set s (at + i) (y % 256)) (at + (i + 1)) (le (k - (i + 1)) (y / 256)) ≡ sets s (at + i) (le (k - i) y)
-sets-le-next s at k i y h = rw (le_next k i y h, add-one i, add-suc at i)
+pub sets-le-next : (s : List ℕ) (k i y : ℕ) → i < k → sets (set s i (y % 256)) (i + 1) (le (k - (i + 1)) (y / 256)) ≡ sets s i (le (k - i) y)
+sets-le-next s k i y h = rw (le_next k i y h, add-one i)
 
-pub sets-le-done : (s : List ℕ) (at k i y : ℕ) → k ≤ i → sets s (at + i) (le (k - i) y) ≡ s
+pub sets-le-done : (s : List ℕ) (k i y : ℕ) → k ≤ i → sets s i (le (k - i) y) ≡ s
 unfolding le
-sets-le-done s at k i y h = let e : k - i ≡ 0 = omega arith in rw e
+sets-le-done s k i y h = let e : k - i ≡ 0 = omega arith in rw e
 
 -- a number stored is loaded
 pub load_store : (l : List ℕ) (at k x : ℕ) → x < 256 ^ k → at + k ≤ length l → num (part at k (sets l at (le k x))) ≡ x

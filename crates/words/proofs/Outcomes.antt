@@ -1,5 +1,9 @@
 -- No second outcome meets the words of a public function: each theorem is over its own `ensures`.
+use Prim.Native.Nat.{ℕ}
 use mathlib.Core.Path.{refl}
+use mir.Syntax.{w64}
+use mir.Val.{Fits}
+use denote.Param.{number}
 use Rattle.base.specs.Outcome.{OneOutcome}
 use Rattle.base.proofs.OutcomeLaws.{agree, ◌∥◌}
 use Rattle.words.proofs as fn
@@ -10,9 +14,6 @@ rotate_left κs a x y u v p q = (agree p q, refl)
 
 pub rotate_right : OneOutcome said.rotate_right.ended fn.rotate_right.Reads.Post
 rotate_right κs a x y u v p q = (agree p q, refl)
-
-pub wide : OneOutcome said.wide.ended fn.wide.Reads.Post
-wide κs a x y u v p q = (agree p q, refl)
 
 pub load : OneOutcome said.load.ended fn.load.Reads.Post
 load κs a x y u v p q = (agree p.0 q.0, refl)
@@ -29,11 +30,8 @@ store32 κs a x y u v p q = (refl, agree p q ∥ refl)
 pub copy : OneOutcome said.copy.ended fn.copy.Reads.Post
 copy κs a x y u v p q = (refl, agree p q ∥ refl)
 
-pub sixteen : OneOutcome said.sixteen.ended fn.sixteen.Reads.Post
-sixteen κs a x y u v p q = (agree p q, refl)
-
-pub thirty_two : OneOutcome said.thirty_two.ended fn.thirty_two.Reads.Post
-thirty_two κs a x y u v p q = (agree p q, refl)
+pub taken : (N : ℕ) (fits : Fits w64 N) → OneOutcome (said.taken.ended (number N)) (fn.taken.Reads.Post N fits)
+taken N fits κs a x y u v p q = (agree p q, refl)
 
 pub xor : OneOutcome said.xor.ended fn.xor.Reads.Post
 xor κs a x y u v p q = (refl, agree p q ∥ refl)

@@ -1,6 +1,6 @@
 -- The tweak times alpha on four words is byte by byte.
 use mathlib.Core.Path.{◌≡◌, refl, ap, ap₂, sym, ◌∙◌}
-use mathlib.Core.List.{List, [], ◌∷◌, ◌++◌}
+use mathlib.Core.List.{List, [], ◌∷◌}
 use Prim.Native.Nat.{ℕ, zero, suc, ◌+◌, ◌*◌, ◌/◌, ◌%◌, ◌^◌, ◌<◌}
 use native.Mathlib.Nat.{mul_comm}
 use native.Mathlib.Omega.{arith}
@@ -11,11 +11,10 @@ use Rattle.words.specs.Le.{num, le, serialised}
 use Rattle.words.specs.Xor.{xorl}
 use Rattle.words.proofs.LeLaws.{le-num, num-le}
 use Rattle.aes.specs.Code.{state_bytes}
+use Rattle.aes.specs.declared.Columns.{Columns}
+use Rattle.aes.proofs.StateLaws.{app}
 use Rattle.aes.proofs.WordLaws.{four_bytes, le-xor}
 use Rattle.xts.specs.Xts.{carried, times_alpha}
-
-abbrev app : List ℕ → List ℕ → List ℕ
-app x y = x ++ y
 
 -- a word of the tweak, and the digit that it takes over
 abbrev alpha_word : ℕ → ℕ → ℕ → ℕ → ℕ → List ℕ
@@ -78,19 +77,19 @@ word_first x o h l =
     ∙ ap₂ xorl (ap (le 4) plain ∙ word_next x 0 h (lit< tt)) (digit o l)
     ∙ (λ i. bit_xor (e0 i) (135 * o) ∷ e1 i ∷ e2 i ∷ e3 i ∷ [])
 
-pub next_is : (a b c d : ℕ) → a < 2 ^ 32 → b < 2 ^ 32 → c < 2 ^ 32 → d < 2 ^ 32
+pub next_is : (t : Columns) → t.a < 2 ^ 32 → t.b < 2 ^ 32 → t.c < 2 ^ 32 → t.d < 2 ^ 32
     → state_bytes
     (record {
-      a = bit_xor (a % 2147483648 * 2) (d / 2147483648 * 135);
-      b = b % 2147483648 * 2 + a / 2147483648;
-      c = c % 2147483648 * 2 + b / 2147483648;
-      d = d % 2147483648 * 2 + c / 2147483648;
+      a = bit_xor (t.a % 2147483648 * 2) (t.d / 2147483648 * 135);
+      b = t.b % 2147483648 * 2 + t.a / 2147483648;
+      c = t.c % 2147483648 * 2 + t.b / 2147483648;
+      d = t.d % 2147483648 * 2 + t.c / 2147483648;
     })
-    ≡ times_alpha (serialised (a ∷ b ∷ c ∷ d ∷ []))
+    ≡ times_alpha (state_bytes t)
 unfolding state_bytes serialised times_alpha carried tab le
-next_is a b c d ha hb hc hd =
+next_is t ha hb hc hd =
     let word : ℕ → ℕ → List ℕ = λ x k. alpha_word (x % 256) (x / 256 % 256) (x / 256 / 256 % 256) (x / 256 / 256 / 256 % 256) k in
-    ap₂ app (word_first a (d / 2147483648) ha (omega arith) ∙ ap (λ (o : ℕ). word a (135 * o)) (top d hd))
-    (ap₂ app (word_next b (a / 2147483648) hb (omega arith) ∙ ap (word b) (top a ha))
-    (ap₂ app (word_next c (b / 2147483648) hc (omega arith) ∙ ap (word c) (top b hb))
-    (ap₂ app (word_next d (c / 2147483648) hd (omega arith) ∙ ap (word d) (top c hc)) refl)))
+    ap₂ app (word_first t.a (t.d / 2147483648) ha (omega arith) ∙ ap (λ (o : ℕ). word t.a (135 * o)) (top t.d hd))
+    (ap₂ app (word_next t.b (t.a / 2147483648) hb (omega arith) ∙ ap (word t.b) (top t.a ha))
+    (ap₂ app (word_next t.c (t.b / 2147483648) hc (omega arith) ∙ ap (word t.c) (top t.b hb))
+    (ap₂ app (word_next t.d (t.c / 2147483648) hd (omega arith) ∙ ap (word t.d) (top t.c hc)) refl)))

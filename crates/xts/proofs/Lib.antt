@@ -1,3 +1,4 @@
+pub mod Rows
 pub mod AlphaLaws
 pub mod SectorCode
 pub mod XtsLaws

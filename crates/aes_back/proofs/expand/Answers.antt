@@ -1,24 +1,24 @@
 use mathlib.Core.Path.{ap, ◌∙◌}
 use native.Mathlib.Omega.{arith}
-use lib.ListN.{length-set}
-use Rattle.base.proofs.TabLaws.{tab-none, tab_more, tab-next, tab-all}
-use Rattle.aes_back.specs.InvAes.{modified_at, modified, key_expansion_eic}
 use borrow.Author.Rules.{rules}
+use Rattle.base.proofs.TabLaws.{tab_more, tab-next}
+use Rattle.aes_back.specs.InvAes.{modified_at, modified, key_expansion_eic}
+use Rattle.aes_back.proofs.InvRoundLaws.{mixed_code, modified_mid, modified_first, modified_all}
 use Rattle.aes_back.proofs.expand.Goals as goal
 
 pub loop-i-init : goal.loop-i-init
-loop-i-init c = (omega arith, search rules, search rules, tab-none _ _)
+loop-i-init c = modified_first _ (search rules)
 
 pub loop-i-preserved : goal.loop-i-preserved
 loop-i-preserved c =
-    let s = c.loop-i in (
-      omega arith,
-      simp length-set s.invariant.1,
-      s.invariant.2,
-      tab_more _ _ s.i s.invariant.3 (c.modified_at-x.ensures ∙ ap (modified_at s.i) (tab-next _ _ s.i 0 s.invariant.3 (omega arith))) (omega arith),
-    )
+    let s = c.loop-i in
+    let h = s.invariant in
+    tab_more _ _ s.i h
+    (mixed_code c.args.t.now c.requires.1 _ c.sub_word-y.ensures c.looked_up.ensures
+    ∙ modified_mid s.i _ (omega arith) (omega arith)
+    ∙ ap (modified_at s.i) (tab-next _ _ s.i 0 h (search rules)))
+    (search rules)
 
 pub returns : goal.returns
-unfolding modified key_expansion_eic
-returns c =
-    tab-all _ _ _ 60 c.loop-i.invariant.3 (omega arith) (omega (arith, c.loop-i.invariant.2)) ∙ ap modified c.expand-w.ensures
+unfolding key_expansion_eic
+returns c = modified_all _ _ c.loop-i.i (search rules) (omega arith) c.loop-i.invariant ∙ ap modified c.expand-w.ensures

@@ -3,4 +3,4 @@ use Rattle.blake2s.proofs.start.Goals as goal
 
 pub returns : goal.returns
 unfolding started
-returns c = rw c.first_chain-h.ensures
+returns c = rw c.first_chain.ensures

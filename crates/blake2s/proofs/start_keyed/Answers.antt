@@ -3,4 +3,4 @@ use Rattle.blake2s.proofs.start_keyed.Goals as goal
 
 pub returns : goal.returns
 unfolding started_keyed
-returns c = rw (c.first_chain-h.ensures, c.pad-b.ensures)
+returns c = rw (c.first_chain.ensures, c.pad.ensures)

@@ -3,4 +3,4 @@ use Rattle.chacha20.proofs.block.Goals as goal
 
 pub returns : goal.returns
 unfolding block_of
-returns c = rw (c.block_from.ensures, c.start_state-s.ensures)
+returns c = rw (c.block_from.ensures, c.start_state.ensures)

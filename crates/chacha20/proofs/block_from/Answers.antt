@@ -3,4 +3,4 @@ use Rattle.chacha20.proofs.block_from.Goals as goal
 
 pub returns : goal.returns
 unfolding block_from
-returns c = rw (c.summed.ensures, c.twenty_rounds-w.ensures)
+returns c = rw (c.summed.ensures, c.twenty_rounds.ensures)

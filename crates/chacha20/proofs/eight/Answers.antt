@@ -3,4 +3,4 @@ use Rattle.std.proofs.Common.{◌∙◌}
 use Rattle.chacha20.proofs.eight.Goals as goal
 
 pub returns : goal.returns
-returns c = c.eight_blocks.ensures ∙ rw c.start_state-s.ensures (blocks-keystream _ _ _ 8)
+returns c = c.eight_blocks.ensures ∙ rw c.start_state.ensures (blocks-keystream _ _ _ 8)

@@ -1,10 +1,11 @@
-use Rattle.std.proofs.Common.{◌≡◌, ◌-◌, ◌≤◌, ◌++◌, length, take, drop}
-use Rattle.chacha20.specs.ChaCha20.{start, encrypted}
+use Rattle.std.proofs.Common.{◌≡◌, ◌%◌, ◌≤◌}
+use Rattle.chacha20.proofs.LayLaws.{Eights}
 use Rattle.chacha20.proofs.lay.Given as goal
 
-abbrev pub invariant-loop-d : goal.invariant-loop-d
-invariant-loop-d l =
-    (length l.d ≡ length l.initial.d) × (l.at ≤ length l.d) × (l.s ≡ start l.key l.nonce l.c) × (take l.at l.d ++ encrypted l.key l.nonce l.c (drop l.at l.d) ≡ encrypted l.key l.nonce l.counter l.initial.d) × (length l.k ≡ 512)
-
-abbrev pub decreases-loop-d : goal.decreases-loop-d
-decreases-loop-d l = length l.initial.d - l.at
+abbrev pub invariant-loop-at : goal.invariant-loop-at
+invariant-loop-at l =
+    record {
+      in_turns : l.at % 512 ≡ 0;
+      within : l.at ≤ l.whole;
+      laid : Eights l.key l.nonce l.counter l.initial.d l.s l.at l.d;
+    }

@@ -5,4 +5,4 @@ use Rattle.chacha20.proofs.start_state.Goals as goal
 
 pub returns : goal.returns
 unfolding start words_of tab
-returns c = simp (c.with_words.ensures, c.with_words-k.ensures)
+returns c = simp (c.load-2.ensures, c.load.ensures)

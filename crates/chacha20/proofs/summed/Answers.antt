@@ -7,15 +7,14 @@ use Rattle.chacha20.proofs.summed.Goals as goal
 
 pub loop-i-init : goal.loop-i-init
 unfolding serialised tab
-loop-i-init c = (omega arith, refl, refl)
+loop-i-init c = (refl, refl)
 
 pub loop-i-preserved : goal.loop-i-preserved
 loop-i-preserved c = (
-  omega arith,
-  c.store32.auto.s ∙ c.loop-i.invariant.1,
-  c.store32.ensures ∙ serialised_more _ _ _ c.loop-i.invariant.2 c.wrapping_add_u32-x.ensures.value (omega arith),
+  c.store32.auto.s ∙ c.loop-i.invariant.0,
+  c.store32.ensures ∙ serialised_more _ _ _ c.loop-i.invariant.1 refl (omega arith),
 )
 
 pub returns : goal.returns
 unfolding added
-returns c = serialised-all _ _ _ 16 c.loop-i.invariant.2 (omega arith) (omega arith)
+returns c = serialised-all _ _ _ 16 c.loop-i.invariant.1 (omega arith) (omega arith)

@@ -1,10 +1,7 @@
--- Four words, turned.
-use Rattle.std.proofs.Common.{◌∙◌}
 use Rattle.ctr.proofs.CounterLaws.{counter_is}
 use Rattle.ctr.proofs.counter_block.Goals as goal
 
 pub returns : goal.returns
 returns c =
     let a = c.args in
-    c.bytes.ensures
-    ∙ counter_is a.keycount a.number _ _ _ _ c.turned-a.ensures c.turned-b.ensures c.turned-c.ensures c.turned-d.ensures
+    simp (c.copy_from_slice-2.ensures.after, c.copy_from_slice.ensures.after, c.to_be_bytes-2.ensures, c.to_be_bytes.ensures) (counter_is a.keycount a.number)

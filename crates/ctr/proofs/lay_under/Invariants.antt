@@ -1,4 +1,3 @@
-use Rattle.std.proofs.Common.{◌≡◌, ◌-◌, length}
 use Rattle.streams.proofs.LayLaws.{Left}
 use Rattle.ctr.proofs.StreamLaws.{piece, onward, long-piece}
 use Rattle.ctr.proofs.lay_under.Given as goal
@@ -6,7 +5,4 @@ use Rattle.ctr.proofs.lay_under.Given as goal
 -- A piece of four blocks a turn.
 abbrev pub invariant-loop-at : goal.invariant-loop-at
 invariant-loop-at l =
-    (length l.d ≡ length l.initial.d) × Left (piece l.w l.keycount) (onward l.w l.keycount) (long-piece l.w l.keycount) l.number l.initial.d l.n l.at l.d
-
-abbrev pub decreases-loop-at : goal.decreases-loop-at
-decreases-loop-at l = length l.initial.d - l.at
+    Left (piece l.w l.keycount) (onward l.w l.keycount) (long-piece l.w l.keycount) l.number l.initial.d l.n l.at l.d

@@ -8,25 +8,16 @@ use Rattle.limbs.proofs.carry.Goals as goal
 use Rattle.limbs.proofs.carry.Goals.{After-split-u, After-split-w}
 
 u-whole : (c : After-split-u) → c.split-c0.result.low + 5 * c.split-c4.result.high ≡ c.split-u.result.high * 2 ^ 26 + c.split-u.result.low
-u-whole c = rw c.wide.ensures at c.split-u.ensures.whole
+u-whole c = rw c.from.ensures at c.split-u.ensures.whole
 
 u-small : (c : After-split-u) → c.split-u.result.high < 2 ^ 20
 u-small c = omega (arith, u-whole c, c.split-c0.ensures.small, c.split-c4.ensures.rest)
 
 w-whole : (c : After-split-w) → c.split-c3.result.low + c.split-c2.result.high ≡ c.split-w.result.high * 2 ^ 26 + c.split-w.result.low
-w-whole c = rw c.wide-2.ensures at c.split-w.ensures.whole
+w-whole c = rw c.from-2.ensures at c.split-w.ensures.whole
 
 w-small : (c : After-split-w) → c.split-w.result.high < 2 ^ 20
 w-small c = omega (arith, w-whole c, c.split-c3.ensures.small, c.split-c2.ensures.rest)
-
-pub overflow_add-result : goal.overflow_add-result
-overflow_add-result c = omega (arith, u-small (goal.at.overflow_add-result c).After-split-u, c.split-c1.ensures.small)
-
-pub overflow_cast-result-2 : goal.overflow_cast-result-2
-overflow_cast-result-2 c = omega (arith, w-small (goal.at.overflow_cast-result-2 c).After-split-w)
-
-pub overflow_add-result-2 : goal.overflow_add-result-2
-overflow_add-result-2 c = omega (arith, w-small (goal.at.overflow_add-result-2 c).After-split-w, c.split-c4.ensures.small)
 
 pub returns : goal.returns
 returns c = let a = c.args in

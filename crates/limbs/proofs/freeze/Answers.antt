@@ -8,8 +8,8 @@ use Rattle.limbs.proofs.freeze.Goals as goal
 pub returns : goal.returns
 returns c = let h = c.args.h in
     let b = c.requires in
-    let over = c.ripple_limbs-over in
-    let left = c.ripple_limbs-left in
+    let over = c.ripple-over in
+    let left = c.ripple in
     let few = over.ensures.light b.b0 b.b1 b.b2 b.b3 b.b4 (lit≤ tt) in
     held left.result.low (value h % p)
     (frozen (2 ^ 26) p wraps (value h) (value over.result.low) (value left.result.low) over.result.top left.result.top over.ensures.whole left.ensures.whole

@@ -8,6 +8,6 @@ returns c =
     record {
       whole =
           c.join.ensures.whole
-          ∙ rw (c.load32-a.ensures, c.load32-b.ensures, c.load32-c.ensures, c.load32-d.ensures, quad-num a.m.now a.at c.requires.0);
+          ∙ rw (c.load32-a.ensures, c.load32-b.ensures, c.load32-c.ensures, c.load32-d.ensures, quad-num a.m.now a.at c.requires);
       small = c.join.ensures.small;
     }

@@ -1,7 +1,8 @@
-use Rattle.limbs.specs.Limbs.{quad}
-use Rattle.poly1305.specs.State.{started}
+use Rattle.poly1305.proofs.StateLaws.{starts, start-good}
 use Rattle.poly1305.proofs.start.Goals as goal
 
+pub invariant_of-result : goal.invariant_of-result
+invariant_of-result c = record { good = rw (starts c.args.key c.clamped.ensures c.pack.ensures c.number.ensures) (start-good c.args.key) }
+
 pub returns : goal.returns
-unfolding started quad
-returns c = rw (c.number-s.ensures, c.pack-acc.ensures, c.clamped-r.ensures)
+returns c = starts c.args.key c.clamped.ensures c.pack.ensures c.number.ensures

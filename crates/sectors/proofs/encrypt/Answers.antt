@@ -5,4 +5,4 @@ use Rattle.sectors.proofs.encrypt.Goals as goal
 pub returns : goal.returns
 returns c =
     let a = c.args in
-    encrypted_is a.one a.two a.first a.d.now c.expand-w.ensures c.expand-v.ensures c.encrypt_under.ensures
+    encrypted_is a.one a.two a.first a.d.now c.expand-w.ensures c.expand-v.ensures c.under.ensures

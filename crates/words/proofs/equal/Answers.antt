@@ -1,32 +1,23 @@
-use Rattle.base.proofs.FoldLaws.{same_next, same-differ, same_lengths}
+use mathlib.Core.Bool.{Bool, true, false, ◌&&◌}
+use mathlib.Core.List.{List, [], ◌∷◌}
+use mathlib.Core.Path.{◌≡◌, refl, ◌∙◌}
+use Prim.Native.Nat.{ℕ}
+use lib.Dec.{eqb}
+use Rattle.std.specs.Cmp.Lexicographic.{pointwise}
+use Rattle.base.specs.Pick.{both}
 use Rattle.base.specs.Lists.{same}
-use lib.ListN.{drop_of_length-le}
-use native.Mathlib.Numerals.{add-one}
-use native.Mathlib.Omega.{arith}
-use mathlib.Core.Path.{refl, sym, ◌∙◌}
 use Rattle.words.proofs.equal.Goals as goal
 
-pub returns-then-a-b : goal.returns-then-a-b
-returns-then-a-b c = sym (same_lengths c.args.a.now c.args.b.now c.if-a-b.true)
+both_is : (s t : Bool) → (s && t) ≡ both s t
+both_is true t = refl
+both_is false t = refl
 
-pub loop-i-init : goal.loop-i-init
-loop-i-init c = (omega arith, refl)
-
-pub returns-then-a-i : goal.returns-then-a-i
-returns-then-a-i c =
-    let t = c.loop-i in
-    let x = c.args in
-    sym (same-differ x.a.now x.b.now t.i (omega arith) (omega arith) c.if-a-i.true) ∙ t.invariant.1
-
-pub loop-i-preserved : goal.loop-i-preserved
-loop-i-preserved c =
-    let t = c.loop-i in
-    let x = c.args in
-    (omega arith, rw add-one (same_next x.a.now x.b.now t.i (omega arith) (omega arith) c.if-a-i.false ∙ t.invariant.1))
+pointwise-same : (a b : List ℕ) → pointwise eqb a b ≡ same a b
+unfolding same
+pointwise-same [] [] = refl
+pointwise-same [] (y ∷ b) = refl
+pointwise-same (x ∷ a) [] = refl
+pointwise-same (x ∷ a) (y ∷ b) = rw (pointwise-same a b) (both_is (eqb x y) (same a b))
 
 pub returns : goal.returns
-unfolding same
-returns c =
-    let t = c.loop-i in
-    let x = c.args in
-    rw (drop_of_length-le x.a.now c.loop-i-test.false, drop_of_length-le x.b.now {i = t.i} (omega arith)) at t.invariant.1
+returns c = c.eq.ensures ∙ pointwise-same c.args.a.now c.args.b.now

@@ -1,48 +1,42 @@
 use native.Mathlib.Nat.{add-zero, sub-zero}
-use lib.Dec.{lit<}
-use Rattle.words.proofs.LeLaws.{num-down, num-none, down_lt, down_fits}
-use Prim.Native.Nat.{◌<◌, ◌-◌, ◌+◌, ◌*◌, ◌^◌, ℕ}
-use mathlib.Core.Path.{◌≡◌, ap, ◌∙◌}
+use Prim.Native.Nat.{◌-◌, ◌+◌}
+use mathlib.Core.Path.{◌≡◌, ◌∙◌}
 use native.Mathlib.Omega.{arith}
-use lib.ListN.{get_or}
+use lib.ListN.{length, take, drop}
 use Rattle.base.specs.Lists.{part}
+use Rattle.base.proofs.PartLaws.{part_to}
 use Rattle.words.specs.Le.{num}
+use Rattle.words.proofs.LeLaws.{down_start, down_next, down_fits, num-part-lt}
 use Rattle.words.proofs.load.Goals as goal
 
-pub loop-i-init : goal.loop-i-init
-loop-i-init c =
+pub loop-b-init : goal.loop-b-init
+loop-b-init c =
     let a = c.args in
-    (omega arith, (num-none a.k a.s.now a.at).0, (num-none a.k a.s.now a.at).1)
+    let e : c.into_iter-b-iterator.result.iter.rest.now ≡ take (a.at + a.k - a.at) (drop a.at a.s.now) = cc in
+    down_start a.s.now _ a.at a.k (e ∙ part_to a.at a.k a.s.now) c.requires.1
+
+pub loop-b-preserved : goal.loop-b-preserved
+loop-b-preserved c =
+    let a = c.args in
+    let t = c.loop-b in
+    rw c.from.ensures (down_next a.s.now a.at a.k _ _ c.in-Some.ensures.steps t.invariant.1 t.invariant.0 t.invariant.2 c.requires.1)
 
 pub overflow_mul-r : goal.overflow_mul-r
 overflow_mul-r c =
-    let t = c.loop-i in
-    omega (arith, down_fits c.args.k t.i t.r 0 t.invariant.2 (lit< tt) c.loop-i-test.true t.invariant.0 c.requires.0)
+    let a = c.args in
+    let t = c.loop-b in
+    omega (arith, down_fits a.s.now a.at a.k _ _ c.in-Some.ensures.steps t.invariant.1 t.invariant.0 t.invariant.2 c.requires.1 (λ i. omega (arith, c.type_inv.s i)) c.requires.0)
 
 pub overflow_add-r : goal.overflow_add-r
 overflow_add-r c =
-    let t = c.loop-i in
-    let b = get_or c.args.s.now (c.args.at + (t.i - 1)) 0 in
-    let byte : b < 256 = omega (arith, c.shared_slice_known-in-loop-i-1.given (c.args.at + (t.i - 1))) in
-    rw c.wide.ensures (omega (arith, down_fits c.args.k t.i t.r b t.invariant.2 byte c.loop-i-test.true t.invariant.0 c.requires.0))
-
-pub loop-i-preserved : goal.loop-i-preserved
-loop-i-preserved c =
-    let t = c.loop-i in
-    let at = c.args.at + (t.i - 1) in
-    let b = get_or c.args.s.now at 0 in
-    let byte : b < 256 = omega (arith, c.shared_slice_known-in-loop-i-1.given at) in
-    rw c.wide.ensures (
-      omega arith,
-      ap (λ (x : ℕ). x * 256 + b) t.invariant.1 ∙ num-down c.args.k c.args.s.now c.args.at t.i c.loop-i-test.true t.invariant.0 c.requires.1,
-      down_lt c.args.k t.i t.r b t.invariant.2 byte c.loop-i-test.true t.invariant.0,
-    )
+    let a = c.args in
+    let t = c.loop-b in
+    omega (arith, c.from.ensures, down_fits a.s.now a.at a.k _ _ c.in-Some.ensures.steps t.invariant.1 t.invariant.0 t.invariant.2 c.requires.1 (λ i. omega (arith, c.type_inv.s i)) c.requires.0)
 
 pub returns : goal.returns
 returns c =
-    let t = c.loop-i in
     let a = c.args in
-    let e : t.i ≡ 0 = omega arith in
-    let value : t.r ≡ num (part (a.at + 0) (a.k - 0) a.s.now) = rw e at t.invariant.1 in
-    let bound : t.r < 256 ^ (a.k - 0) = rw e at t.invariant.2 in
-    (rw (add-zero, sub-zero) at value, rw sub-zero at bound)
+    let e : length c.loop-b.b-iterator.iter.rest.now ≡ 0 = c.in-None.ensures.steps.0 in
+    let value : c.loop-b.r ≡ num (part (a.at + 0) (a.k - 0) a.s.now) = rw e at c.loop-b.invariant.2 in
+    let is : c.loop-b.r ≡ num (part a.at a.k a.s.now) = rw (add-zero, sub-zero) at value in
+    (is, rw is (num-part-lt a.s.now (λ i. omega (arith, c.type_inv.s i)) a.at a.k c.requires.1))

@@ -1,11 +1,11 @@
-use Prim.Native.Nat.{◌≤◌, ◌<◌, ◌-◌, ◌+◌, ◌^◌}
+use Prim.Native.Nat.{◌≤◌, ◌-◌, ◌+◌}
 use mathlib.Core.Path.{◌≡◌}
+use lib.ListN.{length}
 use Rattle.base.specs.Lists.{part}
 use Rattle.words.specs.Le.{num}
 use Rattle.words.proofs.load.Given as goal
 
-abbrev pub invariant-loop-i : goal.invariant-loop-i
-invariant-loop-i l = (l.i ≤ l.k) × (l.r ≡ num (part (l.at + l.i) (l.k - l.i) l.s)) × (l.r < 256 ^ (l.k - l.i))
-
-abbrev pub decreases-loop-i : goal.decreases-loop-i
-decreases-loop-i l = l.i
+abbrev pub invariant-loop-b : goal.invariant-loop-b
+invariant-loop-b l =
+    let left = l.b-iterator.iter.rest.now in
+    (length left ≤ l.k) × (left ≡ part l.at (length left) l.s) × (l.r ≡ num (part (l.at + length left) (l.k - length left) l.s))

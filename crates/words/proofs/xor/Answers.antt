@@ -1,6 +1,6 @@
-use lib.ListN.{length-set, length, get_or}
+use lib.ListN.{length, get_or}
 use Prim.Native.Nat.{◌<◌, ℕ}
-use mathlib.Core.Path.{refl, ap, sym, ◌∙◌}
+use mathlib.Core.Path.{ap, sym, ◌∙◌}
 use native.Mathlib.Omega.{arith}
 use lib.Bits.{bit_xor}
 use Rattle.base.proofs.TabLaws.{tab-none, tab_more, tab-next, tab-all}
@@ -8,17 +8,17 @@ use Rattle.words.proofs.XorLaws.{xorl-tab}
 use Rattle.words.proofs.xor.Goals as goal
 
 pub loop-i-init : goal.loop-i-init
-loop-i-init c = (omega arith, refl, tab-none _ _)
+loop-i-init c = tab-none _ _
 
 pub loop-i-preserved : goal.loop-i-preserved
 loop-i-preserved c =
     let t = c.loop-i in
     let d = c.args.d.now in
     let h : t.i < length d = omega arith in
-    (omega arith, simp length-set t.invariant.1, tab_more _ d t.i t.invariant.2 (ap (λ (x : ℕ). bit_xor x (get_or c.args.k.now t.i 0)) (tab-next _ d t.i 0 t.invariant.2 h)) h)
+    tab_more _ d t.i t.invariant (ap (λ (x : ℕ). bit_xor x (get_or c.args.k.now t.i 0)) (tab-next _ d t.i 0 t.invariant h)) h
 
 pub returns : goal.returns
 returns c =
     let t = c.loop-i in
     let a = c.args in
-    tab-all _ a.d.now t.i (length a.d.now) t.invariant.2 (omega arith) (omega arith) ∙ sym (xorl-tab a.d.now a.k.now)
+    tab-all _ a.d.now t.i (length a.d.now) t.invariant (omega arith) (omega arith) ∙ sym (xorl-tab a.d.now a.k.now)

@@ -5,5 +5,5 @@ use Rattle.xts.proofs.encrypt_sector.Goals as goal
 pub returns : goal.returns
 returns c =
     let a = c.args in
-    sector_is a.one a.two a.i a.d.now c.expand-w.ensures c.expand-v.ensures c.tweak-t.ensures
+    sector_is a.one a.two a.i a.d.now c.expand-w.ensures c.expand-v.ensures c.tweak.ensures
     c.encrypt_from.ensures

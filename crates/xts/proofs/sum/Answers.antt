@@ -7,9 +7,6 @@ use Rattle.xts.proofs.sum.Goals as goal
 pub returns : goal.returns
 returns c =
     let known = c.well_formed.0 in
-    let also = c.well_formed.1.0 in
     let p = c.args.p in
-    let t = c.args.t in
     c.bytes.ensures
-    ∙ sum_is p t _ _ _ (record { long = known.1.0.1; bytes = owned_bytes p known.0 known.1.1 })
-    (record { long = also.1.0.1; bytes = owned_bytes t also.0 also.1.1 }) c.load-x.ensures c.load-y.ensures c.add-z.ensures
+    ∙ sum_is p c.args.t _ _ (record { long = known.1.0.1; bytes = owned_bytes p known.0 known.1.1 }) c.load.ensures c.add.ensures

@@ -1,15 +1,7 @@
--- On the four words of the tweak.
-use mathlib.Core.Path.{ap, ◌∙◌}
-use Rattle.words.proofs.LeLaws.{owned_bytes}
-use Rattle.aes.specs.Code.{state_bytes}
-use Rattle.aes.proofs.StateLaws.{columns-back}
-use Rattle.xts.specs.Xts.{times_alpha}
+-- Four words, each with what the one before hands on.
+use native.Mathlib.Omega.{arith}
+use Rattle.xts.proofs.AlphaLaws.{next_is}
 use Rattle.xts.proofs.times_alpha.Goals as goal
 
 pub returns : goal.returns
-unfolding state_bytes
-returns c =
-    let known = c.well_formed.0 in
-    let t = c.args.t in
-    c.next.ensures
-    ∙ ap times_alpha (ap state_bytes c.load-s.ensures ∙ columns-back t (record { long = known.1.0.1; bytes = owned_bytes t known.0 known.1.1 }))
+returns c = next_is c.args.t (omega arith) (omega arith) (omega arith) (omega arith)

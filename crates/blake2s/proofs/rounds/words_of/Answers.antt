@@ -4,11 +4,11 @@ use Rattle.words.specs.Le.{words_of}
 use Rattle.blake2s.proofs.rounds.words_of.Goals as goal
 
 pub loop-i-init : goal.loop-i-init
-loop-i-init c = (omega arith, tab-none _ _)
+loop-i-init c = tab-none _ _
 
 pub loop-i-preserved : goal.loop-i-preserved
-loop-i-preserved c = (omega arith, tab_more _ _ _ c.loop-i.invariant.1 c.load32.ensures (omega arith))
+loop-i-preserved c = tab_more _ _ _ c.loop-i.invariant c.load32.ensures (omega arith)
 
 pub returns : goal.returns
 unfolding words_of
-returns c = tab-all _ _ _ 16 c.loop-i.invariant.1 (omega arith) (omega arith)
+returns c = tab-all _ _ _ 16 c.loop-i.invariant (omega arith) (omega arith)

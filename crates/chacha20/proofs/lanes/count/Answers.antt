@@ -4,15 +4,15 @@ use Rattle.base.proofs.TabLaws.{tab-sets_more}
 use Rattle.chacha20.specs.Lanes.{counters}
 use Rattle.chacha20.proofs.lanes.count.Goals as goal
 
-pub loop-k-init : goal.loop-k-init
+pub loop-j-init : goal.loop-j-init
 unfolding tab
-loop-k-init c = (omega arith, refl)
+loop-j-init c = refl
 
-pub loop-k-preserved : goal.loop-k-preserved
-loop-k-preserved c = (omega arith, tab-sets_more _ _ _ _ c.loop-k.invariant.1 c.wrapping_add_u32.ensures.value)
+pub loop-j-preserved : goal.loop-j-preserved
+loop-j-preserved c = tab-sets_more _ _ _ _ c.loop-j.invariant refl
 
 pub returns : goal.returns
 unfolding counters
 returns c =
-    let e : c.loop-k.k ≡ 8 = omega arith in
-    c.loop-k.invariant.1 ∙ rw e
+    let e : c.loop-j.j ≡ 8 = omega arith in
+    c.loop-j.invariant ∙ rw e

@@ -1,9 +1,5 @@
-use Rattle.std.proofs.Common.{◌-◌, ◌≤◌}
 use Rattle.chacha20.proofs.LaneLaws.{Part}
 use Rattle.chacha20.proofs.lanes.put.Given as goal
 
-abbrev pub invariant-loop-i : goal.invariant-loop-i
-invariant-loop-i l = (l.i ≤ 16) × Part l.i l.l l.s l.t l.initial.w l.w
-
-abbrev pub decreases-loop-i : goal.decreases-loop-i
-decreases-loop-i l = 16 - l.i
+abbrev pub invariant-loop-k : goal.invariant-loop-k
+invariant-loop-k l = Part l.k l.l l.x.s l.x.t l.initial.w l.w

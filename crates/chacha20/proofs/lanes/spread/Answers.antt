@@ -6,4 +6,4 @@ use Rattle.chacha20.proofs.lanes.spread.Goals as goal
 pub returns : goal.returns
 returns c =
     let sixteen : length c.args.s ≡ 16 = search rules in
-    spread-all _ sixteen c.repeat-w.ensures c.count.ensures
+    spread-all _ sixteen c.repeat.ensures c.count.ensures

@@ -1,14 +1,14 @@
-use Rattle.std.proofs.Common.{arith}
+use Rattle.std.proofs.Common.{refl, arith}
 use Rattle.base.proofs.TabLaws.{tab-none, tab_more, tab-all}
 use Rattle.chacha20.specs.Lanes.{wide_added}
 use Rattle.chacha20.proofs.lanes.wide_added.Goals as goal
 
 pub loop-i-init : goal.loop-i-init
-loop-i-init c = (omega arith, tab-none _ _)
+loop-i-init c = tab-none _ _
 
 pub loop-i-preserved : goal.loop-i-preserved
-loop-i-preserved c = (omega arith, tab_more _ _ _ c.loop-i.invariant.1 c.wrapping_add_u32.ensures.value (omega arith))
+loop-i-preserved c = tab_more _ _ _ c.loop-i.invariant refl (omega arith)
 
 pub returns : goal.returns
 unfolding wide_added
-returns c = tab-all _ _ _ 128 c.loop-i.invariant.1 (omega arith) (omega arith)
+returns c = tab-all _ _ _ 128 c.loop-i.invariant (omega arith) (omega arith)

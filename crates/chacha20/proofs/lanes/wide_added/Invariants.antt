@@ -1,10 +1,7 @@
-use Rattle.std.proofs.Common.{◌≡◌, ◌-◌, ◌≤◌, ◌++◌, get_or, drop}
+use Rattle.std.proofs.Common.{◌≡◌, ◌++◌, get_or, drop}
 use Rattle.base.specs.Lists.{tab}
 use Rattle.words.specs.Word.{add32}
 use Rattle.chacha20.proofs.lanes.wide_added.Given as goal
 
 abbrev pub invariant-loop-i : goal.invariant-loop-i
-invariant-loop-i l = (l.i ≤ 128) × (l.x ≡ tab l.i (λ n. add32 (get_or l.w n 0) (get_or l.s n 0)) ++ drop l.i l.initial.x)
-
-abbrev pub decreases-loop-i : goal.decreases-loop-i
-decreases-loop-i l = 128 - l.i
+invariant-loop-i l = l.x-items ≡ tab l.i (λ n. add32 (get_or l.w n 0) (get_or l.s n 0)) ++ drop l.i l.initial.x-items

@@ -1,29 +1,17 @@
 use mathlib.Core.Path.{◌∙◌}
-use Prim.Native.Nat.{◌*◌, ◌^◌}
-use Rattle.limbs.specs.Limbs.{value, p}
-use Rattle.limbs.proofs.Field.{product}
-use Rattle.limbs.proofs.Digits.{wraps}
+use Prim.Native.Nat.{◌*◌}
+use Rattle.limbs.specs.Limbs.{value}
+use Rattle.limbs.proofs.TurnLaws.{products}
 use Rattle.limbs.proofs.LaneLaws.{mul-added}
 use Rattle.limbs.proofs.lanes.mul_add.Goals as goal
 
 pub returns : goal.returns
 returns c =
     let a = c.args in
-    let f = c.requires.2 in
-    let h = a.h in
-    let r = a.r in
-    let d0 = c.dot in
-    let d1 = c.dot-2 in
-    let d2 = c.dot-3 in
-    let d3 = c.dot-4 in
-    let d4 = c.dot-d4 in
     record {
       same =
           c.carry.ensures.same
-          ∙ mul-added d0.result d1.result d2.result d3.result d4.result a.n.lo a.n.hi (value h * value r)
-          (product (2 ^ 26) p wraps h.l0 h.l1 h.l2 h.l3 h.l4 r.l0 r.l1 r.l2 r.l3 r.l4
-          d0.result d1.result d2.result d3.result d4.result
-          (rw (f.f1, f.f2, f.f3, f.f4) at d0.ensures.0) (rw (f.f2, f.f3, f.f4) at d1.ensures.0) (rw (f.f3, f.f4) at d2.ensures.0)
-          (rw f.f4 at d3.ensures.0) d4.ensures.0);
+          ∙ mul-added c.dot.result c.dot-2.result c.dot-3.result c.dot-4.result c.dot-d4.result a.n.lo a.n.hi (value a.h * value a.by.r)
+          (products a.h a.by.five c.dot.ensures.0 c.dot-2.ensures.0 c.dot-3.ensures.0 c.dot-4.ensures.0 c.dot-d4.ensures.0);
       loose = c.carry.ensures.loose;
     }

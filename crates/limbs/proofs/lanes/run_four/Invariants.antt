@@ -1,6 +1,5 @@
 use mathlib.Core.Path.{◌≡◌}
-use Prim.Native.Nat.{ℕ, ◌-◌, ◌*◌, ◌%◌, ◌^◌, ◌≤◌}
-use lib.ListN.{length}
+use Prim.Native.Nat.{ℕ, ◌*◌, ◌%◌, ◌^◌}
 use Rattle.limbs.specs.Limbs.{value, p}
 use Rattle.limbs.specs.Bounds.{steps_by}
 use Rattle.limbs.specs.Lanes.{weighed, LanesFit}
@@ -8,10 +7,5 @@ use Rattle.limbs.proofs.lanes.run_four.Given as goal
 
 abbrev pub invariant-loop-i : goal.invariant-loop-i
 invariant-loop-i l =
-    (l.i ≤ l.g)
-    × (length l.h ≡ 20)
-    × LanesFit l.h
-    × ((a : ℕ) → weighed (value l.r) l.initial.h % p ≡ steps_by (2 ^ 24) (4 * 1) (value l.r) a l.m → weighed (value l.r) l.h % p ≡ steps_by (2 ^ 24) (4 * l.i) (value l.r) a l.m)
-
-abbrev pub decreases-loop-i : goal.decreases-loop-i
-decreases-loop-i l = l.g - l.i
+    LanesFit l.h.limbs
+    × ((a : ℕ) → weighed (value l.by.r) l.initial.h.limbs % p ≡ steps_by (2 ^ 24) (4 * 1) (value l.by.r) a l.m → weighed (value l.by.r) l.h.limbs % p ≡ steps_by (2 ^ 24) (4 * l.i) (value l.by.r) a l.m)

@@ -1,7 +1,0 @@
--- Four bytes of the table, added up.
-use Rattle.aes.proofs.RoundLaws.{rows_code}
-use Rattle.aes.proofs.rows.Goals as goal
-
-pub returns : goal.returns
-returns c =
-    rows_code c.args.t.now c.requires c.args.a c.args.b c.args.c c.args.d
