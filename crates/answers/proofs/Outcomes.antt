@@ -11,8 +11,5 @@ number κs a x y u v p q = (agree p q, refl)
 pub carried_by : OneOutcome said.carried_by.ended fn.carried_by.Reads.Post
 carried_by κs a x y u v p q = (agree p q, refl)
 
-pub accepted : OneOutcome said.accepted.ended fn.accepted.Reads.Post
-accepted κs a x y u v p q = (agree p q, refl)
-
 pub class_of : OneOutcome said.class_of.ended fn.class_of.Reads.Post
 class_of κs a x y u v p q = (agree p q, refl)

@@ -2,8 +2,10 @@
 use mathlib.Core.Path.{◌≡◌, refl, sym, ◌∙◌, ap}
 use mathlib.Core.Bool.{Bool, true, false}
 use Rattle.base.specs.Pick.{pick}
-use Rattle.answers.specs.declared.Answer.{Answer}
-use Rattle.answers.specs.declared.Answer.TheVariants as A
+use Rattle.std.specs.Prelude.{Ok, Err, IsErrAnd}
+use Rattle.answers.specs.declared.Refusal.{Refusal}
+use Rattle.answers.specs.Answer.{Answer}
+use Rattle.answers.specs.Answer as A
 use Rattle.answers.specs.Numbers.{accepts}
 use Rattle.answers.specs.Stages.{and_then}
 use Rattle.base.proofs.PickLaws.{clash, told}
@@ -38,22 +40,8 @@ spared false x r f e = (refl, e)
 
 -- whatever isn't acceptance refuses
 pub refuses : (a : Answer) → (a ≡ A.Accepted → ⊥) → accepts a ≡ false
-refuses A.Accepted h = absurd (h refl)
-refuses A.Limits h = refl
-refuses A.Length h = refl
-refuses A.Mark h = refl
-refuses A.Seal h = refl
-refuses A.OldSecret h = refl
-refuses A.Counter h = refl
-refuses (A.Altered x) h = refl
-refuses A.PastEnd h = refl
-refuses A.State h = refl
-refuses A.SameSecret h = refl
-refuses (A.Left x) h = refl
-refuses A.Moved h = refl
-refuses A.CounterTop h = refl
-refuses A.EpochTop h = refl
-refuses (A.Discarded x) h = refl
+refuses (Ok x) h = absurd (h refl)
+refuses (Err r) h = refl
 
 -- a test of an accepted answer held, and what comes behind it is accepted
 pub granted : (b : Bool) (x r : Answer) → accepts r ≡ false → pick b x r ≡ A.Accepted → (b ≡ true) × (x ≡ A.Accepted)
@@ -62,22 +50,8 @@ granted false x r f e = let z : ◌≡◌ {A = Bool} false true = sym f ∙ ap (
 
 -- 0 is acceptance's number alone
 pub accepted_is : (a : Answer) → accepts a ≡ true → a ≡ A.Accepted
-accepted_is A.Accepted e = refl
-accepted_is A.Limits e = absurd (clash e refl)
-accepted_is A.Length e = absurd (clash e refl)
-accepted_is A.Mark e = absurd (clash e refl)
-accepted_is A.Seal e = absurd (clash e refl)
-accepted_is A.OldSecret e = absurd (clash e refl)
-accepted_is A.Counter e = absurd (clash e refl)
-accepted_is (A.Altered p) e = absurd (clash e refl)
-accepted_is A.PastEnd e = absurd (clash e refl)
-accepted_is A.State e = absurd (clash e refl)
-accepted_is A.SameSecret e = absurd (clash e refl)
-accepted_is (A.Left k) e = absurd (clash e refl)
-accepted_is A.Moved e = absurd (clash e refl)
-accepted_is A.CounterTop e = absurd (clash e refl)
-accepted_is A.EpochTop e = absurd (clash e refl)
-accepted_is (A.Discarded n) e = absurd (clash e refl)
+accepted_is (Ok x) e = refl
+accepted_is (Err r) e = absurd (clash e refl)
 
 -- a stage before one that accepts has the last word
 pub first-answers : (a next : Answer) → next ≡ A.Accepted → and_then a next ≡ a
@@ -86,3 +60,8 @@ first-answers a next e = go (told (accepts a))
     go : (accepts a ≡ true) ⊎ (accepts a ≡ false) → and_then a next ≡ a
     go (inl h) = goes_on a next h ∙ e ∙ sym (accepted_is a h)
     go (inr h) = stops a next h
+
+-- what `?` hands out is the refusal that it was given
+pub handed : (r a : Answer) (e : Refusal) → IsErrAnd r (λ y. y ≡ e) → a ≡ Err e → r ≡ a
+handed (Ok x) a e h was = absurd h
+handed (Err y) a e h was = ap (λ (z : Refusal). Err z) h ∙ sym was

@@ -1,6 +1,6 @@
 -- Tests in the paper's order: the first refusal is the answer.
 use Rattle.base.specs.Pick.{pick}
-use Rattle.answers.specs.declared.Answer.{Answer}
+use Rattle.answers.specs.Answer.{Answer}
 use Rattle.answers.specs.Numbers.{accepts}
 
 -- a stage that accepts goes on to the next

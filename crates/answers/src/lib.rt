@@ -3,7 +3,7 @@
 #![tactic(auto)]
 
 ghost use Rattle.std.specs.Prelude.{◌≡◌};
-ghost use Rattle.answers.specs.Numbers.{number_of, carried_of, accepts};
+ghost use Rattle.answers.specs.Numbers.{refusal_number, number_of, carried_of};
 ghost use Rattle.answers.specs.Classes.{class_of};
 
 // "altered, with its place: head, record n, node i, or flake n, f"
@@ -15,11 +15,10 @@ pub enum Place {
     Flake(u32, u32),
 }
 
-// A case for acceptance and one for each number that is given, in their order. Document 02, Item 7: "14 goes and stays unassigned."
+// A case for each number that is given, in their order. Document 02, Item 7: "14 goes and stays unassigned."
 // Item 6: "then 16 (class request) when moving down and some nugget has a spent flake that isn't held (lowest reported)".
 #[derive(Clone, Copy)]
-pub enum Answer {
-    Accepted,
+pub enum Refusal {
     Limits,
     Length,
     Mark,
@@ -37,10 +36,12 @@ pub enum Answer {
     Discarded(u32),
 }
 
-// What an answer carries: 7 its place, 11 how many are left, 16 its nugget, the others nothing.
+// Acceptance, or the first refusal.
+pub type Answer = Result<(), Refusal>;
+
+// What a refusal may carry: 7 its place, 11 how many are left, 16 its nugget.
 #[derive(Clone, Copy)]
 pub enum Carried {
-    Nothing,
     At(Place),
     Many(u32),
     Nugget(u32),
@@ -50,7 +51,6 @@ pub enum Carried {
 // class request (document 02, Items 7 and 6).
 #[derive(Clone, Copy)]
 pub enum Class {
-    Nothing,
     Form,
     Key,
     Altered,
@@ -58,73 +58,61 @@ pub enum Class {
     Spent,
 }
 
+fn refusal_number(r: Refusal) -> u32
+    ensures { result ≡ refusal_number r }
+{
+    match r {
+        Refusal::Limits => 1,
+        Refusal::Length => 2,
+        Refusal::Mark => 3,
+        Refusal::Seal => 4,
+        Refusal::OldSecret => 5,
+        Refusal::Counter => 6,
+        Refusal::Altered(_) => 7,
+        Refusal::PastEnd => 8,
+        Refusal::State => 9,
+        Refusal::SameSecret => 10,
+        Refusal::Left(_) => 11,
+        Refusal::Moved => 12,
+        Refusal::CounterTop => 13,
+        Refusal::EpochTop => 15,
+        Refusal::Discarded(_) => 16,
+    }
+}
+
 // The answer's number in document 01's table; 0 is acceptance.
 pub fn number(a: Answer) -> u32
     ensures { result ≡ number_of a }
 {
     match a {
-        Answer::Accepted => 0,
-        Answer::Limits => 1,
-        Answer::Length => 2,
-        Answer::Mark => 3,
-        Answer::Seal => 4,
-        Answer::OldSecret => 5,
-        Answer::Counter => 6,
-        Answer::Altered(_) => 7,
-        Answer::PastEnd => 8,
-        Answer::State => 9,
-        Answer::SameSecret => 10,
-        Answer::Left(_) => 11,
-        Answer::Moved => 12,
-        Answer::CounterTop => 13,
-        Answer::EpochTop => 15,
-        Answer::Discarded(_) => 16,
+        Ok(()) => 0,
+        Err(r) => refusal_number(r),
     }
 }
 
-// What the answer carries.
-pub fn carried_by(a: Answer) -> Carried
+// What the answer carries; most carry nothing.
+pub fn carried_by(a: Answer) -> Option<Carried>
     ensures { result ≡ carried_of a }
 {
     match a {
-        Answer::Accepted => Carried::Nothing,
-        Answer::Limits => Carried::Nothing,
-        Answer::Length => Carried::Nothing,
-        Answer::Mark => Carried::Nothing,
-        Answer::Seal => Carried::Nothing,
-        Answer::OldSecret => Carried::Nothing,
-        Answer::Counter => Carried::Nothing,
-        Answer::Altered(p) => Carried::At(p),
-        Answer::PastEnd => Carried::Nothing,
-        Answer::State => Carried::Nothing,
-        Answer::SameSecret => Carried::Nothing,
-        Answer::Left(k) => Carried::Many(k),
-        Answer::Moved => Carried::Nothing,
-        Answer::CounterTop => Carried::Nothing,
-        Answer::EpochTop => Carried::Nothing,
-        Answer::Discarded(n) => Carried::Nugget(n),
+        Err(Refusal::Altered(p)) => Some(Carried::At(p)),
+        Err(Refusal::Left(k)) => Some(Carried::Many(k)),
+        Err(Refusal::Discarded(n)) => Some(Carried::Nugget(n)),
+        _ => None,
     }
 }
 
-// Whether the call was accepted.
-pub fn accepted(a: Answer) -> bool
-    ensures { result ≡ accepts a }
-{
-    number(a) == 0
-}
-
-// The class of an answer's number; `Nothing` for a number that is no refusal.
-pub fn class_of(number: u32) -> Class
+// The class of an answer's number; none for a number that is no refusal.
+pub fn class_of(number: u32) -> Option<Class>
     ensures { result ≡ class_of number }
 {
     match number {
-        1..=3 => Class::Form,
-        4..=6 => Class::Key,
-        7 => Class::Altered,
-        8..=12 => Class::Request,
-        13 => Class::Spent,
-        15 => Class::Spent,
-        16 => Class::Request,
-        _ => Class::Nothing,
+        1..=3 => Some(Class::Form),
+        4..=6 => Some(Class::Key),
+        7 => Some(Class::Altered),
+        8..=12 => Some(Class::Request),
+        13 | 15 => Some(Class::Spent),
+        16 => Some(Class::Request),
+        _ => None,
     }
 }

@@ -9,7 +9,7 @@ use lib.ListN.{length}
 use Rattle.base.proofs.PickLaws.{yes, no}
 use Rattle.layout.specs.Shape.{sized, in_limits}
 use Rattle.layout.specs.Parts.{length_of}
-use Rattle.answers.specs.declared.Answer.TheVariants as A
+use Rattle.answers.specs.Answer as A
 use Rattle.answers.specs.declared.Place.TheVariants as P
 use Rattle.answers.specs.Numbers.{accepts}
 use Rattle.drive.specs.declared.Drive.{Drive}

@@ -2,8 +2,8 @@
 use Rattle.std.specs.Prelude.{ℕ, ◌+◌, Bool, List, leb, eqb, length}
 use Rattle.base.specs.Pick.{pick, both}
 use Rattle.base.specs.Lists.{part, same}
-use Rattle.answers.specs.declared.Answer.{Answer}
-use Rattle.answers.specs.declared.Answer.TheVariants as A
+use Rattle.answers.specs.Answer.{Answer}
+use Rattle.answers.specs.Answer as A
 use Rattle.answers.specs.declared.Place.TheVariants as P
 use Rattle.answers.specs.Stages.{and_then}
 use Rattle.layout.specs.Shape.{in_limits}

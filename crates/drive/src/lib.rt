@@ -9,7 +9,7 @@ ghost use Rattle.drive.specs.Drive.{shape_of, is_changing, gauge_of, headed, kep
 ghost use Rattle.drive.specs.Head.{state_byte, numbers_of, check_in, front_in, front_from, head_of};
 ghost use Rattle.drive.specs.Opening.{state_fits, in_form, measure_of, head_stands, opening_of};
 
-use answers::{Answer, Place};
+use answers::{Answer, Place, Refusal};
 use layout::Shape;
 use records::Gauge;
 
@@ -37,7 +37,7 @@ pub struct Drive {
     pub old: [u8; 32],
 }
 
-// What a call that may change the drive hands back.
+// What a call that may change the drive hands back. No Result: document 01 returns the drive as given with a refusal too.
 #[derive(Clone, Copy)]
 pub struct Done {
     pub answer: Answer,
@@ -79,20 +79,16 @@ pub fn shape_of(d: Drive) -> Shape
 pub fn is_changing(state: State) -> bool
     ensures { result ≡ is_changing state }
 {
-    match state {
-        State::Steady => false,
-        State::Changing(_) => true,
-    }
+    matches!(state, State::Changing(_))
 }
 
 // What the drive's records are held against.
 pub fn gauge_of(d: Drive) -> Gauge
     ensures { result ≡ gauge_of d }
 {
-    let state = d.state;
     Gauge {
         epoch: d.epoch,
-        changing: is_changing(state),
+        changing: is_changing(d.state),
         counter: d.counter,
     }
 }
@@ -109,20 +105,14 @@ pub fn headed(
 ) -> Drive
     ensures { result ≡ headed d state epoch counter node present old }
 {
-    let salt = d.salt;
     Drive {
-        n: d.n,
-        p: d.p,
-        f: d.f,
-        version: d.version,
-        cipher: d.cipher,
-        salt: salt,
-        state: state,
-        epoch: epoch,
-        counter: counter,
-        node: node,
-        present: present,
-        old: old,
+        state,
+        epoch,
+        counter,
+        node,
+        present,
+        old,
+        ..d
     }
 }
 
@@ -152,12 +142,12 @@ fn numbers_of(version: u16, n: u32, p: u32, f: u32, kind: u16, epoch: u16) -> [u
 {
     let mut out = [0u8; 16];
     words::store(&mut out, 0, 3, 0x54474e);
-    words::store(&mut out, 3, 2, version as u64);
-    words::store(&mut out, 5, 1, kind as u64);
-    words::store(&mut out, 6, 2, epoch as u64);
-    words::store(&mut out, 8, 4, n as u64);
-    words::store(&mut out, 12, 2, p as u64);
-    words::store(&mut out, 14, 2, f as u64);
+    words::store(&mut out, 3, 2, u64::from(version));
+    words::store(&mut out, 5, 1, u64::from(kind));
+    words::store(&mut out, 6, 2, u64::from(epoch));
+    words::store(&mut out, 8, 4, u64::from(n));
+    words::store(&mut out, 12, 2, u64::from(p));
+    words::store(&mut out, 14, 2, u64::from(f));
     out
 }
 
@@ -177,14 +167,9 @@ fn front_of(numbers: [u8; 16], salt: [u8; 16], counter: u64, check: [u8; 32]) ->
 pub fn check_in(d: Drive) -> [u8; 32]
     ensures { result ≡ check_in d }
 {
-    let state = d.state;
-    match state {
+    match d.state {
         State::Steady => [0u8; 32],
-        State::Changing(_) => {
-            let old = d.old;
-            let salt = d.salt;
-            keys::check_of(old, salt, d.epoch)
-        }
+        State::Changing(_) => keys::check_of(d.old, d.salt, d.epoch),
     }
 }
 
@@ -193,11 +178,9 @@ pub fn front(d: Drive) -> [u8; 72]
     ensures { result ≡ front_in d }
 {
     let check = check_in(d);
-    let salt = d.salt;
-    let state = d.state;
-    let kind = state_byte(state) as u16 + d.cipher as u16;
+    let kind = u16::from(state_byte(d.state)) + u16::from(d.cipher);
     let numbers = numbers_of(d.version, d.n, d.p, d.f, kind, d.epoch);
-    front_of(numbers, salt, d.counter, check)
+    front_of(numbers, d.salt, d.counter, check)
 }
 
 // "the 104 bytes are those the drive makes"
@@ -205,9 +188,7 @@ pub fn head(d: Drive) -> [u8; 104]
     ensures { result ≡ head_of d }
 {
     let first = front(d);
-    let present = d.present;
-    let node = d.node;
-    let seal = keys::seal_of(present, &first, &node);
+    let seal = keys::seal_of(d.present, &first, &d.node);
     let mut out = [0u8; 104];
     words::copy(&mut out, 0, &first);
     words::copy(&mut out, 72, &seal);
@@ -220,12 +201,7 @@ pub fn state_fits(state: State, epoch: u16) -> bool
 {
     match state {
         State::Steady => 1 <= epoch,
-        State::Changing(left) => {
-            if epoch < 2 {
-                return false;
-            }
-            left == epoch - 1
-        }
+        State::Changing(left) => 2 <= epoch && left == epoch - 1,
     }
 }
 
@@ -233,25 +209,20 @@ pub fn state_fits(state: State, epoch: u16) -> bool
 pub fn in_form(d: Drive) -> bool
     ensures { result ≡ in_form d }
 {
-    if layout::in_limits(shape_of(d)) {
-        let state = d.state;
-        state_fits(state, d.epoch)
-    } else {
-        false
-    }
+    layout::in_limits(shape_of(d)) && state_fits(d.state, d.epoch)
 }
 
 // Tests 1 and 2: the drive in form, and the volume as long as its shape asks.
 pub fn measure(d: Drive, vol: &[u8]) -> Answer
     ensures { result ≡ measure_of d vol.now }
 {
-    if in_form(d) {
-        if vol.len() == layout::length_of(shape_of(d)) {
-            return Answer::Accepted;
-        }
-        return Answer::Length;
+    if !in_form(d) {
+        return Err(Refusal::Limits);
     }
-    Answer::Limits
+    if vol.len() != layout::length_of(shape_of(d)) {
+        return Err(Refusal::Length);
+    }
+    Ok(())
 }
 
 // Test 7 head, of a volume as long as the drive's shape asks.
@@ -259,27 +230,19 @@ fn head_stands(d: Drive, vol: &[u8]) -> bool
     requires { (in_limits (shape_of d) ≡ true) × (length vol.now ≡ length_of (shape_of d)) }
     ensures { result ≡ head_stands d vol.now }
 {
-    let made = head(d);
-    if words::equal(&vol[0..104], &made) {
-        let node = d.node;
-        let at = layout::node_at(shape_of(d), 1);
-        let end = at + 32;
-        words::equal(&vol[at..end], &node)
-    } else {
-        false
-    }
+    let at = layout::node_at(shape_of(d), 1);
+    let end = at + 32;
+    words::equal(&vol[0..104], &head(d)) && words::equal(&vol[at..end], &d.node)
 }
 
 // "All others start 1, 2, 7 head."
 pub fn opening(d: Drive, vol: &[u8]) -> Answer
     ensures { result ≡ opening_of d vol.now }
 {
-    let a = measure(d, vol);
-    if answers::accepted(a) {
-        if head_stands(d, vol) {
-            return a;
-        }
-        return Answer::Altered(Place::Head);
+    measure(d, vol)?;
+    if head_stands(d, vol) {
+        Ok(())
+    } else {
+        Err(Refusal::Altered(Place::Head))
     }
-    a
 }

@@ -9,16 +9,12 @@ use Rattle.words.specs.Le.{Bytes}
 use Rattle.words.proofs.LeLaws.{length-le}
 use Rattle.poly1305.specs.declared.State.{State}
 use Rattle.poly1305.specs.Poly1305.{poly1305}
-use Rattle.poly1305.specs.State.{started, absorbed, finished, GoodState}
-use Rattle.poly1305.proofs.StateLaws.{join, absorbed-good}
+use Rattle.poly1305.specs.State.{started, absorbed, finished}
+use Rattle.poly1305.proofs.StateLaws.{join}
 use Rattle.poly1305.proofs.Mac.{mac}
 use Rattle.keys.specs.declared.Lock.{Lock}
 use Rattle.keys.specs.Keys.{tag_key}
 use Rattle.keys.specs.Tags.{laid_out, named, covered, tag_of}
-
--- a state goes on from one that start and absorb give
-pub goes_on : (s : State) (a : List ℕ) {t : State} → GoodState s → t ≡ absorbed s a → GoodState t
-goes_on s a g e = rw e (absorbed-good s a g)
 
 -- three pieces, one behind the other
 pub three : (key a b c : List ℕ) {s t u v : State} → s ≡ started key → t ≡ absorbed s a → u ≡ absorbed t b → v ≡ absorbed u c → length key ≡ 32 → Bytes key

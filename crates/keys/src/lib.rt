@@ -39,39 +39,29 @@ fn lettered(key: [u8; 32], letter: u8, a: &[u8], b: &[u8]) -> [u8; 32]
 pub fn nugget_key(secret: [u8; 32], salt: [u8; 16], n: u32) -> [u8; 32]
     ensures { result ≡ nugget_key secret salt n }
 {
-    let mut number = [0u8; 4];
-    words::store(&mut number, 0, 4, n as u64);
-    lettered(secret, b'N', &salt, &number)
+    lettered(secret, b'N', &salt, &n.to_le_bytes())
 }
 
 // "The tag key's letter becomes `G`."
 fn letter_of(version: u16) -> u8
     ensures { result ≡ tag_letter version }
 {
-    if version == 1 {
-        return b'F';
-    }
-    b'G'
+    if version == 1 { b'F' } else { b'G' }
 }
 
 pub fn tag_key(lock: Lock, f: u32) -> [u8; 32]
     ensures { result ≡ tag_key lock f }
 {
-    let key = lock.key;
     let mut flake = [0u8; 2];
-    let mut count = [0u8; 8];
-    words::store(&mut flake, 0, 2, f as u64);
-    words::store(&mut count, 0, 8, lock.keycount);
+    words::store(&mut flake, 0, 2, u64::from(f));
     let letter = letter_of(lock.version);
-    lettered(key, letter, &flake, &count)
+    lettered(lock.key, letter, &flake, &lock.keycount.to_le_bytes())
 }
 
 pub fn check_of(old: [u8; 32], salt: [u8; 16], epoch: u16) -> [u8; 32]
     ensures { result ≡ check_of old salt epoch }
 {
-    let mut number = [0u8; 2];
-    words::store(&mut number, 0, 2, epoch as u64);
-    lettered(old, b'O', &salt, &number)
+    lettered(old, b'O', &salt, &epoch.to_le_bytes())
 }
 
 pub fn seal_of(secret: [u8; 32], front: &[u8], node: &[u8]) -> [u8; 32]
@@ -90,6 +80,7 @@ fn nonce_of(k: u64) -> [u8; 12]
 }
 
 // How many bytes a block of keystream has.
+// By the number: a lock may hold any, and others count as ChaCha20 (`cipher_of`).
 fn unit_of(cipher: u8) -> usize
     ensures { result ≡ unit_of cipher }
 {
@@ -110,12 +101,10 @@ fn lay_blocks(d: &mut [u8], lock: Lock, n: u32)
     requires { (n < 2 ^ 21) × (length d.old ≤ 4096) }
     ensures { d.new ≡ xorl d.old (stream_from lock n 0 (length d.old)) }
 {
-    let key = lock.key;
     if lock.cipher == 16 {
-        ctr::lay(&mut *d, key, lock.keycount, n as u64);
+        ctr::lay(&mut *d, lock.key, lock.keycount, u64::from(n));
     } else {
-        let nonce = nonce_of(lock.keycount);
-        chacha20::lay(&mut *d, key, nonce, n);
+        chacha20::lay(&mut *d, lock.key, nonce_of(lock.keycount), n);
     }
 }
 
@@ -167,9 +156,7 @@ fn eight_from(r: &mut [u8], lock: Lock, n: u32)
         lay_blocks(&mut *r, lock, n);
         return;
     }
-    let key = lock.key;
-    let nonce = nonce_of(lock.keycount);
-    chacha20::eight(&mut *r, key, nonce, n);
+    chacha20::eight(&mut *r, lock.key, nonce_of(lock.keycount), n);
 }
 
 // 512 bytes of scratch: the pad of flake f from its byte b on, and zeros behind its end.
@@ -234,8 +221,8 @@ pub fn name_of(lock: Lock, f: u32) -> [u8; 14]
     ensures { result ≡ named lock f }
 {
     let mut r = [0u8; 14];
-    words::store(&mut r, 0, 4, lock.number as u64);
-    words::store(&mut r, 4, 2, f as u64);
+    words::store(&mut r, 0, 4, u64::from(lock.number));
+    words::store(&mut r, 4, 2, u64::from(f));
     words::store(&mut r, 6, 8, lock.keycount);
     r
 }

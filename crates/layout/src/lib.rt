@@ -9,6 +9,7 @@ ghost use Rattle.layout.specs.Parts.{tags_at, tree_at, flakes_at, length_of, rec
 ghost use Rattle.layout.specs.Spots.{spot_at, nowhere, offset_at, capacity};
 
 // "Nuggets N", "Flakes per nugget P", "Flake size F", and under which version and cipher the volume is laid out.
+// Numbers, no enums: a head or a caller in C may hold any, and test 1 answers what isn't known.
 #[derive(Clone, Copy)]
 pub struct Shape {
     pub n: u32,
@@ -55,32 +56,28 @@ fn are_sized(s: Shape) -> bool
 pub fn known_version(version: u16) -> bool
     ensures { result ≡ known_version version }
 {
-    if version == 1 { true } else { version == 2 }
+    version == 1 || version == 2
 }
 
 // Whether the cipher is one that there is: ChaCha20 or AES.
 fn known_cipher(cipher: u8) -> bool
     ensures { result ≡ known_cipher cipher }
 {
-    if cipher == 0 { true } else { cipher == 16 }
+    cipher == 0 || cipher == 16
 }
 
 // Whether both are.
 fn are_known(s: Shape) -> bool
     ensures { result ≡ known s }
 {
-    if known_version(s.version) {
-        known_cipher(s.cipher)
-    } else {
-        false
-    }
+    known_version(s.version) && known_cipher(s.cipher)
 }
 
 // Whether the shape is one that a volume may have.
 pub fn in_limits(s: Shape) -> bool
     ensures { result ≡ in_limits s }
 {
-    if are_sized(s) { are_known(s) } else { false }
+    are_sized(s) && are_known(s)
 }
 
 // How many bytes a record has.
@@ -97,7 +94,7 @@ pub fn height_of(n: u32) -> u32
     if n == 0 {
         return 0;
     }
-    32 - u32::leading_zeros(n - 1)
+    32 - (n - 1).leading_zeros()
 }
 
 // "L is the smallest power of two not below N."

@@ -22,7 +22,7 @@ fn leaf(vol: &[u8], s: Shape, n: u32) -> [u8; 32]
     let tags_end = tags + 16 * p;
     let mut start = [0u8; 5];
     start[0] = b'L';
-    words::store(&mut start, 1, 4, n as u64);
+    words::store(&mut start, 1, 4, u64::from(n));
     let a = blake2s::absorb(blake2s::start(), &start);
     let b = blake2s::absorb(a, &vol[record..record_end]);
     let c = blake2s::absorb(b, &vol[tags..tags_end]);
@@ -85,5 +85,5 @@ pub fn first(vol: &[u8], s: Shape) -> [u8; 32]
     requires { Shaped s vol.now }
     ensures { result ≡ node_in s vol.now 1 }
 {
-    words::thirty_two(vol, layout::node_at(s, 1))
+    words::taken(vol, layout::node_at(s, 1))
 }

@@ -20,9 +20,6 @@ flakes κs a x y u v p q = (agree p q, refl)
 pub test_path : OneOutcome said.test_path.ended fn.test_path.Reads.Post
 test_path κs a x y u v p q = (agree p q, refl)
 
-pub smaller : OneOutcome said.smaller.ended fn.smaller.Reads.Post
-smaller κs a x y u v p q = (agree p q, refl)
-
 pub test_read : OneOutcome said.test_read.ended fn.test_read.Reads.Post
 test_read κs a x y u v p q = (agree p q, refl)
 

@@ -2,7 +2,7 @@
 // It touches `keys` for pads and tags, `tree` for paths, `records`, `layout`, `drive`, `words` and `answers`.
 #![tactic(auto)]
 
-ghost use Rattle.std.specs.Prelude.{◌≡◌, true, ◌+◌, ◌-◌, ◌<◌, ◌≤◌, ◌^◌, ◌/◌, min, length};
+ghost use Rattle.std.specs.Prelude.{◌≡◌, true, ◌+◌, ◌-◌, ◌<◌, ◌≤◌, ◌^◌, ◌/◌, length};
 ghost use Rattle.base.specs.Lists.{part};
 ghost use Rattle.layout.specs.Shape.{in_limits};
 ghost use Rattle.layout.specs.Spots.{capacity};
@@ -12,7 +12,7 @@ ghost use Rattle.nuggets.specs.Tests.{good_flake, passes, flakes_tested, path_fo
 ghost use Rattle.nuggets.specs.Touched.{touched_of, span_of, fits_in};
 ghost use Rattle.layout.specs.Shaped.{Shaped};
 
-use answers::{Answer, Place};
+use answers::{Answer, Place, Refusal};
 use drive::Drive;
 use keys::Lock;
 use layout::Shape;
@@ -35,12 +35,7 @@ pub struct Span {
 pub fn secret_for(d: Drive, epoch: u16) -> [u8; 32]
     ensures { result ≡ secret_for d epoch }
 {
-    let present = d.present;
-    let old = d.old;
-    if epoch == d.epoch {
-        return present;
-    }
-    old
+    if epoch == d.epoch { d.present } else { d.old }
 }
 
 // "Nugget key: keyed with the nugget's secret, `N`, salt, nugget": made once for all flakes of the nugget.
@@ -50,7 +45,7 @@ pub fn lock_by(s: Shape, salt: [u8; 16], secret: [u8; 32], n: u32, k: u64) -> Lo
     let key = keys::nugget_key(secret, salt, n);
     Lock {
         number: n,
-        key: key,
+        key,
         keycount: k,
         version: s.version,
         cipher: s.cipher,
@@ -65,10 +60,8 @@ pub fn nugget_of(d: Drive, vol: &[u8], n: u32) -> Nugget
     let s = drive::shape_of(d);
     let r = records::read(vol, s, n);
     let secret = secret_for(d, r.epoch);
-    let salt = d.salt;
-    let lock = lock_by(s, salt, secret, n, r.keycount);
     Nugget {
-        lock: lock,
+        lock: lock_by(s, d.salt, secret, n, r.keycount),
         held: r.held,
     }
 }
@@ -78,12 +71,11 @@ fn good_flake(vol: &[u8], s: Shape, g: Nugget, f: u32) -> bool
     requires { Shaped s vol.now × (g.lock.number < s.n) × (f < s.p) }
     ensures { result ≡ good_flake s vol.now g f }
 {
-    let lock = g.lock;
-    let at = layout::flake_at(s, lock.number, f);
+    let at = layout::flake_at(s, g.lock.number, f);
     let end = at + (s.f as usize);
-    let tag = layout::tag_at(s, lock.number, f);
+    let tag = layout::tag_at(s, g.lock.number, f);
     let tag_end = tag + 16;
-    let made = keys::tag_of(&vol[at..end], lock, f);
+    let made = keys::tag_of(&vol[at..end], g.lock, f);
     words::equal(&vol[tag..tag_end], &made)
 }
 
@@ -92,11 +84,7 @@ fn flake_passes(vol: &[u8], s: Shape, g: Nugget, mask: u64, f: u32) -> bool
     requires { Shaped s vol.now × (g.lock.number < s.n) × (f < s.p) }
     ensures { result ≡ passes s vol.now g mask f }
 {
-    if records::has(mask, f) {
-        good_flake(vol, s, g, f)
-    } else {
-        true
-    }
+    !records::has(mask, f) || good_flake(vol, s, g, f)
 }
 
 // "flakes, ascending": the first of the set whose tag differs.
@@ -104,17 +92,12 @@ pub fn flakes(vol: &[u8], s: Shape, g: Nugget, mask: u64) -> Answer
     requires { Shaped s vol.now × (g.lock.number < s.n) }
     ensures { result ≡ flakes_tested s vol.now g mask }
 {
-    let count = s.p;
-    let number = g.lock.number;
-    let mut f = 0;
-    while f < count {
-        if flake_passes(vol, s, g, mask, f) {
-            f += 1;
-        } else {
-            return Answer::Altered(Place::Flake(number, f));
+    for f in 0..s.p {
+        if !flake_passes(vol, s, g, mask, f) {
+            return Err(Refusal::Altered(Place::Flake(g.lock.number, f)));
         }
     }
-    Answer::Accepted
+    Ok(())
 }
 
 // The path of nugget n, its record held against the drive.
@@ -130,26 +113,9 @@ pub fn test_read(d: Drive, vol: &[u8], n: u32, touched: u64) -> Answer
     requires { Shaped (shape_of d) vol.now × (n < d.n) }
     ensures { result ≡ nugget_read d vol.now n touched }
 {
-    let a = test_path(d, vol, n);
-    if answers::accepted(a) {
-        let g = nugget_of(d, vol, n);
-        return flakes(vol, drive::shape_of(d), g, g.held & touched);
-    }
-    a
-}
-
-// The lesser of two lengths.
-pub fn smaller(a: usize, b: usize) -> usize
-    ensures { result ≡ min a b }
-{
-    if a < b { a } else { b }
-}
-
-// a - b, and 0 for what would be below it.
-fn less(a: usize, b: usize) -> usize
-    ensures { result ≡ a - b }
-{
-    if a < b { 0 } else { a - b }
+    test_path(d, vol, n)?;
+    let g = nugget_of(d, vol, n);
+    flakes(vol, drive::shape_of(d), g, g.held & touched)
 }
 
 // The contents of flake f from its byte b on, as many as the buffer takes: "Absent flakes give zeros."
@@ -158,11 +124,10 @@ pub fn piece(vol: &[u8], s: Shape, g: Nugget, f: u32, b: usize, buf: &mut [u8])
     ensures { buf.new ≡ part b (length buf.old) (contents_in s vol.now g f) }
 {
     if records::has(g.held, f) {
-        let lock = g.lock;
-        let at = layout::flake_at(s, lock.number, f) + b;
+        let at = layout::flake_at(s, g.lock.number, f) + b;
         let end = at + buf.len();
         words::copy(&mut *buf, 0, &vol[at..end]);
-        keys::lay_from(&mut *buf, lock, s.f as usize, f, b);
+        keys::lay_from(&mut *buf, g.lock, s.f as usize, f, b);
     } else {
         words::clear(&mut *buf);
     }
@@ -180,8 +145,8 @@ pub fn touched(s: Shape, o: usize, len: usize, n: u32) -> u64
     if last < base {
         return 0;
     }
-    let from = less(o / size, base);
-    let to = smaller(last - base, count - 1);
+    let from = (o / size).saturating_sub(base);
+    let to = (last - base).min(count - 1);
     records::range(from as u32, to as u32)
 }
 
@@ -203,8 +168,5 @@ pub fn fits(s: Shape, offset: u64, len: usize) -> bool
     ensures { result ≡ fits_in s offset len }
 {
     let size = layout::capacity_of(s);
-    if size < len {
-        return false;
-    }
-    offset <= (size - len) as u64
+    len <= size && offset <= (size - len) as u64
 }

@@ -73,16 +73,12 @@ fn store_at(vol: &mut [u8], s: Shape, at: usize, r: Record)
     requires { at + width_of s ≤ length vol.old }
     ensures { vol.new ≡ sets vol.old at (record_bytes s r) }
 {
-    let keycount = r.keycount;
-    let spent = r.spent;
-    let held = r.held;
-    let epoch = r.epoch;
     let width = layout::width_of(s);
     let mut made = [0u8; 26];
-    words::store(&mut made, 0, 8, keycount);
-    words::store(&mut made, 8, 8, spent);
-    words::store(&mut made, width - 10, 8, held);
-    words::store(&mut made, width - 2, 2, epoch as u64);
+    words::store(&mut made, 0, 8, r.keycount);
+    words::store(&mut made, 8, 8, r.spent);
+    words::store(&mut made, width - 10, 8, r.held);
+    words::store(&mut made, width - 2, 2, u64::from(r.epoch));
     words::copy(&mut *vol, at, &made[0..width]);
 }
 
@@ -90,11 +86,7 @@ fn store_at(vol: &mut [u8], s: Shape, at: usize, r: Record)
 pub fn has(journal: u64, f: u32) -> bool
     ensures { result ≡ bit journal f }
 {
-    if f < 64 {
-        (journal >> f) % 2 == 1
-    } else {
-        false
-    }
+    f < 64 && (journal >> f) % 2 == 1
 }
 
 // "J with T"
@@ -158,7 +150,7 @@ pub fn range_of(first: u32, count: u32) -> u64
 pub fn count(journal: u64) -> u32
     ensures { result ≡ flake_count 64 journal }
 {
-    u64::count_ones(journal)
+    journal.count_ones()
 }
 
 // "no bit at or above P is set": 64 flakes and more leave no bit to test.
@@ -172,13 +164,7 @@ fn none_from(journal: u64, p: u32) -> bool
 fn epoch_fits(gauge: Gauge, own: u16) -> bool
     ensures { result ≡ epoch_fits gauge own }
 {
-    if own == gauge.epoch {
-        true
-    } else if gauge.changing {
-        own as u32 + 1 == gauge.epoch as u32
-    } else {
-        false
-    }
+    own == gauge.epoch || gauge.changing && own as u32 + 1 == gauge.epoch as u32
 }
 
 // "a held bit that isn't spent": there is none
@@ -199,14 +185,10 @@ fn not_above(gauge: Gauge, keycount: u64) -> bool
 pub fn well_formed(r: Record, p: u32, gauge: Gauge) -> bool
     ensures { result ≡ well_formed p gauge r }
 {
-    if none_from(r.spent, p) {
-        if lies_in(r.held, r.spent) {
-            if epoch_fits(gauge, r.epoch) {
-                return not_above(gauge, r.keycount);
-            }
-        }
-    }
-    false
+    none_from(r.spent, p)
+        && lies_in(r.held, r.spent)
+        && epoch_fits(gauge, r.epoch)
+        && not_above(gauge, r.keycount)
 }
 
 // The way of a write that touches these flakes.
@@ -228,12 +210,7 @@ pub fn way_of(r: Record, touched: u64, epoch: u16) -> Way
 pub fn is_rekey(way: Way) -> bool
     ensures { result ≡ rekeys way }
 {
-    match way {
-        Way::Idle => false,
-        Way::Add(_) => false,
-        Way::Rekey(_) => true,
-        Way::Clear(_) => false,
-    }
+    matches!(way, Way::Rekey(_))
 }
 
 // The flakes that are enciphered.
@@ -264,10 +241,9 @@ pub fn turn(way: Way, epoch: u16, r: Record) -> Record
     match way {
         Way::Idle => r,
         Way::Add(touched) => Record {
-            keycount: r.keycount,
             spent: join(r.spent, touched),
             held: join(r.held, touched),
-            epoch: r.epoch,
+            ..r
         },
         Way::Rekey(touched) => {
             let flakes = join(r.held, touched);
@@ -275,14 +251,12 @@ pub fn turn(way: Way, epoch: u16, r: Record) -> Record
                 keycount: next(r.keycount),
                 spent: flakes,
                 held: flakes,
-                epoch: epoch,
+                epoch,
             }
         }
         Way::Clear(cleared) => Record {
-            keycount: r.keycount,
-            spent: r.spent,
             held: leave(r.held, cleared),
-            epoch: r.epoch,
+            ..r
         },
     }
 }

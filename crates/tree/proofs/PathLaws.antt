@@ -11,8 +11,8 @@ use Rattle.base.specs.Pick.{pick}
 use Rattle.base.proofs.PickLaws.{yes, both_left, both_right, both-on, clash, either-told}
 use Rattle.layout.specs.Shape.{height_of, leaves}
 use Rattle.layout.specs.declared.Shape.{Shape}
-use Rattle.answers.specs.declared.Answer.{Answer}
-use Rattle.answers.specs.declared.Answer.TheVariants as A
+use Rattle.answers.specs.Answer.{Answer}
+use Rattle.answers.specs.Answer as A
 use Rattle.answers.specs.declared.Place.{Place}
 use Rattle.answers.specs.declared.Place.TheVariants as P
 use Rattle.answers.specs.Numbers.{number_of}

@@ -11,8 +11,8 @@ use Rattle.base.specs.Pick.{pick}
 use Rattle.base.proofs.PickLaws.{yes, no, told, both_left, both_right, both-on, clash}
 use Rattle.layout.specs.Shape.{height_of, leaves}
 use Rattle.layout.specs.declared.Shape.{Shape}
-use Rattle.answers.specs.declared.Answer.{Answer}
-use Rattle.answers.specs.declared.Answer.TheVariants as A
+use Rattle.answers.specs.Answer.{Answer}
+use Rattle.answers.specs.Answer as A
 use Rattle.answers.specs.declared.Place.TheVariants as P
 use Rattle.answers.specs.Numbers.{accepts}
 use Rattle.records.specs.declared.Gauge.{Gauge}

@@ -9,7 +9,7 @@ ghost use Rattle.tree.specs.Whole.{records_from, nugget_leaf, bad_of, worst, at_
 ghost use Rattle.tree.specs.Renewed.{renewed, built};
 ghost use Rattle.layout.specs.Shaped.{Shaped};
 
-use answers::{Answer, Place};
+use answers::{Answer, Place, Refusal};
 use layout::Shape;
 use records::Gauge;
 
@@ -19,11 +19,7 @@ fn good_record(vol: &[u8], s: Shape, gauge: Gauge, n: u32) -> bool
     ensures { result ≡ good_record s gauge vol.now n }
 {
     let r = records::read(vol, s, n);
-    if records::well_formed(r, s.p, gauge) {
-        nodes::good(vol, s, (layout::leaves_of(s.n) as u32) + n)
-    } else {
-        false
-    }
+    records::well_formed(r, s.p, gauge) && nodes::good(vol, s, (layout::leaves_of(s.n) as u32) + n)
 }
 
 // "then node i, from its parent up, that isn't made of its two"
@@ -31,17 +27,14 @@ fn climb(vol: &[u8], s: Shape, count: u32, from: u32) -> Answer
     requires { Shaped s vol.now × Rises count from × (from < 2 * leaves s.n) }
     ensures { result ≡ climbed s vol.now count from }
 {
-    let mut k = count;
     let mut i = from;
-    while 0 < k {
-        if nodes::good(vol, s, i) {
-            i = i / 2;
-            k -= 1;
-        } else {
-            return Answer::Altered(Place::Node(i));
+    for _above in 0..count {
+        if !nodes::good(vol, s, i) {
+            return Err(Refusal::Altered(Place::Node(i)));
         }
+        i /= 2;
     }
-    Answer::Accepted
+    Ok(())
 }
 
 // The test "path" of nugget n.
@@ -49,12 +42,11 @@ pub fn path(vol: &[u8], s: Shape, gauge: Gauge, n: u32) -> Answer
     requires { Shaped s vol.now × (n < s.n) }
     ensures { result ≡ path_of s gauge vol.now n }
 {
-    if good_record(vol, s, gauge, n) {
-        let leaf = (layout::leaves_of(s.n) as u32) + n;
-        climb(vol, s, layout::height_of(s.n), leaf / 2)
-    } else {
-        Answer::Altered(Place::Record(n))
+    if !good_record(vol, s, gauge, n) {
+        return Err(Refusal::Altered(Place::Record(n)));
     }
+    let leaf = (layout::leaves_of(s.n) as u32) + n;
+    climb(vol, s, layout::height_of(s.n), leaf / 2)
 }
 
 // "records ascending"
@@ -62,16 +54,12 @@ fn all_records(vol: &[u8], s: Shape, gauge: Gauge) -> Answer
     requires { Shaped s vol.now }
     ensures { result ≡ records_from s gauge vol.now s.n 0 }
 {
-    let count = s.n;
-    let mut n = 0;
-    while n < count {
-        if good_record(vol, s, gauge, n) {
-            n += 1;
-        } else {
-            return Answer::Altered(Place::Record(n));
+    for n in 0..s.n {
+        if !good_record(vol, s, gauge, n) {
+            return Err(Refusal::Altered(Place::Record(n)));
         }
     }
-    Answer::Accepted
+    Ok(())
 }
 
 // Whether node i is the leaf of a nugget, which belongs to its record's test.
@@ -80,13 +68,7 @@ fn nugget_leaf(s: Shape, i: u32) -> bool
     ensures { result ≡ nugget_leaf s i }
 {
     let first = layout::leaves_of(s.n) as u32;
-    if i < first {
-        return false;
-    }
-    if i - first < s.n {
-        return true;
-    }
-    false
+    first <= i && i < first + s.n
 }
 
 // Node i if it is bad, else 0.
@@ -94,16 +76,11 @@ fn bad(vol: &[u8], s: Shape, i: u32) -> u32
     requires { Shaped s vol.now × (1 ≤ i) × (i < 2 * leaves s.n) }
     ensures { result ≡ bad_of s vol.now i }
 {
-    if nugget_leaf(s, i) {
-        return 0;
+    if nugget_leaf(s, i) || nodes::good(vol, s, i) {
+        0
+    } else {
+        i
     }
-    if nodes::good(vol, s, i) { 0 } else { i }
-}
-
-fn greater(a: u32, b: u32) -> u32
-    ensures { result ≡ max a b }
-{
-    if a < b { b } else { a }
 }
 
 // "each node stands over the two nodes below it": the greatest bad node of the subtree of this height under node i.
@@ -117,16 +94,16 @@ fn worst_under(vol: &[u8], s: Shape, height: u32, i: u32) -> u32
     }
     let left = worst_under(vol, s, height - 1, 2 * i);
     let right = worst_under(vol, s, height - 1, 2 * i + 1);
-    greater(own, greater(left, right))
+    own.max(left.max(right))
 }
 
 fn at_node(i: u32) -> Answer
     ensures { result ≡ at_node i }
 {
     if i == 0 {
-        Answer::Accepted
+        Ok(())
     } else {
-        Answer::Altered(Place::Node(i))
+        Err(Refusal::Altered(Place::Node(i)))
     }
 }
 
@@ -135,12 +112,8 @@ pub fn whole(vol: &[u8], s: Shape, gauge: Gauge) -> Answer
     requires { Shaped s vol.now }
     ensures { result ≡ whole_of s gauge vol.now }
 {
-    let a = all_records(vol, s, gauge);
-    if answers::accepted(a) {
-        at_node(worst_under(vol, s, layout::height_of(s.n), 1))
-    } else {
-        a
-    }
+    all_records(vol, s, gauge)?;
+    at_node(worst_under(vol, s, layout::height_of(s.n), 1))
 }
 
 // The leaf of nugget n and the nodes above it, made anew from the leaf up.
@@ -148,12 +121,10 @@ pub fn renew(vol: &mut [u8], s: Shape, n: u32)
     requires { Shaped s vol.old × (n < s.n) }
     ensures { vol.new ≡ renewed s n vol.old }
 {
-    let mut k = layout::height_of(s.n) + 1;
     let mut i = (layout::leaves_of(s.n) as u32) + n;
-    while 0 < k {
+    for _above in 0..layout::height_of(s.n) + 1 {
         nodes::store(&mut *vol, s, i);
-        i = i / 2;
-        k -= 1;
+        i /= 2;
     }
 }
 
@@ -162,9 +133,7 @@ pub fn build(vol: &mut [u8], s: Shape)
     requires { Shaped s vol.old }
     ensures { vol.new ≡ built s vol.old }
 {
-    let mut k = 2 * (layout::leaves_of(s.n) as u32) - 1;
-    while 0 < k {
-        nodes::store(&mut *vol, s, k);
-        k -= 1;
+    for i in (1..2 * (layout::leaves_of(s.n) as u32)).rev() {
+        nodes::store(&mut *vol, s, i);
     }
 }

@@ -1,5 +1,4 @@
 use mathlib.Core.Path.{◌≡◌, sym, refl}
-use mathlib.Core.Logic.{inl, inr}
 use native.Mathlib.Omega.{arith}
 use Rattle.answers.specs.Classes.{class_of}
 use Rattle.answers.proofs.ClassLaws as law
@@ -10,10 +9,7 @@ unfolding class_of
 returns-in-7 c = rw c.in-7.is refl
 
 pub returns-in-13 : goal.returns-in-13
-returns-in-13 c = sym (law.spent c.args.number (inl c.in-13.is))
-
-pub returns-in-15 : goal.returns-in-15
-returns-in-15 c = sym (law.spent c.args.number (inr c.in-15.is))
+returns-in-13 c = sym (law.spent c.args.number c.in-13.is)
 
 pub returns-in-16 : goal.returns-in-16
 returns-in-16 c = sym (law.sixteen c.args.number c.in-16.is)
@@ -34,5 +30,4 @@ returns-in_default c =
     rw e refl
 
 pub returns-in_default-2 : goal.returns-in_default-2
-returns-in_default-2 c =
-    sym (law.nothing c.args.number (omega arith) (λ e. omega arith) (λ e. omega arith) (λ e. omega arith))
+returns-in_default-2 c = sym (law.nothing c.args.number (omega arith) (λ e. grind arith) (λ e. grind arith) (λ e. omega arith))

@@ -39,8 +39,8 @@ returns-then-equal c =
     let l : Limits (shape_of d) = limits (shape_of d) in-limits in
     let at : c.node_at-at.result ≡ node_at (shape_of d) 1 = c.node_at-at.ensures ∙ ap (λ (s : Shape). within s (node_at s 1)) c.shape_of.ensures ∙ inside (shape_of d) in-limits in
     c.equal-then-equal.ensures ∙ node-part c.args.vol.now d.node c.node_at-at.result (node_at (shape_of d) 1) at
-    ∙ sym (both-on (sym (ap (λ (h : List ℕ). same (part 0 104 c.args.vol.now) h) c.head-made.ensures) ∙ sym c.equal.ensures ∙ c.if-equal.true) refl)
+    ∙ sym (both-on (sym (ap (λ (h : List ℕ). same (part 0 104 c.args.vol.now) h) c.head.ensures) ∙ sym c.equal.ensures ∙ c.if-equal.true) refl)
 
 pub returns-else-equal : goal.returns-else-equal
 unfolding head_stands
-returns-else-equal c = sym (both_off _ (sym (ap (λ (h : List ℕ). same (part 0 104 c.args.vol.now) h) c.head-made.ensures) ∙ sym c.equal.ensures ∙ c.if-equal.false))
+returns-else-equal c = c.if-equal.false ∙ sym (both_off _ (sym (ap (λ (h : List ℕ). same (part 0 104 c.args.vol.now) h) c.head.ensures) ∙ sym c.equal.ensures ∙ c.if-equal.false))

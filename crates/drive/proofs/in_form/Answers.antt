@@ -10,4 +10,4 @@ returns-then-in_limits c = c.state_fits.ensures ∙ sym (both-on (sym (ap in_lim
 
 pub returns-else-in_limits : goal.returns-else-in_limits
 unfolding in_form
-returns-else-in_limits c = sym (both_off _ (sym (ap in_limits c.shape_of.ensures) ∙ sym c.in_limits.ensures ∙ c.if-in_limits.false))
+returns-else-in_limits c = c.if-in_limits.false ∙ sym (both_off _ (sym (ap in_limits c.shape_of.ensures) ∙ sym c.in_limits.ensures ∙ c.if-in_limits.false))

@@ -16,4 +16,4 @@ returns c =
     let a = c.args in
     let pre = c.requires in
     c.eight.ensures
-    ∙ rw c.nonce_of-nonce.ensures (eight-chacha20 a.lock a.n (ne_eqb a.lock.cipher 16 c.if-lock-eq16.false) pre.1)
+    ∙ rw c.nonce_of.ensures (eight-chacha20 a.lock a.n (ne_eqb a.lock.cipher 16 c.if-lock-eq16.false) pre.1)

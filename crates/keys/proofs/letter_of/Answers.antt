@@ -8,6 +8,6 @@ pub returns-then-version-eq1 : goal.returns-then-version-eq1
 unfolding tag_letter
 returns-then-version-eq1 c = sym (yes letter_g (eq-eqb _ 1 c.if-version-eq1.true) refl)
 
-pub returns : goal.returns
+pub returns-else-version-eq1 : goal.returns-else-version-eq1
 unfolding tag_letter
-returns c = sym (no letter_f (ne_eqb _ 1 c.if-version-eq1.false) refl)
+returns-else-version-eq1 c = sym (no letter_f (ne_eqb _ 1 c.if-version-eq1.false) refl)

@@ -9,4 +9,4 @@ returns-then-known_version c = c.known_cipher.ensures ∙ sym (both-on (sym c.kn
 
 pub returns-else-known_version : goal.returns-else-known_version
 unfolding known
-returns-else-known_version c = sym (both_off _ (sym c.known_version.ensures ∙ c.if-known_version.false))
+returns-else-known_version c = c.if-known_version.false ∙ sym (both_off _ (sym c.known_version.ensures ∙ c.if-known_version.false))

@@ -9,4 +9,4 @@ returns-then-are_sized c = sym (both-on (sym c.are_sized.ensures ∙ c.if-are_si
 
 pub returns-else-are_sized : goal.returns-else-are_sized
 unfolding in_limits
-returns-else-are_sized c = sym (both_off _ (sym c.are_sized.ensures ∙ c.if-are_sized.false))
+returns-else-are_sized c = c.if-are_sized.false ∙ sym (both_off _ (sym c.are_sized.ensures ∙ c.if-are_sized.false))

@@ -8,8 +8,8 @@ use native.Mathlib.Omega.{arith}
 use mathlib.Core.Path.{◌≡◌, ap, ◌∙◌}
 use Rattle.nodes.proofs.first.Goals as goal
 
-pub thirty_two-requires : goal.thirty_two-requires
-thirty_two-requires c =
+pub taken-requires : goal.taken-requires
+taken-requires c =
     let s = c.args.s in
     let at : c.node_at.result ≡ node_at s 1 = placed s c.requires.limited c.node_at.ensures in
     omega (arith, at, node-fits 1 c.requires (omega (arith, leaves-some s.n)))
@@ -17,4 +17,4 @@ thirty_two-requires c =
 pub returns : goal.returns
 returns c =
     let s = c.args.s in
-    c.thirty_two.ensures ∙ ap (λ (x : ℕ). part x 32 c.args.vol.now) (placed s c.requires.limited c.node_at.ensures)
+    c.taken.ensures ∙ ap (λ (x : ℕ). part x 32 c.args.vol.now) (placed s c.requires.limited c.node_at.ensures)

@@ -39,5 +39,5 @@ returns c =
     let at = c.record_at-record in
     let to = c.tag_at-tags in
     let width = c.width_of in
-    leaf_is a.s v st.new.s a.n (st.ensures ∙ letter_nugget a.n) at.ensures width.ensures (to.ensures ∙ inside a.s l.limited)
+    leaf_is a.s v st.new.s a.n (st.ensures ∙ rw c.from.ensures (letter_nugget a.n)) at.ensures width.ensures (to.ensures ∙ inside a.s l.limited)
     (hashed v st.new.s at.result width.result to.result (16 * a.s.p) c.start.ensures c.absorb-a.ensures c.absorb-b.ensures c.absorb-c.ensures c.finish.ensures)

@@ -1,10 +1,7 @@
 use Rattle.nuggets.specs.Tests.{flakes_up, flakes_tested}
-use Prim.Native.Nat.{◌-◌, ◌≤◌}
+use Prim.Native.Nat.{◌-◌}
 use mathlib.Core.Path.{◌≡◌}
 use Rattle.nuggets.proofs.flakes.Given as goal
 
 abbrev pub invariant-loop-f : goal.invariant-loop-f
-invariant-loop-f l = (l.f ≤ l.s.p) × (flakes_up l.s l.vol l.g l.mask (l.s.p - l.f) l.f ≡ flakes_tested l.s l.vol l.g l.mask)
-
-abbrev pub decreases-loop-f : goal.decreases-loop-f
-decreases-loop-f l = l.s.p - l.f
+invariant-loop-f l = flakes_up l.s l.vol l.g l.mask (l.s.p - l.f) l.f ≡ flakes_tested l.s l.vol l.g l.mask

@@ -8,6 +8,6 @@ pub returns-then-epoch-d : goal.returns-then-epoch-d
 unfolding secret_for
 returns-then-epoch-d c = sym (yes _ (eq-eqb _ _ c.if-epoch-d.true) refl)
 
-pub returns : goal.returns
+pub returns-else-epoch-d : goal.returns-else-epoch-d
 unfolding secret_for
-returns c = sym (no _ (ne_eqb _ _ c.if-epoch-d.false) refl)
+returns-else-epoch-d c = sym (no _ (ne_eqb _ _ c.if-epoch-d.false) refl)

@@ -48,10 +48,10 @@ overflow_cast-from c =
     let a = c.args in
     let l = limits a.s c.requires.0 in
     let q = small a.s l in
-    omega (arith, c.less-from.ensures, c.requires.2, c.requires.1, mul-le-mul q.few_tags l.short, div-le_self a.o a.s.f)
+    omega (arith, c.saturating_sub-from.ensures, c.requires.2, c.requires.1, mul-le-mul q.few_tags l.short, div-le_self a.o a.s.f)
 
 pub returns : goal.returns
 returns c =
     let a = c.args in
     let l = limits a.s c.requires.0 in
-    c.range.ensures ∙ touched-range a.s a.o a.len a.n l c.requires.1 _ _ c.less-from.ensures c.smaller-to.ensures c.if-last-base.false
+    c.range.ensures ∙ touched-range a.s a.o a.len a.n l c.requires.1 _ _ c.saturating_sub-from.ensures c.min-to.ensures c.if-last-base.false

@@ -26,5 +26,5 @@ slice_bounds-copy-end c = omega (arith, c.width_of-width.ensures, width_ge c.arg
 pub returns : goal.returns
 returns c =
     let a = c.args in
-    let made = record_made a.s a.r (replicate 26 0) (length-replicate {A = ℕ} 26 0) c.width_of-width.ensures c.store.ensures c.store-2.ensures c.store-3.ensures c.store-4.ensures in
+    let made = record_made a.s a.r (replicate 26 0) (length-replicate {A = ℕ} 26 0) c.width_of-width.ensures c.store.ensures c.store-2.ensures c.store-3.ensures (rw c.from.ensures at c.store-4.ensures) in
     c.copy.ensures ∙ ap (λ (x : List ℕ). sets a.vol.now a.at x) made

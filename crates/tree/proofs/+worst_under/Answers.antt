@@ -45,4 +45,4 @@ pub returns : goal.returns
 returns t c =
     let a = c.args in
     worst_is a.s a.vol.now a.height a.i (pos_of_ne-zero c.if-height-eq0.false)
-    c.bad-own.ensures c.worst_under-left.ensures c.worst_under-right.ensures c.greater.ensures c.greater-2.ensures
+    c.bad-own.ensures c.worst_under-left.ensures c.worst_under-right.ensures c.max.ensures c.max-2.ensures

@@ -6,7 +6,7 @@ use Rattle.tree.proofs.Steps.{records_from-on, records_from_off, records_from_en
 use Rattle.tree.proofs.all_records.Goals as goal
 
 pub loop-n-init : goal.loop-n-init
-loop-n-init c = (omega arith, ap (λ (k : ℕ). records_from c.args.s c.args.gauge c.args.vol.now k 0) (omega arith))
+loop-n-init c = ap (λ (k : ℕ). records_from c.args.s c.args.gauge c.args.vol.now k 0) (omega arith)
 
 pub good_record-requires : goal.good_record-requires
 good_record-requires c = (c.requires, c.loop-n-test.true)
@@ -15,16 +15,16 @@ pub loop-n-preserved : goal.loop-n-preserved
 loop-n-preserved c =
     let a = c.args in
     let l = c.loop-n in
-    (omega arith, records_from-on a.s a.gauge a.vol.now l.n c.loop-n-test.true (sym c.good_record.ensures ∙ c.if-good_record.true) ∙ l.invariant.1)
+    records_from-on a.s a.gauge a.vol.now l.n c.loop-n-test.true (sym c.good_record.ensures ∙ c.if-not-good_record.false) ∙ l.invariant
 
-pub returns-else-good_record : goal.returns-else-good_record
-returns-else-good_record c =
+pub returns-then-not-good_record : goal.returns-then-not-good_record
+returns-then-not-good_record c =
     let a = c.args in
     let l = c.loop-n in
-    records_from_off a.s a.gauge a.vol.now l.n c.loop-n-test.true (sym c.good_record.ensures ∙ c.if-good_record.false) ∙ l.invariant.1
+    records_from_off a.s a.gauge a.vol.now l.n c.loop-n-test.true (sym c.good_record.ensures ∙ c.if-not-good_record.true) ∙ l.invariant
 
 pub returns : goal.returns
 returns c =
     let a = c.args in
     let l = c.loop-n in
-    records_from_end a.s a.gauge a.vol.now l.n c.loop-n-test.false ∙ l.invariant.1
+    records_from_end a.s a.gauge a.vol.now l.n c.loop-n-test.false ∙ l.invariant

@@ -8,38 +8,37 @@ use Rattle.heaps.proofs.Steps.{stored_down-on, stored_down_end}
 use Rattle.layout.proofs.Limits.{lent_small}
 use Rattle.tree.proofs.build.Goals as goal
 
-pub overflow_cast-k : goal.overflow_cast-k
-overflow_cast-k c = omega (arith, c.leaves_of.ensures, (lent_small c.requires).few_leaves)
+pub overflow_cast-i : goal.overflow_cast-i
+overflow_cast-i c = omega (arith, c.leaves_of.ensures, (lent_small c.requires).few_leaves)
 
-pub overflow_mul-k : goal.overflow_mul-k
-overflow_mul-k c = omega (arith, c.leaves_of.ensures, (lent_small c.requires).few_leaves)
+pub overflow_step-i : goal.overflow_step-i
+overflow_step-i c = omega (arith, c.leaves_of.ensures, (lent_small c.requires).few_leaves)
 
-pub overflow_sub-k : goal.overflow_sub-k
-overflow_sub-k c = omega (arith, c.leaves_of.ensures, (lent_small c.requires).some_leaves)
+pub overflow_step-i-in-loop-i : goal.overflow_step-i-in-loop-i
+overflow_step-i-in-loop-i c = omega (arith, c.leaves_of.ensures, (lent_small c.requires).some_leaves)
 
-pub loop-k-init : goal.loop-k-init
+pub loop-i-init : goal.loop-i-init
 unfolding built
-loop-k-init c =
+loop-i-init c =
     let a = c.args in
     let e = c.leaves_of.ensures in
-    (omega (arith, e, (lent_small c.requires).some_leaves), c.requires, refl, ap (λ (k : ℕ). stored_down a.s k a.vol.now) (omega (arith, e)))
+    (c.requires, refl, ap (λ (k : ℕ). stored_down a.s k a.vol.now) (omega (arith, e)))
 
 pub store-requires : goal.store-requires
-store-requires c = (c.loop-k.invariant.1, omega (arith, c.loop-k-test.true), c.loop-k.invariant.0)
+store-requires c = (c.loop-i.invariant.0, omega (arith, c.loop-i-test.true), omega (arith, c.loop-i-test.true, c.loop-i.auto.i, c.leaves_of.ensures))
 
-pub loop-k-preserved : goal.loop-k-preserved
-loop-k-preserved c =
+pub loop-i-preserved : goal.loop-i-preserved
+loop-i-preserved c =
     let a = c.args in
-    let l = c.loop-k in
+    let l = c.loop-i in
     let st = c.store in (
-      omega (arith, l.invariant.0),
-      record { limited = l.invariant.1.limited; size = st.auto.vol ∙ l.invariant.1.size },
-      st.auto.vol ∙ l.invariant.2,
-      ap (λ (w : List ℕ). stored_down a.s (l.k - 1) w) st.ensures ∙ stored_down-on (store_node a.s) l.vol l.k c.loop-k-test.true ∙ l.invariant.3,
+      record { limited = l.invariant.0.limited; size = st.auto.vol ∙ l.invariant.0.size },
+      st.auto.vol ∙ l.invariant.1,
+      ap (λ (w : List ℕ). stored_down a.s (l.i - 1 - 1) w) st.ensures ∙ stored_down-on (store_node a.s) l.vol (l.i - 1) (omega (arith, c.loop-i-test.true)) ∙ l.invariant.2,
     )
 
 pub shape_of-vol : goal.shape_of-vol
-shape_of-vol c = c.loop-k.invariant.2
+shape_of-vol c = c.loop-i.invariant.1
 
 pub returns : goal.returns
-returns c = stored_down_end _ _ _ c.loop-k-test.false ∙ c.loop-k.invariant.3
+returns c = stored_down_end _ _ (c.loop-i.i - 1) (omega (arith, c.loop-i-test.false)) ∙ c.loop-i.invariant.2

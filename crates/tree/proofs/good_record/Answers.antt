@@ -26,4 +26,4 @@ returns-then-well_formed c =
 pub returns-else-well_formed : goal.returns-else-well_formed
 returns-else-well_formed c =
     let a = c.args in
-    record_off a.s a.gauge a.vol.now a.n c.read-r.ensures (sym c.well_formed-2.ensures ∙ c.if-well_formed.false)
+    c.if-well_formed.false ∙ record_off a.s a.gauge a.vol.now a.n c.read-r.ensures (sym c.well_formed-2.ensures ∙ c.if-well_formed.false)

@@ -1,21 +1,27 @@
-use mathlib.Core.Path.{sym}
+use mathlib.Core.Path.{refl, sym, ◌∙◌}
 use native.Mathlib.Omega.{arith}
+use borrow.Author.Tests.{le-leb, lt-leb}
+use Rattle.base.proofs.PickLaws.{both-on, both_off}
+use Rattle.tree.specs.Whole.{nugget_leaf}
 use Rattle.layout.proofs.Limits.{limits, small}
-use Rattle.tree.proofs.Steps.{nugget_yes, nugget-below, nugget-above}
 use Rattle.tree.proofs.nugget_leaf.Goals as goal
 
 pub overflow_cast-first : goal.overflow_cast-first
 overflow_cast-first c = omega (arith, c.leaves_of-first.ensures, (small _ (limits c.args.s c.requires)).few_leaves)
 
-pub returns-then-i-first : goal.returns-then-i-first
-returns-then-i-first c = sym (nugget-below c.args.s c.args.i (omega (arith, c.leaves_of-first.ensures, c.if-i-first.true)))
+pub overflow_add-result : goal.overflow_add-result
+overflow_add-result c =
+    let q = small _ (limits c.args.s c.requires) in
+    omega (arith, c.leaves_of-first.ensures, q.few_leaves, q.few_nuggets)
 
-pub returns-then-i-first-2 : goal.returns-then-i-first-2
-returns-then-i-first-2 c =
+pub returns-then-first-i : goal.returns-then-first-i
+unfolding nugget_leaf
+returns-then-first-i c =
     let e = c.leaves_of-first.ensures in
-    sym (nugget_yes c.args.s c.args.i (omega (arith, e, c.if-i-first.false)) (omega (arith, e, c.if-i-first.false, c.if-i-first-2.true)))
+    rw (← e) (sym (both-on (le-leb _ _ c.if-first-i.true) refl))
 
-pub returns : goal.returns
-returns c =
+pub returns-else-first-i : goal.returns-else-first-i
+unfolding nugget_leaf
+returns-else-first-i c =
     let e = c.leaves_of-first.ensures in
-    sym (nugget-above c.args.s c.args.i (omega (arith, e, c.if-i-first.false, c.if-i-first-2.false)))
+    rw (← e) (lt-leb _ _ c.if-first-i.false ∙ sym (both_off _ (lt-leb _ _ c.if-first-i.false)))

@@ -21,12 +21,12 @@ climb-requires c =
     let e = c.leaves_of.ensures in
     (c.requires.0, rw (c.height_of.ensures, e) (rises-half (height_of a.s.n) _ (rises-leaf a.s a.n q c.requires.1)), omega (arith, e, q.enough_leaves, c.requires.1))
 
-pub returns-then-good_record : goal.returns-then-good_record
-returns-then-good_record c =
+pub returns : goal.returns
+returns c =
     let a = c.args in
-    path-on a.s a.gauge a.vol.now a.n (sym c.good_record.ensures ∙ c.if-good_record.true) c.height_of.ensures c.leaves_of.ensures c.climb.ensures
+    path-on a.s a.gauge a.vol.now a.n (sym c.good_record.ensures ∙ c.if-not-good_record.false) c.height_of.ensures c.leaves_of.ensures c.climb.ensures
 
-pub returns-else-good_record : goal.returns-else-good_record
-returns-else-good_record c =
+pub returns-then-not-good_record : goal.returns-then-not-good_record
+returns-then-not-good_record c =
     let a = c.args in
-    path_off a.s a.gauge a.vol.now a.n (sym c.good_record.ensures ∙ c.if-good_record.false)
+    path_off a.s a.gauge a.vol.now a.n (sym c.good_record.ensures ∙ c.if-not-good_record.true)
