@@ -10,7 +10,7 @@ use Rattle.base.specs.Lists.{same}
 use Rattle.base.proofs.PickLaws.{no}
 use Rattle.layout.specs.Shaped.{Shaped}
 use Rattle.layout.specs.Spots.{capacity}
-use Rattle.answers.specs.declared.Answer.TheVariants as A
+use Rattle.answers.specs.Answer as A
 use Rattle.answers.specs.Numbers.{accepts}
 use Rattle.answers.proofs.StageLaws.{passed, both_stages, spared, accepted_is}
 use Rattle.records.specs.declared.Way.{Way}

@@ -15,7 +15,7 @@ use Rattle.layout.specs.Shape.{is_one}
 use Rattle.layout.specs.Shaped.{Shaped}
 use Rattle.layout.specs.Spots.{offset_at}
 use Rattle.layout.proofs.Places.{apart, index_told}
-use Rattle.answers.specs.declared.Answer.TheVariants as A
+use Rattle.answers.specs.Answer as A
 use Rattle.answers.specs.Numbers.{accepts}
 use Rattle.answers.proofs.StageLaws.{passed, both_stages, spared, accepted_is}
 use Rattle.records.specs.declared.Way.TheVariants.{Clear}

@@ -10,8 +10,8 @@ use borrow.Author.Tests.{ltb-true}
 use Rattle.base.specs.Pick.{pick, both}
 use Rattle.base.specs.Lists.{same}
 use Rattle.base.proofs.PickLaws.{yes, clash, both_left}
-use Rattle.answers.specs.declared.Answer.{Answer}
-use Rattle.answers.specs.declared.Answer.TheVariants as A
+use Rattle.answers.specs.Answer.{Answer}
+use Rattle.answers.specs.Answer as A
 use Rattle.answers.specs.Numbers.{accepts}
 use Rattle.answers.specs.Stages.{and_then}
 use Rattle.records.specs.declared.Way.{Way}

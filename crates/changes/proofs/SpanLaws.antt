@@ -13,8 +13,8 @@ use Rattle.base.proofs.PickLaws.{both_left, both_right, alike, clash, told, yes,
 use Rattle.layout.specs.declared.Shape.{Shape}
 use Rattle.layout.specs.Spots.{spot_at, offset_at}
 use Rattle.layout.proofs.Limits.{Limits}
-use Rattle.answers.specs.declared.Answer.{Answer}
-use Rattle.answers.specs.declared.Answer.TheVariants as A
+use Rattle.answers.specs.Answer.{Answer}
+use Rattle.answers.specs.Answer as A
 use Rattle.answers.specs.Numbers.{accepts}
 use Rattle.answers.specs.Stages.{and_then}
 use Rattle.answers.proofs.StageLaws.{goes_on, stops, accepted_is}

@@ -1,6 +1,6 @@
 -- Document 02, Item 7: "so that answer 13 always comes first".
 use Rattle.std.specs.Prelude.{ℕ, ◌^◌, ◌<◌, ◌≡◌, List}
-use Rattle.answers.specs.declared.Answer.TheVariants as A
+use Rattle.answers.specs.Answer as A
 use Rattle.records.specs.Record.{record_of}
 use Rattle.drive.specs.declared.Drive.{Drive}
 use Rattle.drive.specs.Drive.{shape_of, counter_top}

@@ -1,8 +1,8 @@
 -- Document 01, "Write. For each nugget let T be the flakes touched and J its journal."
 use Rattle.std.specs.Prelude.{ℕ, Bool, List, [], eqb, ltb, length}
 use Rattle.base.specs.Pick.{pick, both}
-use Rattle.answers.specs.declared.Answer.{Answer}
-use Rattle.answers.specs.declared.Answer.TheVariants as A
+use Rattle.answers.specs.Answer.{Answer}
+use Rattle.answers.specs.Answer as A
 use Rattle.answers.specs.Numbers.{accepts}
 use Rattle.answers.specs.Stages.{and_then}
 use Rattle.records.specs.declared.Way.{Way}

@@ -2,7 +2,7 @@
 use mathlib.Core.Path.{◌≡◌, refl}
 use mathlib.Core.List.{List}
 use Prim.Native.Nat.{ℕ}
-use Rattle.answers.specs.declared.Answer.TheVariants as A
+use Rattle.answers.specs.Answer as A
 use Rattle.answers.proofs.StageLaws.{refuses}
 use Rattle.drive.specs.declared.Drive.{Drive}
 use Rattle.changes.specs.Discard.{discard_answer, discard_done, discard_volume}

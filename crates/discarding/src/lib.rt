@@ -5,10 +5,9 @@
 ghost use Rattle.std.specs.Prelude.{◌≡◌, ◌+◌, ◌<◌, ◌≤◌};
 ghost use Rattle.layout.specs.Shaped.{Shaped};
 ghost use Rattle.drive.specs.Drive.{shape_of};
-ghost use Rattle.answers.specs.Stages.{and_then};
 ghost use Rattle.changes.specs.Discard.{range_fits, clears_none, clear_room, clear_tests, discard_answer, discard_work, discard_done, discard_volume};
 
-use answers::Answer;
+use answers::{Answer, Refusal};
 use drive::{Done, Drive};
 use records::Way;
 
@@ -24,12 +23,8 @@ pub struct Freed {
 fn fits(d: Drive, freed: Freed) -> bool
     ensures { result ≡ range_fits (shape_of d) freed.nugget freed.first freed.count }
 {
-    if freed.nugget < d.n {
-        let end = freed.first as u64 + freed.count as u64;
-        end <= d.p as u64
-    } else {
-        false
-    }
+    let end = u64::from(freed.first) + u64::from(freed.count);
+    freed.nugget < d.n && end <= u64::from(d.p)
 }
 
 // Whether no flake of the range is held.
@@ -47,23 +42,10 @@ fn test_room(d: Drive, vol: &[u8], freed: Freed) -> Answer
     requires { Shaped (shape_of d) vol.now × (freed.nugget < d.n) × (freed.first + freed.count ≤ d.p) }
     ensures { result ≡ clear_room d vol.now freed.nugget freed.first freed.count }
 {
-    if clears_none(d, vol, freed) {
-        return Answer::Accepted;
+    if !clears_none(d, vol, freed) && d.counter == u64::MAX {
+        return Err(Refusal::CounterTop);
     }
-    if d.counter == 0xffff_ffff_ffff_ffff {
-        return Answer::CounterTop;
-    }
-    Answer::Accepted
-}
-
-// The first answer that refuses.
-fn in_order(first: Answer, next: Answer) -> Answer
-    ensures { result ≡ and_then first next }
-{
-    if answers::accepted(first) {
-        return next;
-    }
-    first
+    Ok(())
 }
 
 // "7 path, 13 unless nothing is cleared"
@@ -71,26 +53,22 @@ fn clear_tests(d: Drive, vol: &[u8], freed: Freed) -> Answer
     requires { Shaped (shape_of d) vol.now × (freed.nugget < d.n) × (freed.first + freed.count ≤ d.p) }
     ensures { result ≡ clear_tests d vol.now freed.nugget freed.first freed.count }
 {
-    let path = nuggets::test_path(d, vol, freed.nugget);
-    let room = test_room(d, vol, freed);
-    in_order(path, room)
+    nuggets::test_path(d, vol, freed.nugget)?;
+    test_room(d, vol, freed)
 }
 
 // "9 on version 1, 8 for a nugget or range past the end, 7 path, 13 unless nothing is cleared"
 fn admit(d: Drive, vol: &[u8], freed: Freed) -> Answer
     ensures { result ≡ discard_answer d vol.now freed.nugget freed.first freed.count }
 {
-    let a = drive::opening(d, vol);
-    if answers::accepted(a) {
-        if d.version == 1 {
-            return Answer::State;
-        }
-        if fits(d, freed) {
-            return clear_tests(d, vol, freed);
-        }
-        return Answer::PastEnd;
+    drive::opening(d, vol)?;
+    if d.version == 1 {
+        return Err(Refusal::State);
     }
-    a
+    if !fits(d, freed) {
+        return Err(Refusal::PastEnd);
+    }
+    clear_tests(d, vol, freed)
 }
 
 // All that a discard stores before the head: the nugget's record, its leaf and path.
@@ -113,23 +91,14 @@ pub fn discard(d: Drive, vol: &mut [u8], freed: Freed) -> Done
     ensures { (result ≡ discard_done d vol.old freed.nugget freed.first freed.count)
         × (vol.new ≡ discard_volume d vol.old freed.nugget freed.first freed.count) }
 {
-    let a = admit(d, vol, freed);
-    if answers::accepted(a) {
-        if clears_none(d, vol, freed) {
-            return Done {
-                answer: a,
-                drive: d,
-            };
-        }
-        clear(d, &mut *vol, freed);
-        let next = laying::advance(d, &mut *vol);
-        return Done {
-            answer: a,
-            drive: next,
-        };
+    let answer = admit(d, vol, freed);
+    if answer.is_err() || clears_none(d, vol, freed) {
+        return Done { answer, drive: d };
     }
+    clear(d, &mut *vol, freed);
+    let next = laying::advance(d, vol);
     Done {
-        answer: a,
-        drive: d,
+        answer,
+        drive: next,
     }
 }

@@ -14,8 +14,8 @@ use Rattle.layout.specs.Shape.{within}
 use Rattle.layout.specs.Spots.{capacity}
 use Rattle.layout.specs.Shaped.{Shaped}
 use Rattle.layout.proofs.Limits.{limits, inside, capacity-le}
-use Rattle.answers.specs.declared.Answer.{Answer}
-use Rattle.answers.specs.declared.Answer.TheVariants as A
+use Rattle.answers.specs.Answer.{Answer}
+use Rattle.answers.specs.Answer as A
 use Rattle.answers.specs.Numbers.{accepts}
 use Rattle.answers.proofs.StageLaws.{goes_on, stops, both_stages, passed, spared}
 use Rattle.drive.specs.declared.Drive.{Drive}

@@ -6,7 +6,7 @@
 ghost use Rattle.std.specs.Prelude.{◌≡◌, length};
 ghost use Rattle.handing.specs.Handing.{in_sectors, keys_answer, hand_answer, export_answer, export_buffer};
 
-use answers::Answer;
+use answers::{Answer, Refusal};
 use drive::Drive;
 use layout::Shape;
 
@@ -15,52 +15,40 @@ fn in_sectors(s: Shape, len: usize) -> bool
     ensures { result ≡ in_sectors s len }
 {
     let whole = layout::capacity_of(s);
-    if whole % 512 == 0 {
-        return len == whole;
-    }
-    false
+    whole % 512 == 0 && len == whole
 }
 
 // "2 if [..]; then 10 if the two XTS keys are equal"
 fn length_then_keys(fits: bool, twice: bool) -> Answer
     ensures { result ≡ keys_answer fits twice }
 {
-    if fits {
-        if twice {
-            return Answer::SameSecret;
-        }
-        return Answer::Accepted;
+    if !fits {
+        Err(Refusal::Length)
+    } else if twice {
+        Err(Refusal::SameSecret)
+    } else {
+        Ok(())
     }
-    Answer::Length
 }
 
 // "Refusals: after 7 head", those two.
 pub fn admit(d: Drive, vol: &[u8], one: [u8; 32], two: [u8; 32], len: usize) -> Answer
     ensures { result ≡ hand_answer d vol.now one two len }
 {
-    let a = drive::opening(d, vol);
-    if answers::accepted(a) {
-        let fits = in_sectors(drive::shape_of(d), len);
-        let twice = words::equal(&one, &two);
-        return length_then_keys(fits, twice);
-    }
-    a
+    drive::opening(d, vol)?;
+    let fits = in_sectors(drive::shape_of(d), len);
+    length_then_keys(fits, words::equal(&one, &two))
 }
 
 // "then as for a read [..] of the whole": the contents are read into the buffer, and encrypted where they stand. `one` is the key for
 // sectors, `two` the key for tweaks.
+// Two keys one by one: C lends them so, and `export_answer` takes both.
 pub fn export(d: Drive, vol: &[u8], one: [u8; 32], two: [u8; 32], out: &mut [u8]) -> Answer
     ensures { (result ≡ export_answer d vol.now one two (length out.old))
         × (out.new ≡ export_buffer d vol.now one two out.old) }
 {
-    let a = admit(d, vol, one, two, out.len());
-    if answers::accepted(a) {
-        let b = reading::read(d, vol, 0, &mut *out);
-        if answers::accepted(b) {
-            sectors::encrypt(&mut *out, one, two, 0);
-            return b;
-        }
-        return b;
-    }
-    a
+    admit(d, vol, one, two, out.len())?;
+    reading::read(d, vol, 0, out)?;
+    sectors::encrypt(out, one, two, 0);
+    Ok(())
 }

@@ -10,7 +10,7 @@ use Rattle.layout.specs.Parts.{record_at}
 use Rattle.records.specs.declared.Record.{Record}
 use Rattle.records.specs.declared.Way.{Way}
 use Rattle.records.specs.Record.{record_bytes, record_of}
-use Rattle.records.specs.Rule.{turned, CanRise}
+use Rattle.records.specs.Rule.{turned}
 use Rattle.tree.specs.Renewed.{renewed}
 use Rattle.drive.specs.declared.Drive.{Drive}
 use Rattle.drive.specs.Drive.{shape_of, headed, kept_old}
@@ -21,9 +21,6 @@ use Rattle.changes.specs.Change.{idles, marked, tended, advanced, settled}
 -- the record that was read
 pub read_is : (v : List ℕ) (n : ℕ) {z s : Shape} {r : Record} → r ≡ record_of z v n → z ≡ s → r ≡ record_of s v n
 read_is v n e a = e ∙ ap (λ (x : Shape). record_of x v n) a
-
-pub rise_told : (way : Way) {r s : Record} → r ≡ s → CanRise way s → CanRise way r
-rise_told way e h = rw e h
 
 -- an idle nugget's record stays; another's is stored
 module _ (s : Shape) (head : ℕ) (way : Way) (r : Record) (n : ℕ) (v : List ℕ) where

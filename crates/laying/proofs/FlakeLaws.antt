@@ -31,7 +31,7 @@ use Rattle.nuggets.specs.Nugget.{lock_by, nugget_of, contents_in, contents_of, s
 use Rattle.nuggets.proofs.PieceLaws.{length-contents}
 use Rattle.changes.specs.Laid.{over, written, laid_flake, laid_entry, laid}
 use Rattle.changes.specs.Write.{new_contents}
-use Rattle.changes.proofs.LaidLaws.{laid-append, length-laid, length-under, Long}
+use Rattle.changes.proofs.LaidLaws.{laid-append, length-under, Long}
 use Rattle.changes.proofs.PadsLaws.{laid-stored, before_far}
 use Rattle.relaying.specs.Flake.{opened_flake, overlaid, anew}
 use Rattle.records.specs.Record.{record_of}
@@ -134,15 +134,6 @@ module _ (d : Drive) (v : List ℕ) (n k mask o : ℕ) (bytes : List ℕ) where
 
   long_new : Long (shape_of d) (new_contents d v o bytes)
   long_new m f a b = length-written (shape_of d) o bytes m f (contents_of d v m f)
-
-  pub turn-length : (f : ℕ) {w : List ℕ} → Upto f w → length w ≡ length v
-  turn-length f e = rw e (length-laid (shape_of d) d.salt (new_contents d v o bytes) (pads_of n k d.present (bit mask) f) v)
-
-  -- what laying the next flake asks
-  pub turn-asks : Shaped (shape_of d) v → n < d.n → o + length bytes ≤ capacity (shape_of d) → (f : ℕ) → f < d.p → {s : Shape} {g : Nugget} {lock : Lock} {w : List ℕ}
-      → s ≡ shape_of d → g ≡ nugget_of d v n → lock ≡ lock_by s d.salt d.present n k → Upto f w
-      → Shaped s w × (lock.number < s.n) × (f < s.p) × (o + length bytes ≤ capacity s) × (g.lock.number ≡ lock.number)
-  turn-asks lent a room f b es eg el e = rw (el, es, eg) (record { limited = lent.limited; size = turn-length f e ∙ lent.size }, a, b, room, refl)
 
   pub turn_in : n < d.n → (f : ℕ) → f < d.p → {s : Shape} {g : Nugget} {lock : Lock} {w z : List ℕ} → s ≡ shape_of d → g ≡ nugget_of d v n
       → lock ≡ lock_by s d.salt d.present n k → Upto f w → bit mask f ≡ true

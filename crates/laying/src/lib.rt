@@ -3,56 +3,41 @@
 #![tactic(auto)]
 
 mod flake;
+mod source;
 
-ghost use Rattle.std.specs.Prelude.{◌≡◌, ◌+◌, ◌<◌, ◌≤◌, length};
+ghost use Rattle.std.specs.Prelude.{◌≡◌, ◌<◌, ◌≤◌, length};
 ghost use Rattle.layout.specs.Shaped.{Shaped};
-ghost use Rattle.layout.specs.Spots.{capacity};
 ghost use Rattle.records.specs.Rule.{CanRise};
 ghost use Rattle.records.specs.Listing.{pads_by};
 ghost use Rattle.drive.specs.Drive.{shape_of, counter_top};
-ghost use Rattle.nuggets.specs.Nugget.{contents_in};
-ghost use Rattle.changes.specs.Laid.{written, laid_flake, laid};
+ghost use Rattle.changes.specs.Laid.{laid};
 ghost use Rattle.changes.specs.Change.{idles, marked, tended, advanced, settled};
 ghost use Rattle.changes.specs.Write.{new_contents};
 ghost use Rattle.records.specs.Record.{record_of};
 
 use drive::Drive;
-use keys::Lock;
 use layout::Shape;
-use nuggets::Nugget;
 use records::Way;
+pub use relaying::Written;
+pub use source::Source;
 
 // The flakes that the way enciphers: new contents under the pad of the keycount after it, and the tags over what is stored.
-pub fn lay(d: Drive, vol: &mut [u8], n: u32, way: Way, o: usize, bytes: &[u8])
-    requires { Shaped (shape_of d) vol.old × (n < d.n) × (o + length bytes.now ≤ capacity (shape_of d)) × CanRise way (record_of (shape_of d) vol.old n) }
-    ensures { vol.new ≡ laid (shape_of d) d.salt (new_contents d vol.old o bytes.now)
+pub fn lay<S: Source>(d: Drive, vol: &mut [u8], n: u32, way: Way, new: &S)
+    requires { Shaped (shape_of d) vol.old × (n < d.n) × S.fits new.now (shape_of d) × CanRise way (record_of (shape_of d) vol.old n) }
+    ensures { vol.new ≡ laid (shape_of d) d.salt (new_contents d vol.old (S.offset new.now) (S.bytes new.now))
         (pads_by d.p way n (record_of (shape_of d) vol.old n) d.present) vol.old }
 {
     let r = records::read(vol, drive::shape_of(d), n);
     let after = records::turn(way, d.epoch, r);
     let mask = records::enciphers(way, r);
-    flake::lay_flakes(d, &mut *vol, n, after.keycount, mask, o, bytes);
-}
-
-// One flake and its tag, as `lay` lays each: for a change whose bytes come flake by flake.
-pub fn lay_one(vol: &mut [u8], s: Shape, g: Nugget, lock: Lock, f: u32, o: usize, bytes: &[u8])
-    requires { Shaped s vol.old × (lock.number < s.n) × (f < s.p) × (o + length bytes.now ≤ capacity s) × (g.lock.number ≡ lock.number) }
-    ensures { vol.new ≡ laid_flake s lock f
-        (written s o bytes.now lock.number f (contents_in s vol.old g f)) vol.old }
-{
-    flake::lay_flake(vol, s, g, lock, f, o, bytes);
+    flake::lay_flakes(d, vol, n, after.keycount, mask, new);
 }
 
 // Whether the nugget stays as it is.
 pub fn idle(way: Way) -> bool
     ensures { result ≡ idles way }
 {
-    match way {
-        Way::Idle => true,
-        Way::Add(_) => false,
-        Way::Rekey(_) => false,
-        Way::Clear(_) => false,
-    }
+    matches!(way, Way::Idle)
 }
 
 // "The journal becomes J with T."; rekeyed: "keycount plus 1", "epoch set to the head's"; discarded: held bits cleared.
@@ -60,13 +45,12 @@ pub fn mark(d: Drive, vol: &mut [u8], n: u32, way: Way)
     requires { Shaped (shape_of d) vol.old × (n < d.n) × CanRise way (record_of (shape_of d) vol.old n) }
     ensures { vol.new ≡ marked (shape_of d) d.epoch way (record_of (shape_of d) vol.old n) n vol.old }
 {
-    if idle(way) {
-        return;
+    if !idle(way) {
+        let s = drive::shape_of(d);
+        let r = records::read(vol, s, n);
+        let after = records::turn(way, d.epoch, r);
+        records::store(vol, s, n, after);
     }
-    let s = drive::shape_of(d);
-    let r = records::read(vol, s, n);
-    let after = records::turn(way, d.epoch, r);
-    records::store(&mut *vol, s, n, after);
 }
 
 // "leaf and path of each nugget it changed"
@@ -74,10 +58,9 @@ pub fn tend(vol: &mut [u8], s: Shape, n: u32, way: Way)
     requires { Shaped s vol.old × (n < s.n) }
     ensures { vol.new ≡ tended s way n vol.old }
 {
-    if idle(way) {
-        return;
+    if !idle(way) {
+        tree::renew(vol, s, n);
     }
-    tree::renew(&mut *vol, s, n);
 }
 
 // "renews the seal": the 104 bytes that the drive makes.
@@ -85,8 +68,7 @@ pub fn settle(d: Drive, vol: &mut [u8])
     requires { 104 ≤ length vol.old }
     ensures { vol.new ≡ settled d vol.old }
 {
-    let made = drive::head(d);
-    words::copy(&mut *vol, 0, &made);
+    words::copy(vol, 0, &drive::head(d));
 }
 
 // "adds 1 to the counter": the drive over a volume whose tree is renewed.
@@ -95,11 +77,8 @@ fn advanced_drive(d: Drive, vol: &[u8]) -> Drive
     ensures { result ≡ advanced d vol.now }
 {
     let node = nodes::first(vol, drive::shape_of(d));
-    let state = d.state;
-    let old = d.old;
-    let kept = drive::kept_old(state, old);
-    let present = d.present;
-    drive::headed(d, state, d.epoch, d.counter + 1, node, present, kept)
+    let kept = drive::kept_old(d.state, d.old);
+    drive::headed(d, d.state, d.epoch, d.counter + 1, node, d.present, kept)
 }
 
 // The last stores of a change of nuggets: the drive with its counter and node 1, and the head that it makes.
@@ -108,6 +87,6 @@ pub fn advance(d: Drive, vol: &mut [u8]) -> Drive
     ensures { (result ≡ advanced d vol.old) × (vol.new ≡ settled (advanced d vol.old) vol.old) }
 {
     let next = advanced_drive(d, vol);
-    settle(next, &mut *vol);
+    settle(next, vol);
     next
 }

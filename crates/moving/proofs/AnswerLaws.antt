@@ -10,8 +10,8 @@ use lib.Dec.{eqb}
 use lib.ListN.{length}
 use borrow.Author.Tests.{eq-eqb, ne_eqb, eqb-true, eqb-false}
 use Rattle.base.proofs.PickLaws.{yes, no, both_left, both_right, both-on, told}
-use Rattle.answers.specs.declared.Answer.{Answer}
-use Rattle.answers.specs.declared.Answer.TheVariants as A
+use Rattle.answers.specs.Answer.{Answer}
+use Rattle.answers.specs.Answer as A
 use Rattle.answers.specs.Numbers.{accepts}
 use Rattle.answers.proofs.StageLaws.{goes_on, stops, both_stages, passed, spared, accepted_is}
 use Rattle.layout.specs.declared.Shape.{Shape}

@@ -3,7 +3,7 @@ use mathlib.Core.Path.{◌≡◌, refl, sym}
 use mathlib.Core.List.{List}
 use Prim.Native.Nat.{ℕ}
 use lib.ListN.{length}
-use Rattle.answers.specs.declared.Answer.TheVariants as A
+use Rattle.answers.specs.Answer as A
 use Rattle.answers.proofs.StageLaws.{refuses}
 use Rattle.drive.specs.declared.Drive.{Drive}
 use Rattle.moving.specs.Move.{move_answer, move_done, move_second, up_answer, up_done, up_second, down_answer, down_done, down_second}

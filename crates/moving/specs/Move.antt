@@ -3,8 +3,8 @@
 -- length."
 use Rattle.std.specs.Prelude.{ℕ, zero, suc, List, eqb, length}
 use Rattle.base.specs.Pick.{pick}
-use Rattle.answers.specs.declared.Answer.{Answer}
-use Rattle.answers.specs.declared.Answer.TheVariants as A
+use Rattle.answers.specs.Answer.{Answer}
+use Rattle.answers.specs.Answer as A
 use Rattle.answers.specs.Numbers.{accepts}
 use Rattle.answers.specs.Stages.{and_then}
 use Rattle.layout.specs.declared.Shape.{Shape}

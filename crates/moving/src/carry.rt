@@ -17,7 +17,7 @@ fn copy_flakes(vol: &[u8], s: Shape, second: &mut [u8], t: Shape)
     let from = layout::flakes_at(s);
     let end = from + layout::capacity_of(s);
     let at = layout::flakes_at(t);
-    words::copy(&mut *second, at, &vol[from..end]);
+    words::copy(second, at, &vol[from..end]);
 }
 
 // "present flakes' tags made anew [..]; absent ones' copied"
@@ -25,13 +25,13 @@ fn new_tag(vol: &[u8], s: Shape, g: Nugget, f: u32) -> [u8; 16]
     requires { Shaped s vol.now × (g.lock.number < s.n) × (f < s.p) }
     ensures { result ≡ new_tag s vol.now g f }
 {
-    let lock = g.lock;
     if records::has(g.held, f) {
-        let at = layout::flake_at(s, lock.number, f);
+        let at = layout::flake_at(s, g.lock.number, f);
         let end = at + (s.f as usize);
-        return keys::tag_of(&vol[at..end], lock, f);
+        keys::tag_of(&vol[at..end], g.lock, f)
+    } else {
+        words::taken(vol, layout::tag_at(s, g.lock.number, f))
     }
-    words::sixteen(vol, layout::tag_at(s, lock.number, f))
 }
 
 // The tags of a nugget.
@@ -39,14 +39,9 @@ fn carry_tags(vol: &[u8], s: Shape, second: &mut [u8], t: Shape, g: Nugget)
     requires { Shaped s vol.now × Shaped t second.old × SameSizes s t × (g.lock.number < s.n) }
     ensures { second.new ≡ tags_to s t vol.now g s.p second.old }
 {
-    let count = s.p;
-    let number = g.lock.number;
-    let mut f = 0;
-    while f < count {
-        let tag = new_tag(vol, s, g, f);
-        let at = layout::tag_at(t, number, f);
-        words::copy(&mut *second, at, &tag);
-        f += 1;
+    for f in 0..s.p {
+        let at = layout::tag_at(t, g.lock.number, f);
+        words::copy(&mut *second, at, &new_tag(vol, s, g, f));
     }
 }
 
@@ -59,13 +54,11 @@ fn carry_nugget(d: Drive, vol: &[u8], second: &mut [u8], t: Shape, n: u32)
     let r = records::read(vol, s, n);
     records::store(&mut *second, t, n, r);
     let secret = nuggets::secret_for(d, r.epoch);
-    let salt = d.salt;
-    let lock = nuggets::lock_by(t, salt, secret, n, r.keycount);
     let g = Nugget {
-        lock: lock,
+        lock: nuggets::lock_by(t, d.salt, secret, n, r.keycount),
         held: r.held,
     };
-    carry_tags(vol, s, &mut *second, t, g);
+    carry_tags(vol, s, second, t, g);
 }
 
 // Every nugget.
@@ -73,11 +66,8 @@ fn carry_all(d: Drive, vol: &[u8], second: &mut [u8], t: Shape)
     requires { Shaped (shape_of d) vol.now × Shaped t second.old × SameSizes (shape_of d) t }
     ensures { second.new ≡ carried_to d t vol.now d.n second.old }
 {
-    let count = d.n;
-    let mut n = 0;
-    while n < count {
+    for n in 0..d.n {
         carry_nugget(d, vol, &mut *second, t, n);
-        n += 1;
     }
 }
 
@@ -87,5 +77,5 @@ pub fn over(d: Drive, vol: &[u8], second: &mut [u8], t: Shape)
 {
     copy_flakes(vol, drive::shape_of(d), &mut *second, t);
     carry_all(d, vol, &mut *second, t);
-    tree::build(&mut *second, t);
+    tree::build(second, t);
 }

@@ -11,7 +11,7 @@ ghost use Rattle.drive.specs.Drive.{shape_of, counter_top};
 ghost use Rattle.moving.specs.Carry.{entering, entered, moved_drive, moved_volume};
 ghost use Rattle.moving.specs.Move.{ascending, held_tests, kept_tests, last_tests, parts_tests, leave_tests, move_answer, move_done, move_second, up_done, up_second, down_done, down_second};
 
-use answers::Answer;
+use answers::{Answer, Refusal};
 use drive::{Done, Drive};
 use layout::Shape;
 
@@ -19,25 +19,7 @@ use layout::Shape;
 fn entering(d: Drive, version: u16) -> Drive
     ensures { result ≡ entering version d }
 {
-    let salt = d.salt;
-    let state = d.state;
-    let node = d.node;
-    let present = d.present;
-    let old = d.old;
-    Drive {
-        n: d.n,
-        p: d.p,
-        f: d.f,
-        version: version,
-        cipher: d.cipher,
-        salt: salt,
-        state: state,
-        epoch: d.epoch,
-        counter: d.counter,
-        node: node,
-        present: present,
-        old: old,
-    }
+    Drive { version, ..d }
 }
 
 // "flakes 7 ascending": the held ones of every nugget.
@@ -46,18 +28,11 @@ fn held_pass(d: Drive, vol: &[u8]) -> Answer
     ensures { result ≡ ascending (held_tests d vol.now) d.n 0 }
 {
     let s = drive::shape_of(d);
-    let count = d.n;
-    let mut n = 0;
-    while n < count {
+    for n in 0..d.n {
         let g = nuggets::nugget_of(d, vol, n);
-        let a = nuggets::flakes(vol, s, g, g.held);
-        if answers::accepted(a) {
-            n += 1;
-        } else {
-            return a;
-        }
+        nuggets::flakes(vol, s, g, g.held)?;
     }
-    Answer::Accepted
+    Ok(())
 }
 
 // "some nugget has a spent flake that isn't held (lowest reported)": then its masks differ. In version 1 they are one mask.
@@ -65,17 +40,13 @@ fn all_kept(vol: &[u8], s: Shape) -> Answer
     requires { Shaped s vol.now }
     ensures { result ≡ ascending (kept_tests s vol.now) s.n 0 }
 {
-    let count = s.n;
-    let mut n = 0;
-    while n < count {
+    for n in 0..s.n {
         let r = records::read(vol, s, n);
-        if r.spent == r.held {
-            n += 1;
-        } else {
-            return Answer::Discarded(n);
+        if r.spent != r.held {
+            return Err(Refusal::Discarded(n));
         }
     }
-    Answer::Accepted
+    Ok(())
 }
 
 // "16 [..] (lowest reported), then 13"
@@ -83,14 +54,11 @@ fn last_tests(d: Drive, vol: &[u8]) -> Answer
     requires { Shaped (shape_of d) vol.now }
     ensures { result ≡ last_tests d vol.now }
 {
-    let a = all_kept(vol, drive::shape_of(d));
-    if answers::accepted(a) {
-        if d.counter == 0xffff_ffff_ffff_ffff {
-            return Answer::CounterTop;
-        }
-        return Answer::Accepted;
+    all_kept(vol, drive::shape_of(d))?;
+    if d.counter == u64::MAX {
+        return Err(Refusal::CounterTop);
     }
-    a
+    Ok(())
 }
 
 // "7 whole, flakes 7 ascending", and those.
@@ -98,29 +66,20 @@ fn parts_tests(d: Drive, vol: &[u8]) -> Answer
     requires { Shaped (shape_of d) vol.now }
     ensures { result ≡ parts_tests d vol.now }
 {
-    let a = tree::whole(vol, drive::shape_of(d), drive::gauge_of(d));
-    if answers::accepted(a) {
-        let b = held_pass(d, vol);
-        if answers::accepted(b) {
-            return last_tests(d, vol);
-        }
-        return b;
-    }
-    a
+    tree::whole(vol, drive::shape_of(d), drive::gauge_of(d))?;
+    held_pass(d, vol)?;
+    last_tests(d, vol)
 }
 
 // "7 head, 9 if not the version to leave", and those.
 fn leave_tests(d: Drive, vol: &[u8], leave: u16) -> Answer
     ensures { result ≡ leave_tests leave d vol.now }
 {
-    let a = drive::opening(d, vol);
-    if answers::accepted(a) {
-        if d.version == leave {
-            return parts_tests(d, vol);
-        }
-        return Answer::State;
+    drive::opening(d, vol)?;
+    if d.version != leave {
+        return Err(Refusal::State);
     }
-    a
+    parts_tests(d, vol)
 }
 
 // "1, 2", of the volume and then of the second buffer, by the version to enter; and those.
@@ -128,15 +87,11 @@ fn admit(d: Drive, vol: &[u8], len: usize, leave: u16, enter: u16) -> Answer
     requires { known_version enter ≡ true }
     ensures { result ≡ move_answer leave enter d vol.now len }
 {
-    let a = drive::measure(d, vol);
-    if answers::accepted(a) {
-        let t = drive::shape_of(entering(d, enter));
-        if len == layout::length_of(t) {
-            return leave_tests(d, vol, leave);
-        }
-        return Answer::Length;
+    drive::measure(d, vol)?;
+    if len != layout::length_of(drive::shape_of(entering(d, enter))) {
+        return Err(Refusal::Length);
     }
-    a
+    leave_tests(d, vol, leave)
 }
 
 // All that a move stores: the second buffer but for its head, then the drive with its counter and node 1, and the head that it makes.
@@ -146,26 +101,24 @@ fn carry_out(d: Drive, vol: &[u8], second: &mut [u8], enter: u16) -> Drive
 {
     let x = entering(d, enter);
     carry::over(d, vol, &mut *second, drive::shape_of(x));
-    laying::advance(x, &mut *second)
+    laying::advance(x, second)
 }
 
 // One function for both directions.
+// Both ways are the same steps over two numbers, which `move_done` takes.
 fn move_between(d: Drive, vol: &[u8], second: &mut [u8], leave: u16, enter: u16) -> Done
     requires { known_version enter ≡ true }
     ensures { (result ≡ move_done leave enter d vol.now (length second.old))
         × (second.new ≡ move_second leave enter d vol.now second.old) }
 {
-    let a = admit(d, vol, second.len(), leave, enter);
-    if answers::accepted(a) {
-        let next = carry_out(d, vol, &mut *second, enter);
-        return Done {
-            answer: a,
-            drive: next,
-        };
+    let answer = admit(d, vol, second.len(), leave, enter);
+    if answer.is_err() {
+        return Done { answer, drive: d };
     }
+    let next = carry_out(d, vol, second, enter);
     Done {
-        answer: a,
-        drive: d,
+        answer,
+        drive: next,
     }
 }
 

@@ -17,7 +17,7 @@ use Rattle.base.proofs.FoldLaws.{same_true, same_refl}
 use Rattle.words.specs.Le.{num, Bytes}
 use Rattle.codec.specs.Row.{Values, ◌&◌, row, row_in}
 use Rattle.codec.proofs.RowLaws.{row_back}
-use Rattle.answers.specs.declared.Answer.TheVariants as A
+use Rattle.answers.specs.Answer as A
 use Rattle.answers.specs.Numbers.{accepts}
 use Rattle.layout.specs.Shape.{in_limits}
 use Rattle.layout.specs.Parts.{length_of}

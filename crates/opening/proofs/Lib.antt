@@ -1,4 +1,5 @@
 pub mod FormatLaws
+mod ToldLaws
 pub mod MountLaws
 pub mod Refusals
 pub mod HeadBack

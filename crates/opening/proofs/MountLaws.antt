@@ -1,23 +1,32 @@
 -- What a head in form says, and the mount's promise from its answer.
-use mathlib.Core.Path.{◌≡◌, refl}
+use mathlib.Core.Path.{◌≡◌, refl, ◌∙◌}
 use mathlib.Core.Bool.{true, false}
 use mathlib.Core.List.{List}
-use Prim.Native.Nat.{ℕ}
+use Prim.Native.Nat.{ℕ, ◌≤◌}
+use native.Mathlib.Omega.{arith}
+use native.Mathlib.Nat.{add-zero}
+use Rattle.words.specs.Le.{num}
+use Rattle.words.proofs.LeLaws.{num-part}
 use lib.Dec.{leb}
-use lib.ListN.{length}
+use lib.ListN.{length, get_or}
 use borrow.Author.Tests.{eqb-true}
 use Rattle.base.proofs.PickLaws.{both_left}
-use Rattle.answers.specs.declared.Answer.{Answer}
-use Rattle.answers.specs.declared.Answer.TheVariants as A
+use Rattle.answers.specs.Answer.{Answer}
+use Rattle.answers.specs.Answer as A
 use Rattle.answers.specs.Numbers.{accepts}
 use Rattle.layout.specs.Shape.{in_limits}
 use Rattle.layout.specs.Parts.{length_of}
 use Rattle.drive.specs.declared.Drive.{Drive}
 use Rattle.drive.specs.declared.Done.{Done}
 use Rattle.drive.specs.Drive.{blank_drive}
-use Rattle.opening.specs.Mount.{shape_in, mark_fits, head_fits, length_fits, opened_drive, mount_answer, mount_done, form_of}
+use Rattle.opening.specs.Mount.{kind_in, shape_in, mark_fits, head_fits, length_fits, opened_drive, mount_answer, mount_done, form_of}
 use Rattle.answers.proofs.StageLaws.{passed}
 use Rattle.layout.specs.Shaped.{Shaped}
+
+-- byte 5 is its own number
+pub kind_byte : (v : List ℕ) → 104 ≤ length v → kind_in v ≡ get_or v 5 0
+unfolding num
+kind_byte v h = num-part 0 v 5 (omega arith) ∙ add-zero (get_or v 5 0)
 
 -- a head in form is that of a volume as long as its shape asks
 pub form_lent : (v : List ℕ) → accepts (form_of v) ≡ true → Shaped (shape_in v) v

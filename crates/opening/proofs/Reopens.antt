@@ -15,7 +15,7 @@ use Rattle.base.proofs.PickLaws.{yes, both_left, both_right, both-on}
 use Rattle.base.proofs.FoldLaws.{same_true, same_refl}
 use Rattle.codec.specs.Row.{◌&◌, AllLong, AllFit, row_in}
 use Rattle.codec.proofs.RowLaws.{length-row, peel, apart, read_back}
-use Rattle.answers.specs.declared.Answer.TheVariants as A
+use Rattle.answers.specs.Answer as A
 use Rattle.answers.specs.Numbers.{accepts}
 use Rattle.answers.proofs.StageLaws.{goes_on}
 use Rattle.layout.specs.declared.Shape.{Shape}

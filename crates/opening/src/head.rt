@@ -2,7 +2,7 @@
 ghost use Rattle.std.specs.Prelude.{◌≡◌, ◌-◌, ◌≤◌, length};
 ghost use Rattle.opening.specs.Mount.{mark_fits, head_fits, state_byte_in, cipher_in, shape_in, state_in, epoch_in, form_of};
 
-use answers::Answer;
+use answers::{Answer, Refusal};
 use drive::State;
 use layout::Shape;
 
@@ -11,13 +11,7 @@ fn has_mark(vol: &[u8]) -> bool
     requires { 104 ≤ length vol.now }
     ensures { result ≡ mark_fits vol.now }
 {
-    let mark = [78u8, 71u8, 84u8];
-    if words::equal(&vol[0..3], &mark) {
-        let version = words::load(vol, 3, 2) as u16;
-        layout::known_version(version)
-    } else {
-        false
-    }
+    words::equal(&vol[0..3], b"NGT") && layout::known_version(words::load(vol, 3, 2) as u16)
 }
 
 // Byte 5: "state (0 steady, 1 changing)", and "above the state" the cipher.
@@ -25,14 +19,14 @@ fn state_byte_in(vol: &[u8]) -> u8
     requires { 104 ≤ length vol.now }
     ensures { result ≡ state_byte_in vol.now }
 {
-    (words::load(vol, 5, 1) % 16) as u8
+    vol[5] % 16
 }
 
 fn cipher_in(vol: &[u8]) -> u8
     requires { 104 ≤ length vol.now }
     ensures { result ≡ cipher_in vol.now }
 {
-    (words::load(vol, 5, 1) / 16 * 16) as u8
+    vol[5] / 16 * 16
 }
 
 pub fn shape_in(vol: &[u8]) -> Shape
@@ -55,22 +49,16 @@ pub fn epoch_in(vol: &[u8]) -> u16
     words::load(vol, 6, 2) as u16
 }
 
-// One less, where there is one.
-fn one_below(epoch: u16) -> u16
-    ensures { result ≡ epoch - 1 }
-{
-    if epoch == 0 { 0 } else { epoch - 1 }
-}
-
 // "changing carries the epoch being left"
 pub fn state_in(vol: &[u8]) -> State
     requires { 104 ≤ length vol.now }
     ensures { result ≡ state_in vol.now }
 {
     if state_byte_in(vol) == 0 {
-        return State::Steady;
+        State::Steady
+    } else {
+        State::Changing(epoch_in(vol).saturating_sub(1))
     }
-    State::Changing(one_below(epoch_in(vol)))
 }
 
 // Test 1: "N, P, F, state or epoch out of limits"
@@ -78,13 +66,9 @@ fn head_fits(vol: &[u8]) -> bool
     requires { 104 ≤ length vol.now }
     ensures { result ≡ head_fits vol.now }
 {
-    if layout::in_limits(shape_in(vol)) {
-        if 1 < state_byte_in(vol) {
-            return false;
-        }
-        return drive::state_fits(state_in(vol), epoch_in(vol));
-    }
-    false
+    layout::in_limits(shape_in(vol))
+        && state_byte_in(vol) <= 1
+        && drive::state_fits(state_in(vol), epoch_in(vol))
 }
 
 // "2 (under 104 bytes), 3, 1, 2"
@@ -92,16 +76,16 @@ pub fn form(vol: &[u8]) -> Answer
     ensures { result ≡ form_of vol.now }
 {
     if vol.len() < 104 {
-        return Answer::Length;
+        return Err(Refusal::Length);
     }
-    if has_mark(vol) {
-        if head_fits(vol) {
-            if vol.len() == layout::length_of(shape_in(vol)) {
-                return Answer::Accepted;
-            }
-            return Answer::Length;
-        }
-        return Answer::Limits;
+    if !has_mark(vol) {
+        return Err(Refusal::Mark);
     }
-    Answer::Mark
+    if !head_fits(vol) {
+        return Err(Refusal::Limits);
+    }
+    if vol.len() != layout::length_of(shape_in(vol)) {
+        return Err(Refusal::Length);
+    }
+    Ok(())
 }

@@ -1,5 +1,4 @@
-pub mod StepLaws
 pub mod QueueLaws
-pub mod PassLaws
 pub mod ImageLaws
+pub mod LoopLaws
 pub mod Outcomes

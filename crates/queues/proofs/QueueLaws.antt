@@ -4,16 +4,23 @@ use mathlib.Core.Bool.{true, false}
 use mathlib.Core.List.{List, ◌∷◌}
 use Prim.Native.Nat.{ℕ}
 use lib.ListN.{length, take, drop}
-use borrow.Author.Tests.{eq-eqb, ne_eqb}
+use lib.Dec.{eqb}
+use borrow.Author.Tests.{eq-eqb, ne_eqb, eqb-true}
 use Rattle.base.proofs.PickLaws.{yes, no}
-use Rattle.answers.specs.declared.Answer.{Answer}
-use Rattle.answers.specs.declared.Answer.TheVariants as A
+use Rattle.answers.specs.Answer.{Answer}
+use Rattle.answers.specs.Answer as A
 use Rattle.answers.specs.Numbers.{accepts}
-use Rattle.answers.proofs.StageLaws.{goes_on, stops}
+use Rattle.answers.proofs.StageLaws.{goes_on, stops, both_stages, passed}
 use Rattle.drive.specs.declared.Drive.{Drive}
+use Rattle.drive.specs.Opening.{measure_of}
 use Rattle.changes.specs.Write.{write_done, write_volume, write_pads}
 use Rattle.queues.specs.declared.Request.{Request}
 use Rattle.queues.specs.Queue.{measure_by, lengths_of, none_done, one_more, writes_from, before_writes, queue_after}
+
+-- 1 and 2 as the drive tests them
+pub measured : (d : Drive) (v : List ℕ) → measure_of d v ≡ measure_by d (length v)
+unfolding measure_of measure_by
+measured d v = refl
 
 -- a write of the queue: accepted, or the one that stops it
 module _ (d : Drive) (v : List ℕ) (q : Request) (qs : List Request) (bytes : List ℕ) where
@@ -43,6 +50,12 @@ module _ (d : Drive) (v : List ℕ) (qs : List Request) (bytes : List ℕ) where
   pub before_on : accepts (measure_by d (length v)) ≡ true → lengths_of qs ≡ length bytes → before_writes d v qs bytes ≡ A.Accepted
   unfolding before_writes
   before_on a h = goes_on (measure_by d (length v)) _ a ∙ yes _ (eq-eqb (lengths_of qs) (length bytes) h) refl
+
+  pub before_told : accepts (before_writes d v qs bytes) ≡ true → lengths_of qs ≡ length bytes
+  unfolding before_writes
+  before_told a =
+      eqb-true (lengths_of qs) (length bytes)
+      (passed (eqb (lengths_of qs) (length bytes)) A.Accepted A.PastEnd refl (both_stages (measure_by d (length v)) _ a).1).0
 
   -- 1, 2 and 8 leave drive and volume as they came, list nothing, and none is done
   pub queue-first : (a : Answer) → before_writes d v qs bytes ≡ a → accepts a ≡ false → queue_after d v qs bytes ≡ none_done d v a

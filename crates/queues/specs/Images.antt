@@ -3,7 +3,8 @@ use Rattle.std.specs.Prelude.{ℕ, ◌*◌, ◌/◌, ◌%◌, List, [], ◌∷�
 use Rattle.base.specs.Pick.{pick}
 use Rattle.base.specs.Lists.{tab}
 use Rattle.codec.specs.Row.{Field, number, Values, row_in}
-use Rattle.answers.specs.declared.Answer.TheVariants as A
+use Rattle.answers.specs.Answer.{Answer}
+use Rattle.answers.specs.Answer as A
 use Rattle.answers.specs.Stages.{and_then}
 use Rattle.drive.specs.declared.Drive.{Drive}
 use Rattle.queues.specs.declared.Request.{Request}
@@ -26,8 +27,11 @@ abbrev pub requests_in : List ℕ → List Request
 requests_in image = tab (length image / 16) (λ i. request_at image (i * 16))
 
 -- "A list length that is no multiple of 16 is answered 8 (after 1, 2) with 0 done."
+abbrev pub uneven : Drive → List ℕ → Answer
+uneven d v = and_then (measure_by d (length v)) A.PastEnd
+
 abbrev pub uneven_after : Drive → List ℕ → After
-uneven_after d v = none_done d v (and_then (measure_by d (length v)) A.PastEnd)
+uneven_after d v = none_done d v (uneven d v)
 
 unfoldable pub images_after : Drive → List ℕ → List ℕ → List ℕ → After
 images_after d v image bytes = pick (eqb (length image % 16) 0) (queue_after d v (requests_in image) bytes) (uneven_after d v)
@@ -37,6 +41,3 @@ images_done d v image bytes = queued_by (images_after d v image bytes)
 
 abbrev pub images_volume : Drive → List ℕ → List ℕ → List ℕ → List ℕ
 images_volume d v image bytes = (images_after d v image bytes).vol
-
-abbrev pub uneven_queue : Drive → ℕ → Queued
-uneven_queue d held = record { outcome = record { answer = and_then (measure_by d held) A.PastEnd; done = 0 }; drive = d }

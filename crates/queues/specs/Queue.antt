@@ -3,8 +3,8 @@
 use Rattle.std.specs.Prelude.{ℕ, suc, ◌+◌, List, [], ◌∷◌, ◌++◌, eqb, length, take, drop}
 use Rattle.base.specs.Pick.{pick}
 use Rattle.layout.specs.Parts.{length_of}
-use Rattle.answers.specs.declared.Answer.{Answer}
-use Rattle.answers.specs.declared.Answer.TheVariants as A
+use Rattle.answers.specs.Answer.{Answer}
+use Rattle.answers.specs.Answer as A
 use Rattle.answers.specs.Numbers.{accepts}
 use Rattle.answers.specs.Stages.{and_then}
 use Rattle.records.specs.Listing.{Entry}
@@ -14,6 +14,10 @@ use Rattle.drive.specs.Opening.{in_form}
 use Rattle.changes.specs.Write.{write_done, write_volume, write_pads}
 use Rattle.queues.specs.declared.Request.{Request}
 use Rattle.queues.specs.declared.Queued.{Queued}
+
+-- what stands past the end of a list of requests
+abbrev pub no_request : Request
+no_request = record { offset = 0; length = 0 }
 
 -- tests 1 and 2, of a volume of so many bytes
 unfoldable pub measure_by : Drive → ℕ → Answer
@@ -59,9 +63,12 @@ queue_after d v qs bytes =
     let a = before_writes d v qs bytes in
     pick (accepts a) (writes_from d v qs bytes) (none_done d v a)
 
+abbrev pub queued_at : Answer → ℕ → Drive → Queued
+queued_at a done d = record { outcome = record { answer = a; done = done }; drive = d }
+
 -- "answers how many were done and that refusal": what is handed back, what the volume holds, and what is listed
 abbrev pub queued_by : After → Queued
-queued_by x = record { outcome = record { answer = x.answer; done = x.done }; drive = x.drive }
+queued_by x = queued_at x.answer x.done x.drive
 
 abbrev pub queue_done : Drive → List ℕ → List Request → List ℕ → Queued
 queue_done d v qs bytes = queued_by (queue_after d v qs bytes)

@@ -11,7 +11,7 @@ use borrow.Author.Tests.{ne_eqb, eqb-true, eqb-false}
 use Rattle.base.proofs.PickLaws.{no, told}
 use Rattle.layout.specs.Spots.{spot_at, capacity}
 use Rattle.layout.proofs.Limits.{limits}
-use Rattle.answers.specs.declared.Answer.TheVariants as A
+use Rattle.answers.specs.Answer as A
 use Rattle.answers.specs.Numbers.{accepts}
 use Rattle.answers.specs.Stages.{and_then}
 use Rattle.answers.proofs.StageLaws.{both_stages, passed, accepted_is}

@@ -10,7 +10,7 @@ ghost use Rattle.nuggets.specs.Nugget.{byte_of};
 ghost use Rattle.reading.specs.Read.{nuggets_up, nuggets_of, read_answer, read_buffer, byte_in};
 ghost use Rattle.layout.specs.Shaped.{Shaped};
 
-use answers::Answer;
+use answers::{Answer, Refusal};
 use drive::Drive;
 use layout::Shape;
 use nuggets::Nugget;
@@ -20,17 +20,11 @@ fn test_span(d: Drive, vol: &[u8], o: usize, len: usize, first: u32, end: u32) -
     requires { Shaped (shape_of d) vol.now × (0 < len) × (o + len ≤ capacity (shape_of d)) × (end ≤ d.n) }
     ensures { result ≡ nuggets_up d vol.now o len (end - first) first }
 {
-    let mut n = first;
-    while n < end {
+    for n in first..end {
         let t = nuggets::touched(drive::shape_of(d), o, len, n);
-        let a = nuggets::test_read(d, vol, n, t);
-        if answers::accepted(a) {
-            n += 1;
-        } else {
-            return a;
-        }
+        nuggets::test_read(d, vol, n, t)?;
     }
-    Answer::Accepted
+    Ok(())
 }
 
 // The tests of every nugget that the range meets; a range of no bytes meets none.
@@ -39,7 +33,7 @@ fn test_nuggets(d: Drive, vol: &[u8], o: usize, len: usize) -> Answer
     ensures { result ≡ nuggets_of d vol.now o len }
 {
     if len == 0 {
-        return Answer::Accepted;
+        return Ok(());
     }
     let span = nuggets::span_of(drive::shape_of(d), o, len);
     test_span(d, vol, o, len, span.first, span.end)
@@ -49,14 +43,11 @@ fn test_nuggets(d: Drive, vol: &[u8], o: usize, len: usize) -> Answer
 fn admit(d: Drive, vol: &[u8], offset: u64, len: usize) -> Answer
     ensures { result ≡ read_answer d vol.now offset len }
 {
-    let a = drive::opening(d, vol);
-    if answers::accepted(a) {
-        if nuggets::fits(drive::shape_of(d), offset, len) {
-            return test_nuggets(d, vol, offset as usize, len);
-        }
-        return Answer::PastEnd;
+    drive::opening(d, vol)?;
+    if !nuggets::fits(drive::shape_of(d), offset, len) {
+        return Err(Refusal::PastEnd);
     }
-    a
+    test_nuggets(d, vol, offset as usize, len)
 }
 
 // The contents of one nugget from its byte `from` on, flake by flake.
@@ -65,31 +56,35 @@ fn fill_nugget(vol: &[u8], s: Shape, g: Nugget, from: usize, buf: &mut [u8])
     ensures { buf.new ≡ tab (length buf.old) (λ i. byte_in s vol.now g (from + i)) }
 {
     let size = s.f as usize;
-    let mut at = 0;
-    while at < buf.len() {
-        let o = from + at;
-        let n = nuggets::smaller(buf.len() - at, size - o % size);
-        let end = at + n;
-        nuggets::piece(vol, s, g, (o / size) as u32, o % size, &mut buf[at..end]);
-        at = end;
+    let end = from + buf.len();
+    for f in from / size..end.div_ceil(size) {
+        let start = from.max(f * size);
+        let stop = end.min(f * size + size);
+        nuggets::piece(
+            vol,
+            s,
+            g,
+            f as u32,
+            start - f * size,
+            &mut buf[start - from..stop - from],
+        );
     }
 }
 
 // The contents from offset o on, nugget by nugget; each nugget's key is made once.
+// One walk for both would take a closure, whose contract is longer than either loop.
 fn fill(d: Drive, vol: &[u8], o: usize, buf: &mut [u8])
     requires { Shaped (shape_of d) vol.now × (o + length buf.old ≤ capacity (shape_of d)) }
     ensures { buf.new ≡ tab (length buf.old) (λ i. byte_of d vol.now (o + i)) }
 {
     let s = drive::shape_of(d);
     let whole = d.p as usize * d.f as usize;
-    let mut at = 0;
-    while at < buf.len() {
-        let a = o + at;
-        let n = nuggets::smaller(buf.len() - at, whole - a % whole);
-        let end = at + n;
-        let g = nuggets::nugget_of(d, vol, (a / whole) as u32);
-        fill_nugget(vol, s, g, a % whole, &mut buf[at..end]);
-        at = end;
+    let end = o + buf.len();
+    for n in o / whole..end.div_ceil(whole) {
+        let start = o.max(n * whole);
+        let stop = end.min(n * whole + whole);
+        let g = nuggets::nugget_of(d, vol, n as u32);
+        fill_nugget(vol, s, g, start - n * whole, &mut buf[start - o..stop - o]);
     }
 }
 
@@ -98,10 +93,9 @@ pub fn read(d: Drive, vol: &[u8], offset: u64, buf: &mut [u8]) -> Answer
     ensures { (result ≡ read_answer d vol.now offset (length buf.old))
         × (buf.new ≡ read_buffer d vol.now offset buf.old) }
 {
-    let a = admit(d, vol, offset, buf.len());
-    if answers::accepted(a) {
-        fill(d, vol, offset as usize, &mut *buf);
-        return a;
+    let answer = admit(d, vol, offset, buf.len());
+    if answer.is_ok() {
+        fill(d, vol, offset as usize, buf);
     }
-    a
+    answer
 }

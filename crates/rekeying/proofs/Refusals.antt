@@ -2,8 +2,8 @@
 use mathlib.Core.Path.{◌≡◌, refl, sym}
 use mathlib.Core.List.{List}
 use Prim.Native.Nat.{ℕ}
-use Rattle.answers.specs.declared.Answer.{Answer}
-use Rattle.answers.specs.declared.Answer.TheVariants as A
+use Rattle.answers.specs.Answer.{Answer}
+use Rattle.answers.specs.Answer as A
 use Rattle.answers.proofs.StageLaws.{refuses}
 use Rattle.drive.specs.declared.Drive.{Drive}
 use Rattle.drive.specs.declared.Done.{Done}

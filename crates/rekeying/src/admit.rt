@@ -4,39 +4,34 @@ ghost use Rattle.layout.specs.Shaped.{Shaped};
 ghost use Rattle.drive.specs.Drive.{shape_of};
 ghost use Rattle.changes.specs.Rekey.{begin_answer, sweep_answer, left_in, finish_answer, begin_tests, move_tests, nugget_tests, finish_tests};
 
-use answers::Answer;
+use answers::{Answer, Refusal};
 use drive::Drive;
 
 // "9, 10, 15, 13"
 fn begin_tests(d: Drive, secret: [u8; 32]) -> Answer
     ensures { result ≡ begin_tests d secret }
 {
-    let state = d.state;
-    let present = d.present;
-    if drive::is_changing(state) {
-        return Answer::State;
+    if drive::is_changing(d.state) {
+        return Err(Refusal::State);
     }
-    if words::equal(&secret, &present) {
-        return Answer::SameSecret;
+    if words::equal(&secret, &d.present) {
+        return Err(Refusal::SameSecret);
     }
-    if d.epoch == 65535 {
-        return Answer::EpochTop;
+    if d.epoch == u16::MAX {
+        return Err(Refusal::EpochTop);
     }
-    if d.counter == 0xffff_ffff_ffff_ffff {
-        return Answer::CounterTop;
+    if d.counter == u64::MAX {
+        return Err(Refusal::CounterTop);
     }
-    Answer::Accepted
+    Ok(())
 }
 
 // "All others start 1, 2, 7 head"; "Begin: 9, 10, 15, 13."
 pub fn begin(d: Drive, vol: &[u8], secret: [u8; 32]) -> Answer
     ensures { result ≡ begin_answer d vol.now secret }
 {
-    let a = drive::opening(d, vol);
-    if answers::accepted(a) {
-        return begin_tests(d, secret);
-    }
-    a
+    drive::opening(d, vol)?;
+    begin_tests(d, secret)
 }
 
 // "12, 13, [..] 7 flakes": all flakes present, since all are enciphered afresh.
@@ -44,15 +39,15 @@ fn move_tests(d: Drive, vol: &[u8], n: u32) -> Answer
     requires { Shaped (shape_of d) vol.now × (n < d.n) }
     ensures { result ≡ move_tests d vol.now n }
 {
-    let r = records::read(vol, drive::shape_of(d), n);
+    let s = drive::shape_of(d);
+    let r = records::read(vol, s, n);
     if r.epoch == d.epoch {
-        return Answer::Moved;
+        return Err(Refusal::Moved);
     }
-    if d.counter == 0xffff_ffff_ffff_ffff {
-        return Answer::CounterTop;
+    if d.counter == u64::MAX {
+        return Err(Refusal::CounterTop);
     }
-    let g = nuggets::nugget_of(d, vol, n);
-    nuggets::flakes(vol, drive::shape_of(d), g, r.held)
+    nuggets::flakes(vol, s, nuggets::nugget_of(d, vol, n), r.held)
 }
 
 // "7 path, 12, 13, [..] 7 flakes"
@@ -60,29 +55,22 @@ fn nugget_tests(d: Drive, vol: &[u8], n: u32) -> Answer
     requires { Shaped (shape_of d) vol.now × (n < d.n) }
     ensures { result ≡ nugget_tests d vol.now n }
 {
-    let a = nuggets::test_path(d, vol, n);
-    if answers::accepted(a) {
-        return move_tests(d, vol, n);
-    }
-    a
+    nuggets::test_path(d, vol, n)?;
+    move_tests(d, vol, n)
 }
 
 // "Sweep: 9, 8, 7 path, 12, 13, [..] 7 flakes."
 pub fn sweep(d: Drive, vol: &[u8], n: u32) -> Answer
     ensures { result ≡ sweep_answer d vol.now n }
 {
-    let a = drive::opening(d, vol);
-    if answers::accepted(a) {
-        let state = d.state;
-        if drive::is_changing(state) {
-            if n < d.n {
-                return nugget_tests(d, vol, n);
-            }
-            return Answer::PastEnd;
-        }
-        return Answer::State;
+    drive::opening(d, vol)?;
+    if !drive::is_changing(d.state) {
+        return Err(Refusal::State);
     }
-    a
+    if d.n <= n {
+        return Err(Refusal::PastEnd);
+    }
+    nugget_tests(d, vol, n)
 }
 
 // How many nuggets are still under the old secret.
@@ -98,31 +86,24 @@ fn finish_tests(d: Drive, vol: &[u8]) -> Answer
     requires { Shaped (shape_of d) vol.now }
     ensures { result ≡ finish_tests d vol.now }
 {
-    let a = tree::whole(vol, drive::shape_of(d), drive::gauge_of(d));
-    if answers::accepted(a) {
-        let left = left_in(d, vol);
-        if 0 < left {
-            return Answer::Left(left);
-        }
-        if d.counter == 0xffff_ffff_ffff_ffff {
-            return Answer::CounterTop;
-        }
-        return Answer::Accepted;
+    tree::whole(vol, drive::shape_of(d), drive::gauge_of(d))?;
+    let left = left_in(d, vol);
+    if 0 < left {
+        return Err(Refusal::Left(left));
     }
-    a
+    if d.counter == u64::MAX {
+        return Err(Refusal::CounterTop);
+    }
+    Ok(())
 }
 
 // "Finish: 9, 7 whole, 11, 13."
 pub fn finish(d: Drive, vol: &[u8]) -> Answer
     ensures { result ≡ finish_answer d vol.now }
 {
-    let a = drive::opening(d, vol);
-    if answers::accepted(a) {
-        let state = d.state;
-        if drive::is_changing(state) {
-            return finish_tests(d, vol);
-        }
-        return Answer::State;
+    drive::opening(d, vol)?;
+    if !drive::is_changing(d.state) {
+        return Err(Refusal::State);
     }
-    a
+    finish_tests(d, vol)
 }

@@ -12,6 +12,7 @@ ghost use Rattle.changes.specs.Rekey.{epoch_top, begun_drive, begin_done, begin_
 ghost use Rattle.records.specs.Record.{record_of};
 
 use drive::{Done, Drive, State};
+use laying::Written;
 use records::Way;
 
 // "state changing, epoch plus 1, the old secret kept"
@@ -19,17 +20,15 @@ fn begun(d: Drive, secret: [u8; 32]) -> Drive
     requires { (d.epoch < epoch_top) × (d.counter < counter_top) }
     ensures { result ≡ begun_drive d secret }
 {
-    let node = d.node;
-    let kept = d.present;
-    drive::headed(
-        d,
-        State::Changing(d.epoch),
-        d.epoch + 1,
-        d.counter + 1,
-        node,
-        secret,
-        kept,
-    )
+    let old = d.present;
+    Drive {
+        state: State::Changing(d.epoch),
+        epoch: d.epoch + 1,
+        counter: d.counter + 1,
+        present: secret,
+        old,
+        ..d
+    }
 }
 
 // "the state steady", the check zeroed with the old secret
@@ -37,35 +36,27 @@ fn finished(d: Drive) -> Drive
     requires { d.counter < counter_top }
     ensures { result ≡ finished_drive d }
 {
-    let node = d.node;
-    let present = d.present;
-    drive::headed(
-        d,
-        State::Steady,
-        d.epoch,
-        d.counter + 1,
-        node,
-        present,
-        [0u8; 32],
-    )
+    Drive {
+        state: State::Steady,
+        counter: d.counter + 1,
+        old: [0; 32],
+        ..d
+    }
 }
 
 // "Begin takes a new secret: state changing, epoch plus 1, the old secret kept."
 pub fn begin(d: Drive, vol: &mut [u8], secret: [u8; 32]) -> Done
     ensures { (result ≡ begin_done d vol.old secret) × (vol.new ≡ begin_volume d vol.old secret) }
 {
-    let a = admit::begin(d, vol, secret);
-    if answers::accepted(a) {
-        let next = begun(d, secret);
-        laying::settle(next, &mut *vol);
-        return Done {
-            answer: a,
-            drive: next,
-        };
+    let answer = admit::begin(d, vol, secret);
+    if answer.is_err() {
+        return Done { answer, drive: d };
     }
+    let next = begun(d, secret);
+    laying::settle(next, vol);
     Done {
-        answer: a,
-        drive: d,
+        answer,
+        drive: next,
     }
 }
 
@@ -74,8 +65,11 @@ fn rekey(d: Drive, vol: &mut [u8], n: u32)
     requires { Shaped (shape_of d) vol.old × (n < d.n) × CanRise sweep_way (record_of (shape_of d) vol.old n) }
     ensures { vol.new ≡ sweep_work d vol.old n }
 {
-    let none = [0u8; 0];
-    laying::lay(d, &mut *vol, n, Way::Rekey(0), 0, &none);
+    let nothing = Written {
+        offset: 0,
+        bytes: &[],
+    };
+    laying::lay(d, &mut *vol, n, Way::Rekey(0), &nothing);
     laying::mark(d, &mut *vol, n, Way::Rekey(0));
     laying::tend(&mut *vol, drive::shape_of(d), n, Way::Rekey(0));
 }
@@ -84,18 +78,15 @@ fn rekey(d: Drive, vol: &mut [u8], n: u32)
 pub fn sweep(d: Drive, vol: &mut [u8], n: u32) -> Done
     ensures { (result ≡ sweep_done d vol.old n) × (vol.new ≡ sweep_volume d vol.old n) }
 {
-    let a = admit::sweep(d, vol, n);
-    if answers::accepted(a) {
-        rekey(d, &mut *vol, n);
-        let next = laying::advance(d, &mut *vol);
-        return Done {
-            answer: a,
-            drive: next,
-        };
+    let answer = admit::sweep(d, vol, n);
+    if answer.is_err() {
+        return Done { answer, drive: d };
     }
+    rekey(d, &mut *vol, n);
+    let next = laying::advance(d, vol);
     Done {
-        answer: a,
-        drive: d,
+        answer,
+        drive: next,
     }
 }
 
@@ -103,17 +94,14 @@ pub fn sweep(d: Drive, vol: &mut [u8], n: u32) -> Done
 pub fn finish(d: Drive, vol: &mut [u8]) -> Done
     ensures { (result ≡ finish_done d vol.old) × (vol.new ≡ finish_volume d vol.old) }
 {
-    let a = admit::finish(d, vol);
-    if answers::accepted(a) {
-        let next = finished(d);
-        laying::settle(next, &mut *vol);
-        return Done {
-            answer: a,
-            drive: next,
-        };
+    let answer = admit::finish(d, vol);
+    if answer.is_err() {
+        return Done { answer, drive: d };
     }
+    let next = finished(d);
+    laying::settle(next, vol);
     Done {
-        answer: a,
-        drive: d,
+        answer,
+        drive: next,
     }
 }

@@ -14,7 +14,7 @@ use borrow.Rule.Slice.PartMut.{mid_of, post_of, put_mid}
 use Rattle.base.specs.Pick.{pick, both}
 use Rattle.base.specs.Lists.{part}
 use Rattle.base.proofs.PickLaws.{yes, no, both-on, both_off}
-use Rattle.base.proofs.PartLaws.{sets-full, get_or-part}
+use Rattle.base.proofs.PartLaws.{get_or-part}
 use Rattle.base.proofs.TabLaws.{length-tab, get_or-tab, tab_ext}
 use Rattle.words.specs.Xor.{xorl}
 use Rattle.words.proofs.XorLaws.{xor_assoc}
@@ -130,7 +130,7 @@ module _ (g : Nugget) (f size at start o : ℕ) (bytes stored k : List ℕ) (her
 module _ (g : Nugget) (lock : Lock) (f size start at o : ℕ) (bytes piece : List ℕ) (short : length piece ≤ 512) where
   pub piece-laid : {k z w : List ℕ} → k ≡ pad_from lock f size at
       → z ≡ relayed g f size at (start + at) o bytes piece (mid_of 0 (length piece - 0) k)
-      → w ≡ sets piece 0 (part 0 (length piece - 0) (z ++ post_of 0 (length piece - 0) k)) → w ≡ relaid g lock f size start o bytes at piece
+      → w ≡ part 0 (length piece - 0) (z ++ post_of 0 (length piece - 0) k) → w ≡ relaid g lock f size start o bytes at piece
   unfolding relayed relaid
   piece-laid {k} {z} {w} ek ez ew =
       let n = length piece in
@@ -140,8 +140,7 @@ module _ (g : Nugget) (lock : Lock) (f size start at o : ℕ) (bytes piece : Lis
       let lm : length mid ≡ n = rw none (length-take-le n k (rw long short)) in
       let lz : length z ≡ n = rw ez (length-tab (length mid) _) ∙ lm in
       let own : part 0 (n - 0) (z ++ post_of 0 (n - 0) k) ≡ z = rw none (take_at z _ n lz) in
-      let put : w ≡ z = ew ∙ rw own (sets-full piece z lz) in
-      put ∙ ez ∙ rw lm
+      ew ∙ own ∙ ez ∙ rw lm
       (tab_ext n (λ i. bit_xor (over o bytes (start + at + i) (opened_byte g f size (at + i) (get_or piece i 0))) (get_or mid i 0)) (λ i. relaid_byte g lock f size start o bytes (at + i) (get_or piece i 0)) (λ i l.
       let place : start + at + i ≡ start + (at + i) = omega arith in
       let front : get_or mid i 0 ≡ get_or k i 0 = rw none (get_or-take n k i 0 l) in

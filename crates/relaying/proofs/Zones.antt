@@ -1,8 +1,8 @@
--- Where the written bytes meet a piece: bytes laid there, and bytes laid beside.
+-- Bytes laid at a place of a piece, and bytes laid beside.
 use mathlib.Core.Path.{◌≡◌, refl, ap, sym, ◌∙◌}
 use mathlib.Core.Logic.{⊎_elim}
 use mathlib.Core.List.{List, ◌++◌}
-use Prim.Native.Nat.{ℕ, ◌+◌, ◌-◌, ◌<◌, ◌≤◌, max, min}
+use Prim.Native.Nat.{ℕ, ◌+◌, ◌-◌, ◌<◌, ◌≤◌}
 use native.Mathlib.Omega.{arith}
 use lib.Bits.{bit_xor}
 use lib.Dec.{ltb, leb}
@@ -17,7 +17,7 @@ use Rattle.base.proofs.PartLaws.{length_part, get_or-part, back, sets_below, set
 use Rattle.base.proofs.TabLaws.{length-tab, get_or-tab}
 use Rattle.words.specs.Xor.{xorl}
 use Rattle.words.proofs.XorLaws.{length-xorl, get_or-xorl}
-use Rattle.relaying.specs.Flake.{Met, laid_beside}
+use Rattle.relaying.specs.Flake.{laid_beside}
 
 -- a list by its bytes
 pub by_bytes : (n : ℕ) (f : ℕ → ℕ) (w : List ℕ) → length w ≡ n → ((i : ℕ) → i < n → get_or w i 0 ≡ f i) → w ≡ tab n f
@@ -59,58 +59,6 @@ zoned Q i at end a b c =
     ⊎_elim (λ e. a (ltb-true i at e))
     (λ e. ⊎_elim (λ d. b (ltb-false i at e) (ltb-true i end d)) (λ d. c (ltb-false i end d)) (told (ltb i end)))
     (told (ltb i at))
-
--- the larger and the smaller of two
-larger-told : (a b m : ℕ) → m ≡ max a b → (a ≤ m) × (b ≤ m) × (a < m → m ≡ b)
-larger-told a b m e = (omega arith, omega arith, λ h. omega (arith, h))
-
-smaller-told : (a b m : ℕ) → m ≡ min a b → (m ≤ a) × (m ≤ b) × (m < a → m ≡ b)
-smaller-told a b m e = (omega arith, omega arith, λ h. omega (arith, h))
-
--- size bytes from offset start on, and len bytes written from offset o on
-module _ (start size o len : ℕ) where
-  -- the first shared byte; before it nothing is written, or no byte of the piece stands there; and so behind the last
-  met_by : (at n from : ℕ) → start + at ≡ o + from → at + n ≤ size → from + n ≤ len → (0 < at → from ≡ 0) → (at + n < size → from + n ≡ len)
-      → Met start size o len at n from
-  met_by at n from meet room short none all =
-      record {
-        room = room;
-        short = short;
-        before = λ i h. both_off _ (lt-leb o (start + i) (omega (arith, h, meet, none (omega (arith, h)))));
-        inside = λ i h l. both-on (le-leb o (start + i) (omega (arith, h, meet))) (lt-ltb (start + i) (o + len) (omega (arith, l, meet, short)));
-        byte = λ i h l. omega (arith, h, meet);
-        behind = λ i h l.
-            both-on (le-leb o (start + i) (omega (arith, h, meet))) (le-ltb (start + i) (o + len) (omega (arith, h, meet, all (omega (arith, h, l)))));
-      }
-
-  module _ (first last : ℕ) (ef : first ≡ max start o) (el : last ≡ min (start + size) (o + len)) where
-    pub met_some : first < last → Met start size o len (first - start) (last - first) (first - o)
-    met_some some =
-        let lo = larger-told start o first ef in
-        let hi = smaller-told (start + size) (o + len) last el in
-        shifted (first - start) (last - first) (first - o) (omega (arith, lo.0)) (omega (arith, lo.1)) (omega (arith, some)) lo.2 hi.0 hi.1 hi.2
-      where
-        shifted : (at n from : ℕ) → start + at ≡ first → o + from ≡ first → first + n ≡ last → (start < first → first ≡ o) → last ≤ start + size → last ≤ o + len
-            → (last < start + size → last ≡ o + len) → Met start size o len at n from
-        shifted at n from p q r c d e h =
-            met_by at n from (p ∙ sym q) (omega (arith, p, r, d)) (omega (arith, q, r, e)) (λ t. omega (arith, q, c (omega (arith, p, t))))
-            (λ t. omega (arith, q, r, h (omega (arith, p, r, t))))
-
-    pub met_none : last ≤ first → Met start size o len 0 0 0
-    met_none h =
-        record {
-          room = omega arith;
-          short = omega arith;
-          before = λ i l. absurd (omega (arith, l));
-          inside = λ i l m. absurd (omega (arith, m));
-          byte = λ i l m. absurd (omega (arith, m));
-          behind = λ i l m.
-              ⊎_elim (λ e. both_off _ (lt-leb o (start + i) (ltb-true (start + i) o e)))
-              (λ e.
-              let ge = ltb-false (start + i) o e in
-              both-on (le-leb o (start + i) ge) (le-ltb (start + i) (o + len) (omega (arith, ge, h, m))))
-              (told (ltb (start + i) o));
-        }
 
 -- before a place, and behind another
 module _ (at end : ℕ) (x k : List ℕ) (order : at ≤ end) (inside : end ≤ length k) (enough : length k ≤ length x) where

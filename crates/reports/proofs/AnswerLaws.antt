@@ -1,16 +1,22 @@
 -- What acceptance says of the drive, the volume and the flake.
-use mathlib.Core.Path.{◌≡◌, refl}
+use mathlib.Core.Path.{◌≡◌, refl, ap, ◌∙◌}
 use mathlib.Core.Bool.{true}
 use mathlib.Core.List.{List}
-use Prim.Native.Nat.{ℕ, ◌+◌, ◌-◌, ◌^◌, ◌<◌}
+use Prim.Native.Nat.{ℕ, ◌+◌, ◌-◌, ◌^◌, ◌<◌, ◌≤◌}
 use native.Mathlib.Nat.{add-sub_cancel_left}
+use native.Mathlib.Omega.{arith}
+use Rattle.layout.specs.declared.Shape.{Shape}
+use Rattle.layout.specs.Shape.{within}
+use Rattle.layout.specs.Parts.{flake_at}
+use Rattle.layout.proofs.Limits.{inside}
+use Rattle.layout.proofs.Places.{flake-inside}
 use lib.Dec.{ltb}
-use lib.ListN.{take, drop}
+use lib.ListN.{take, drop, length}
 use borrow.Author.Tests.{ltb-true}
 use Rattle.base.specs.Pick.{pick}
 use Rattle.base.specs.Lists.{part}
 use Rattle.base.proofs.PickLaws.{both_left, both_right}
-use Rattle.answers.specs.declared.Answer.TheVariants as A
+use Rattle.answers.specs.Answer as A
 use Rattle.answers.specs.Numbers.{accepts}
 use Rattle.answers.specs.Stages.{and_then}
 use Rattle.records.proofs.RuleLaws.{formed-held}
@@ -58,6 +64,17 @@ stored_is d v n f h =
       nugget = ltb-true n d.n (both_left _ (ltb f d.p) e);
       flake = ltb-true f d.p (both_right (ltb n d.n) _ e);
     }
+
+-- and where it stands
+pub record Stands (d : Drive) (v : List ℕ) (n f at : ℕ) : Type 0 where
+  pub place : at ≡ flake_at (shape_of d) n f
+  pub room : at + d.f ≤ length v
+
+pub stored_place : (d : Drive) (v : List ℕ) (n f : ℕ) {s : Shape} {at : ℕ} → accepts (stored_answer d v n f) ≡ true → s ≡ shape_of d → at ≡ within s (flake_at s n f) → Stands d v n f at
+stored_place d v n f {s} {at} h es ea =
+    let is = stored_is d v n f h in
+    let place : at ≡ flake_at (shape_of d) n f = ea ∙ ap (λ (x : Shape). within x (flake_at x n f)) es ∙ inside (shape_of d) is.lent.limited in
+    record { place = place; room = omega (arith, place, flake-inside (shape_of d) n f is.nugget is.flake, is.lent.size) }
 
 -- the part that the code shows is the flake's
 pub stored-part : (v : List ℕ) (at k size : ℕ) → at ≡ k → take (at + size - at) (drop at v) ≡ part k size v

@@ -1,5 +1,5 @@
 -- A turn of each counting loop, and how the counts stand to each other.
-use mathlib.Core.Path.{◌≡◌, refl, ap, ◌∙◌}
+use mathlib.Core.Path.{◌≡◌, refl, ap}
 use mathlib.Core.Bool.{Bool, true, false}
 use mathlib.Core.List.{List}
 use Prim.Native.Nat.{ℕ, zero, suc, ◌+◌, ◌*◌, ◌^◌, ◌<◌, ◌≤◌}
@@ -19,29 +19,13 @@ use Rattle.reports.specs.declared.told.Counts.{Counts}
 use Rattle.reports.specs.Counts.{is_moved, moved_in, flakes_in, count_of, none, plus, counts_in}
 
 -- before the first turn
-pub moved_none : (s : Shape) (e : ℕ) (v : List ℕ) → 0 ≡ moved_in s e v 0
-unfolding many
-moved_none s e v = refl
-
-pub counts-none : (s : Shape) (p e : ℕ) (v : List ℕ) → none ≡ counts_in s p e v 0
+pub counts-none : (s : Shape) (p e : ℕ) (v : List ℕ) {c : Counts} → (c.moved ≡ 0) × ((c.flakes ≡ 0) × (c.done ≡ 0)) → c ≡ counts_in s p e v 0
 unfolding counts_in
-counts-none s p e v = refl
+counts-none s p e v {c} h =
+    let z : ◌≡◌ {A = Counts} (record { moved = c.moved; flakes = c.flakes; done = c.done }) none = rw (h.0, h.1.0, h.1.1) refl in
+    z
 
 -- a turn at nugget i, whose record r was read at its place
-pub moved-one : (s : Shape) (e : ℕ) (v : List ℕ) (i : ℕ) {m : ℕ} {r : Record} → m ≡ moved_in s e v i → r ≡ record_of s v i → r.epoch ≡ e
-    → m + 1 ≡ moved_in s e v (i + 1)
-unfolding many
-moved-one s e v i em er ee =
-    let q : (record_of s v i).epoch ≡ e = rw er at ee in
-    rw (em, add-one i, eq-eqb (record_of s v i).epoch e q)
-
-pub moved_same : (s : Shape) (e : ℕ) (v : List ℕ) (i : ℕ) {m : ℕ} {r : Record} → m ≡ moved_in s e v i → r ≡ record_of s v i → (r.epoch ≡ e → ⊥)
-    → m ≡ moved_in s e v (i + 1)
-unfolding many
-moved_same s e v i em er ne =
-    let q : (record_of s v i).epoch ≡ e → ⊥ = rw er at ne in
-    em ∙ rw (add-one i, ne_eqb (record_of s v i).epoch e q) (omega arith)
-
 pub counts_more : (s : Shape) (p e : ℕ) (v : List ℕ) (i : ℕ) {c k m : Counts} {r : Record} → c ≡ counts_in s p e v i → r ≡ record_of s v i
     → k ≡ count_of p e r → m ≡ plus c k → m ≡ counts_in s p e v (i + 1)
 unfolding counts_in

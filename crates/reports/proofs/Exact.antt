@@ -8,7 +8,7 @@ use lib.Dec.{eqb, ltb}
 use Rattle.base.specs.Pick.{pick, both}
 use Rattle.base.specs.Lists.{part}
 use Rattle.base.proofs.PickLaws.{yes}
-use Rattle.answers.specs.declared.Answer.TheVariants as A
+use Rattle.answers.specs.Answer as A
 use Rattle.answers.specs.Numbers.{accepts}
 use Rattle.answers.proofs.StageLaws.{goes_on}
 use Rattle.layout.specs.Parts.{flake_at}

@@ -19,6 +19,12 @@ counting_counts_in κs a x y u v p q = (agree p q, refl)
 pub counting_share_of : OneOutcome said.counting.share_of.ended fn.counting.share_of.Reads.Post
 counting_share_of κs a x y u v p q = (agree p q, refl)
 
+pub counted : OneOutcome said.counted.ended fn.counted.Reads.Post
+counted κs a x y u v p q = (agree p q, refl)
+
+pub refused : OneOutcome said.refused.ended fn.refused.Reads.Post
+refused κs a x y u v p q = (agree p q, refl)
+
 pub report : OneOutcome said.report.ended fn.report.Reads.Post
 report κs a x y u v p q = (agree p q, refl)
 

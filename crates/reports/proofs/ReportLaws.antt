@@ -3,17 +3,16 @@ use mathlib.Core.Path.{◌≡◌, refl, sym}
 use mathlib.Core.Bool.{true, false}
 use mathlib.Core.Logic.{◌⊎◌, inl, inr}
 use mathlib.Core.List.{List}
-use Prim.Native.Nat.{ℕ, ◌+◌, ◌-◌, ◌≤◌}
+use Prim.Native.Nat.{ℕ, ◌+◌, ◌≤◌}
 use native.Mathlib.Omega.{arith}
 use Rattle.base.proofs.PickLaws.{yes, no, told}
 use Rattle.layout.proofs.Limits.{Limits, limits}
-use Rattle.answers.specs.declared.Answer.{Answer}
+use Rattle.answers.specs.Answer.{Answer}
 use Rattle.answers.specs.Numbers.{accepts}
 use Rattle.drive.specs.declared.Drive.{Drive}
 use Rattle.drive.specs.Drive.{shape_of}
-use Rattle.reports.specs.declared.told.Report.{Report}
 use Rattle.reports.specs.declared.told.Counts.{Counts}
-use Rattle.reports.specs.Counts.{counts_in, share_of}
+use Rattle.reports.specs.Counts.{counts_in}
 use Rattle.reports.specs.Report.{report_answer, counted, refused, report_of}
 use Rattle.reports.proofs.CountLaws.{Counted, counts_stand, counts-below}
 use Rattle.reports.proofs.ShareLaws.{moved-full, full-moved}
@@ -37,15 +36,12 @@ module _ (d : Drive) (v : List ℕ) where
   report-refused h = no _ h refl
 
   -- the code's counts are those
-  pub told_is : {a : Answer} {c : Counts} {h : ℕ} → accepts (report_answer d v) ≡ true → a ≡ report_answer d v → c ≡ counts_in (shape_of d) 64 d.epoch v d.n
-      → h ≡ share_of d.n c
-      → ◌≡◌ {A = Report}
-      (record { answer = a; n = d.n; moved = c.moved; left = d.n - c.moved; flakes = c.flakes; share = h; done = c.done })
-      (report_of d v)
-  told_is q ea ec eh =
+  pub told_is : {a : Answer} {c : Counts} → accepts (report_answer d v) ≡ true → a ≡ report_answer d v → c ≡ counts_in (shape_of d) 64 d.epoch v d.n
+      → counted a d.n c ≡ report_of d v
+  told_is q ea ec =
       let is = report_is d v q in
       let l : Limits (shape_of d) = limits (shape_of d) is.lent.limited in
-      rw (eh, ec, ea, counts-below (shape_of d) d.p d.epoch v d.n l.narrow is.masks) (sym (report-accepted q))
+      rw (ec, ea, counts-below (shape_of d) d.p d.epoch v d.n l.narrow is.masks) (sym (report-accepted q))
 
   pub refused_is : {a : Answer} → accepts (report_answer d v) ≡ false → a ≡ report_answer d v → refused a ≡ report_of d v
   refused_is q e = rw e (sym (report-refused q))

@@ -1,9 +1,9 @@
 -- The share: at most 100.00, and that exactly if nothing is left.
-use mathlib.Core.Path.{◌≡◌, refl, sym, ◌∙◌}
+use mathlib.Core.Path.{◌≡◌, refl, ◌∙◌}
 use mathlib.Core.Bool.{true, false}
 use mathlib.Core.Logic.{◌⊎◌, inl, inr}
 use Prim.Native.Nat.{ℕ, ◌-◌, ◌*◌, ◌/◌, ◌<◌, ◌≤◌, min}
-use native.Mathlib.Nat.{div-lt_iff_lt-mul, mul-div_cancel_left, min-le_left, min-eq_left, min-eq_right, div-zero}
+use native.Mathlib.Nat.{div-lt_iff_lt-mul, mul-div_cancel_left, min-le_left, min-eq_right, div-zero}
 use native.Mathlib.Omega.{arith}
 use lib.Dec.{eqb, ltb}
 use borrow.Author.Tests.{eq-eqb, ne_eqb, eqb-true, eqb-false, lt-ltb, le-ltb, ltb-true, ltb-false}
@@ -42,15 +42,6 @@ exact_none n c e z = exact_empty n c e ∙ rw z (div-zero (c.moved * 10000))
 pub exact_flakes : (n : ℕ) (c : Counts) → (c.flakes ≡ 0 → ⊥) → exact_of n c ≡ c.done * 10000 / c.flakes
 unfolding exact_of
 exact_flakes n c ne = no _ (ne_eqb c.flakes 0 ne) refl
-
--- the smaller of the two, as the code tells them apart
-pub share-below : (n : ℕ) (c : Counts) {x k : ℕ} → x ≡ exact_of n c → k ≡ cap_of n c → x < k → x ≡ share_of n c
-unfolding share_of
-share-below n c {x} {k} ex ek l = let le : x ≤ k = omega arith in ex ∙ sym (min-eq_right (rw (ex, ek) at le))
-
-pub share-above : (n : ℕ) (c : Counts) {x k : ℕ} → x ≡ exact_of n c → k ≡ cap_of n c → k ≤ x → k ≡ share_of n c
-unfolding share_of
-share-above n c ex ek l = ek ∙ sym (min-eq_left (rw (ex, ek) at l))
 
 module _ (p n : ℕ) (c : Counts) (some : 1 ≤ n) (h : Counted p n c) where
   -- of counts of records the exact figure is at most 100.00: the bound of 10,000 never bites

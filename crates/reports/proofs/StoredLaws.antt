@@ -13,8 +13,8 @@ use Rattle.base.proofs.PartLaws.{length_part}
 use Rattle.layout.specs.Parts.{length_of, flake_at}
 use Rattle.layout.proofs.Limits.{Limits, limits}
 use Rattle.layout.proofs.Places.{flake-inside}
-use Rattle.answers.specs.declared.Answer.{Answer}
-use Rattle.answers.specs.declared.Answer.TheVariants as A
+use Rattle.answers.specs.Answer.{Answer}
+use Rattle.answers.specs.Answer as A
 use Rattle.answers.specs.Numbers.{accepts}
 use Rattle.answers.specs.Stages.{and_then}
 use Rattle.drive.specs.declared.Drive.{Drive}

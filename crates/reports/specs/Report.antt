@@ -2,7 +2,7 @@
 -- document 02's, Item 1.
 use Rattle.std.specs.Prelude.{ℕ, ◌-◌, List}
 use Rattle.base.specs.Pick.{pick}
-use Rattle.answers.specs.declared.Answer.{Answer}
+use Rattle.answers.specs.Answer.{Answer}
 use Rattle.answers.specs.Numbers.{accepts}
 use Rattle.tree.specs.Whole.{whole_of}
 use Rattle.drive.specs.declared.Drive.{Drive}

@@ -1,7 +1,7 @@
 // The counts of a report, in one pass over the records, and the share.
-ghost use Rattle.std.specs.Prelude.{◌≡◌, ◌+◌, ◌^◌, ◌<◌};
+ghost use Rattle.std.specs.Prelude.{◌≡◌};
 ghost use Rattle.layout.specs.Shaped.{Shaped};
-ghost use Rattle.reports.specs.Counts.{count_of, plus, counts_in, cap_of, exact_of, share_of};
+ghost use Rattle.reports.specs.Counts.{count_of, counts_in, cap_of, exact_of, share_of};
 
 use crate::told::Counts;
 use layout::Shape;
@@ -10,29 +10,12 @@ use records::Record;
 pub fn count_of(r: Record, epoch: u16) -> Counts
     ensures { result ≡ count_of 64 epoch r }
 {
+    let moved = r.epoch == epoch;
     let flakes = records::count(r.held);
-    if r.epoch == epoch {
-        return Counts {
-            moved: 1,
-            flakes: flakes,
-            done: flakes,
-        };
-    }
     Counts {
-        moved: 0,
-        flakes: flakes,
-        done: 0,
-    }
-}
-
-fn plus(a: Counts, b: Counts) -> Counts
-    requires { (a.moved + b.moved < 2 ^ 32) × (a.flakes + b.flakes < 2 ^ 32) × (a.done + b.done < 2 ^ 32) }
-    ensures { result ≡ plus a b }
-{
-    Counts {
-        moved: a.moved + b.moved,
-        flakes: a.flakes + b.flakes,
-        done: a.done + b.done,
+        moved: u32::from(moved),
+        flakes,
+        done: if moved { flakes } else { 0 },
     }
 }
 
@@ -41,17 +24,12 @@ pub fn counts_in(vol: &[u8], s: Shape, epoch: u16) -> Counts
     requires { Shaped s vol.now }
     ensures { result ≡ counts_in s 64 epoch vol.now s.n }
 {
-    let n = s.n;
-    let mut c = Counts {
-        moved: 0,
-        flakes: 0,
-        done: 0,
-    };
-    let mut i = 0;
-    while i < n {
-        let r = records::read(vol, s, i);
-        c = plus(c, count_of(r, epoch));
-        i += 1;
+    let mut c = Counts::default();
+    for i in 0..s.n {
+        let one = count_of(records::read(vol, s, i), epoch);
+        c.moved += one.moved;
+        c.flakes += one.flakes;
+        c.done += one.done;
     }
     c
 }
@@ -60,32 +38,24 @@ pub fn counts_in(vol: &[u8], s: Shape, epoch: u16) -> Counts
 fn exact_of(n: u32, c: Counts) -> u64
     ensures { result ≡ exact_of n c }
 {
-    if c.flakes == 0 {
-        if n == 0 {
-            return 0;
-        }
-        return (c.moved as u64) * 10000 / (n as u64);
+    if c.flakes != 0 {
+        u64::from(c.done) * 10000 / u64::from(c.flakes)
+    } else if n != 0 {
+        u64::from(c.moved) * 10000 / u64::from(n)
+    } else {
+        0
     }
-    (c.done as u64) * 10000 / (c.flakes as u64)
 }
 
 // "while any nugget is left the figure is at most 99.99"
 fn cap_of(n: u32, c: Counts) -> u32
     ensures { result ≡ cap_of n c }
 {
-    if c.moved < n {
-        return 9999;
-    }
-    10000
+    if c.moved < n { 9999 } else { 10000 }
 }
 
 pub fn share_of(n: u32, c: Counts) -> u32
     ensures { result ≡ share_of n c }
 {
-    let exact = exact_of(n, c);
-    let cap = cap_of(n, c);
-    if exact < (cap as u64) {
-        return exact as u32;
-    }
-    cap
+    u64::from(cap_of(n, c)).min(exact_of(n, c)) as u32
 }

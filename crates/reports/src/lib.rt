@@ -5,13 +5,14 @@
 mod counting;
 mod told;
 
-ghost use Rattle.std.specs.Prelude.{◌≡◌};
+ghost use Rattle.std.specs.Prelude.{◌≡◌, Err};
+ghost use Rattle.answers.specs.Answer.{Accepted};
 ghost use Rattle.layout.specs.Shaped.{Shaped};
 ghost use Rattle.reports.specs.Counts.{moved_in};
-ghost use Rattle.reports.specs.Report.{report_answer, report_of};
+ghost use Rattle.reports.specs.Report.{report_answer, counted, refused, report_of};
 ghost use Rattle.reports.specs.Stored.{is_flake, stored_answer, stored_flake, stored_at, onward};
 
-use answers::Answer;
+use answers::{Answer, Refusal};
 pub use counting::{count_of, counts_in, share_of};
 use drive::Drive;
 use layout::Shape;
@@ -22,49 +23,38 @@ pub fn moved_in(vol: &[u8], s: Shape, epoch: u16) -> u32
     requires { Shaped s vol.now }
     ensures { result ≡ moved_in s epoch vol.now s.n }
 {
-    let n = s.n;
-    let mut moved = 0;
-    let mut i = 0;
-    while i < n {
-        let r = records::read(vol, s, i);
-        i += 1;
-        if r.epoch == epoch {
-            moved += 1;
-        }
-    }
-    moved
+    counts_in(vol, s, epoch).moved
 }
 
 // What a report answers: 1, 2, 7 head, 7 whole.
 fn report_answer(d: Drive, vol: &[u8]) -> Answer
     ensures { result ≡ report_answer d vol.now }
 {
-    let a = drive::opening(d, vol);
-    if answers::accepted(a) {
-        return tree::whole(vol, drive::shape_of(d), drive::gauge_of(d));
-    }
-    a
+    drive::opening(d, vol)?;
+    tree::whole(vol, drive::shape_of(d), drive::gauge_of(d))
 }
 
-pub fn report(d: Drive, vol: &[u8]) -> Report
-    ensures { result ≡ report_of d vol.now }
+// The report of n nuggets with these counts. Over counts that are no drive's more may have moved than there are: then none is left.
+pub fn counted(n: u32, c: Counts) -> Report
+    ensures { result ≡ counted Accepted n c }
 {
-    let answer = report_answer(d, vol);
-    if answers::accepted(answer) {
-        let c = counting::counts_in(vol, drive::shape_of(d), d.epoch);
-        let share = counting::share_of(d.n, c);
-        return Report {
-            answer: answer,
-            n: d.n,
-            moved: c.moved,
-            left: d.n - c.moved,
-            flakes: c.flakes,
-            share: share,
-            done: c.done,
-        };
-    }
     Report {
-        answer: answer,
+        answer: Ok(()),
+        n,
+        moved: c.moved,
+        left: n.saturating_sub(c.moved),
+        flakes: c.flakes,
+        share: share_of(n, c),
+        done: c.done,
+    }
+}
+
+// A refusal has no numbers.
+pub fn refused(refusal: Refusal) -> Report
+    ensures { result ≡ refused (Err refusal) }
+{
+    Report {
+        answer: Err(refusal),
         n: 0,
         moved: 0,
         left: 0,
@@ -74,25 +64,32 @@ pub fn report(d: Drive, vol: &[u8]) -> Report
     }
 }
 
+pub fn report(d: Drive, vol: &[u8]) -> Report
+    ensures { result ≡ report_of d vol.now }
+{
+    match report_answer(d, vol) {
+        Ok(()) => counted(d.n, counts_in(vol, drive::shape_of(d), d.epoch)),
+        Err(refusal) => refused(refusal),
+    }
+}
+
 // Whether the drive has this nugget and this flake.
 fn is_flake(d: Drive, nugget: u32, flake: u32) -> bool
     ensures { result ≡ is_flake d nugget flake }
 {
-    if nugget < d.n { flake < d.p } else { false }
+    nugget < d.n && flake < d.p
 }
 
 // What a stored flake answers: 1, 2, 8.
 pub fn stored_flake_answer(d: Drive, vol: &[u8], nugget: u32, flake: u32) -> Answer
     ensures { result ≡ stored_answer d vol.now nugget flake }
 {
-    let a = drive::measure(d, vol);
-    if answers::accepted(a) {
-        if is_flake(d, nugget, flake) {
-            return a;
-        }
-        return Answer::PastEnd;
+    drive::measure(d, vol)?;
+    if is_flake(d, nugget, flake) {
+        Ok(())
+    } else {
+        Err(Refusal::PastEnd)
     }
-    a
 }
 
 // "shows a backup tool the stored bytes as that part of the volume itself, no copy"
@@ -100,10 +97,9 @@ pub fn stored_flake<'a>(d: Drive, vol: &'a [u8], nugget: u32, flake: u32) -> &'a
     ensures { (result.now ≡ stored_flake d vol.now nugget flake)
         × (result.ref_ptr ≡ onward vol.entry.ref_ptr (stored_at d vol.now nugget flake)) }
 {
-    if answers::accepted(stored_flake_answer(d, vol, nugget, flake)) {
-        let at = layout::flake_at(drive::shape_of(d), nugget, flake);
-        let end = at + (d.f as usize);
-        return &vol[at..end];
+    if stored_flake_answer(d, vol, nugget, flake).is_err() {
+        return &vol[0..0];
     }
-    &vol[0..0]
+    let at = layout::flake_at(drive::shape_of(d), nugget, flake);
+    &vol[at..at + d.f as usize]
 }

@@ -1,8 +1,8 @@
 -- What an accepted call says of drive, volume and buffer, and each call's tests met by the code.
 use Rattle.std.proofs.Common.{◌≡◌, ℕ, ◌<◌, true, false, eqb, ltb, List, length, sym, refl, ltb-true, eqb-true}
 use Rattle.base.proofs.PickLaws.{yes, no}
-use Rattle.answers.specs.declared.Answer.{Answer}
-use Rattle.answers.specs.declared.Answer.TheVariants as A
+use Rattle.answers.specs.Answer.{Answer}
+use Rattle.answers.specs.Answer as A
 use Rattle.answers.specs.Numbers.{accepts}
 use Rattle.answers.proofs.StageLaws.{both_stages, passed}
 use Rattle.layout.specs.Shaped.{Shaped}

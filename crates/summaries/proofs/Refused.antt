@@ -1,7 +1,7 @@
 -- "A refusal stores nothing": a refused building or renewing leaves the buffer as it came, a refused top report has no numbers.
 use Rattle.std.proofs.Common.{◌≡◌, ℕ, true, false, List, length, sym, refl, ap, ◌∙◌, ne_eqb}
 use Rattle.base.proofs.PickLaws.{no}
-use Rattle.answers.specs.declared.Answer.TheVariants as A
+use Rattle.answers.specs.Answer as A
 use Rattle.answers.specs.Numbers.{accepts}
 use Rattle.answers.proofs.StageLaws.{goes_on, stops}
 use Rattle.drive.specs.declared.Drive.{Drive}

@@ -3,8 +3,8 @@
 use Rattle.std.proofs.Common.{◌≡◌, ℕ, ◌^◌, ◌<◌, true, false, eqb, ◌⊎◌, List, length, sym, refl, ◌∙◌, inl, inr, eq-eqb}
 use Rattle.base.specs.Pick.{pick}
 use Rattle.base.proofs.PickLaws.{yes, no, told}
-use Rattle.answers.specs.declared.Answer.{Answer}
-use Rattle.answers.specs.declared.Answer.TheVariants as A
+use Rattle.answers.specs.Answer.{Answer}
+use Rattle.answers.specs.Answer as A
 use Rattle.answers.specs.Numbers.{accepts}
 use Rattle.answers.specs.Stages.{and_then}
 use Rattle.answers.proofs.StageLaws.{goes_on, stops, accepted_is}
@@ -17,10 +17,9 @@ use Rattle.drive.specs.declared.Drive.{Drive}
 use Rattle.drive.specs.Drive.{shape_of, gauge_of}
 use Rattle.drive.specs.Opening.{measure_of, opening_of}
 use Rattle.drive.proofs.OpeningLaws.{opening_lent}
-use Rattle.reports.specs.declared.told.Report.{Report}
 use Rattle.reports.specs.declared.told.Counts.{Counts}
 use Rattle.reports.specs.Report.{report_answer, counted, refused, report_of}
-use Rattle.reports.specs.Counts.{counts_in, share_of}
+use Rattle.reports.specs.Counts.{counts_in}
 use Rattle.reports.proofs.CountLaws.{counts-below}
 use Rattle.summaries.specs.Entries.{summary_length, entry_in}
 use Rattle.summaries.specs.Calls.{top_answer, top_report, BelongsTo}
@@ -28,10 +27,9 @@ use Rattle.summaries.proofs.SumLaws.{top-counts}
 
 -- the code's report, accepted and refused
 module _ (d : Drive) (v b : List ℕ) where
-  pub top-accepted : {a : Answer} {c : Counts} {l h : ℕ} → a ≡ top_answer d v (length b) → accepts a ≡ true → c ≡ entry_in b 1 → l ≡ (counted a d.n c).left → h ≡ share_of d.n c
-      → ◌≡◌ {A = Report} (record { answer = a; n = d.n; moved = c.moved; left = l; flakes = c.flakes; share = h; done = c.done }) (top_report d v b)
+  pub top-accepted : {a : Answer} {c : Counts} → a ≡ top_answer d v (length b) → accepts a ≡ true → c ≡ entry_in b 1 → counted a d.n c ≡ top_report d v b
   unfolding top_report
-  top-accepted ea q ec el eh = rw (el, eh, ec, ea) (sym (yes _ (rw ea at q) refl))
+  top-accepted ea q ec = rw (ec, ea) (sym (yes _ (rw ea at q) refl))
 
   pub refused-top : {a : Answer} → a ≡ top_answer d v (length b) → accepts a ≡ false → refused a ≡ top_report d v b
   unfolding top_report

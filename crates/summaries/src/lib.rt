@@ -9,7 +9,7 @@ ghost use Rattle.layout.specs.Shaped.{Shaped};
 ghost use Rattle.summaries.specs.Entries.{entry_at, summary_length, entry_bytes, entry_in, rolled, beneath, put_entry, built, renewed};
 ghost use Rattle.summaries.specs.Calls.{top_answer, top_report, build_answer, build_summary, renew_answer, renew_summary};
 
-use answers::Answer;
+use answers::{Answer, Refusal};
 use drive::Drive;
 use layout::Shape;
 use reports::{Counts, Report};
@@ -48,13 +48,10 @@ fn store(sum: &mut [u8], i: u32, c: Counts)
     requires { (1 ≤ i) × (entry_at i + 12 ≤ length sum.old) }
     ensures { sum.new ≡ sets sum.old (entry_at i) (entry_bytes c) }
 {
-    let moved = c.moved;
-    let flakes = c.flakes;
-    let done = c.done;
     let at = entry_at(i);
-    words::store32(&mut *sum, at, moved);
-    words::store32(&mut *sum, at + 4, flakes);
-    words::store32(&mut *sum, at + 8, done);
+    words::store32(&mut *sum, at, c.moved);
+    words::store32(&mut *sum, at + 4, c.flakes);
+    words::store32(&mut *sum, at + 8, c.done);
 }
 
 // Over bytes that are no summary a sum may pass 32 bits: it rolls over.
@@ -62,9 +59,9 @@ fn rolled(a: Counts, b: Counts) -> Counts
     ensures { result ≡ rolled a b }
 {
     Counts {
-        moved: std::num::wrapping_add_u32(a.moved, b.moved),
-        flakes: std::num::wrapping_add_u32(a.flakes, b.flakes),
-        done: std::num::wrapping_add_u32(a.done, b.done),
+        moved: a.moved.wrapping_add(b.moved),
+        flakes: a.flakes.wrapping_add(b.flakes),
+        done: a.done.wrapping_add(b.done),
     }
 }
 
@@ -75,15 +72,11 @@ fn beneath(vol: &[u8], sum: &[u8], s: Shape, epoch: u16, i: u32) -> Counts
 {
     let first = layout::leaves_of(s.n) as u32;
     if i < first {
-        return rolled(load(sum, 2 * i), load(sum, 2 * i + 1));
-    }
-    if i - first < s.n {
-        return reports::count_of(records::read(vol, s, i - first), epoch);
-    }
-    Counts {
-        moved: 0,
-        flakes: 0,
-        done: 0,
+        rolled(load(sum, 2 * i), load(sum, 2 * i + 1))
+    } else if i - first < s.n {
+        reports::count_of(records::read(vol, s, i - first), epoch)
+    } else {
+        Counts::default()
     }
 }
 
@@ -92,7 +85,7 @@ fn put(vol: &[u8], sum: &mut [u8], s: Shape, epoch: u16, i: u32)
     requires { Shaped s vol.now × (length sum.old ≡ summary_length s.n) × (1 ≤ i) × (i < 2 * leaves s.n) }
     ensures { sum.new ≡ put_entry s epoch vol.now i sum.old }
 {
-    let c = beneath(vol, &*sum, s, epoch, i);
+    let c = beneath(vol, sum, s, epoch, i);
     store(&mut *sum, i, c);
 }
 
@@ -101,10 +94,8 @@ fn put_all(vol: &[u8], sum: &mut [u8], s: Shape, epoch: u16)
     requires { Shaped s vol.now × (length sum.old ≡ summary_length s.n) }
     ensures { sum.new ≡ built s epoch vol.now sum.old }
 {
-    let mut k = 2 * (layout::leaves_of(s.n) as u32) - 1;
-    while 0 < k {
-        put(vol, &mut *sum, s, epoch, k);
-        k -= 1;
+    for i in (1..2 * (layout::leaves_of(s.n) as u32)).rev() {
+        put(vol, &mut *sum, s, epoch, i);
     }
 }
 
@@ -113,12 +104,10 @@ fn put_path(vol: &[u8], sum: &mut [u8], s: Shape, epoch: u16, n: u32)
     requires { Shaped s vol.now × (length sum.old ≡ summary_length s.n) × (n < s.n) }
     ensures { sum.new ≡ renewed s epoch vol.now n sum.old }
 {
-    let mut k = layout::height_of(s.n) + 1;
     let mut i = (layout::leaves_of(s.n) as u32) + n;
-    while 0 < k {
+    for _above in 0..layout::height_of(s.n) + 1 {
         put(vol, &mut *sum, s, epoch, i);
-        i = i / 2;
-        k -= 1;
+        i /= 2;
     }
 }
 
@@ -126,39 +115,30 @@ fn put_path(vol: &[u8], sum: &mut [u8], s: Shape, epoch: u16, n: u32)
 fn top_answer(d: Drive, vol: &[u8], len: usize) -> Answer
     ensures { result ≡ top_answer d vol.now len }
 {
-    let a = drive::measure(d, vol);
-    if answers::accepted(a) {
-        if len == length_of(d.n) {
-            return drive::opening(d, vol);
-        }
-        return Answer::Length;
+    drive::measure(d, vol)?;
+    if len != length_of(d.n) {
+        return Err(Refusal::Length);
     }
-    a
+    drive::opening(d, vol)
 }
 
 // "building goes on with 7 whole"
 fn build_answer(d: Drive, vol: &[u8], len: usize) -> Answer
     ensures { result ≡ build_answer d vol.now len }
 {
-    let a = top_answer(d, vol, len);
-    if answers::accepted(a) {
-        return tree::whole(vol, drive::shape_of(d), drive::gauge_of(d));
-    }
-    a
+    top_answer(d, vol, len)?;
+    tree::whole(vol, drive::shape_of(d), drive::gauge_of(d))
 }
 
 // "renewing a nugget's path with 8, 7 path"
 fn renew_answer(d: Drive, vol: &[u8], len: usize, nugget: u32) -> Answer
     ensures { result ≡ renew_answer d vol.now len nugget }
 {
-    let a = top_answer(d, vol, len);
-    if answers::accepted(a) {
-        if nugget < d.n {
-            return tree::path(vol, drive::shape_of(d), drive::gauge_of(d), nugget);
-        }
-        return Answer::PastEnd;
+    top_answer(d, vol, len)?;
+    if nugget >= d.n {
+        return Err(Refusal::PastEnd);
     }
-    a
+    tree::path(vol, drive::shape_of(d), drive::gauge_of(d), nugget)
 }
 
 // The whole summary, whatever the buffer held.
@@ -166,12 +146,9 @@ pub fn build(d: Drive, vol: &[u8], sum: &mut [u8]) -> Answer
     ensures { (result ≡ build_answer d vol.now (length sum.old))
         × (sum.new ≡ build_summary d vol.now sum.old) }
 {
-    let a = build_answer(d, vol, sum.len());
-    if answers::accepted(a) {
-        put_all(vol, &mut *sum, drive::shape_of(d), d.epoch);
-        return a;
-    }
-    a
+    build_answer(d, vol, sum.len())?;
+    put_all(vol, &mut *sum, drive::shape_of(d), d.epoch);
+    Ok(())
 }
 
 // One nugget's path, after a change of that nugget.
@@ -179,46 +156,17 @@ pub fn renew(d: Drive, vol: &[u8], sum: &mut [u8], nugget: u32) -> Answer
     ensures { (result ≡ renew_answer d vol.now (length sum.old) nugget)
         × (sum.new ≡ renew_summary d vol.now sum.old nugget) }
 {
-    let a = renew_answer(d, vol, sum.len(), nugget);
-    if answers::accepted(a) {
-        put_path(vol, &mut *sum, drive::shape_of(d), d.epoch, nugget);
-        return a;
-    }
-    a
-}
-
-// Nuggets left, none where more have moved than there are.
-fn left_of(n: u32, moved: u32) -> u32
-    ensures { result ≡ n - moved }
-{
-    if moved < n { n - moved } else { 0 }
+    renew_answer(d, vol, sum.len(), nugget)?;
+    put_path(vol, &mut *sum, drive::shape_of(d), d.epoch, nugget);
+    Ok(())
 }
 
 // "A report from the top entry": no record is read.
 pub fn top(d: Drive, vol: &[u8], sum: &[u8]) -> Report
     ensures { result ≡ top_report d vol.now sum.now }
 {
-    let answer = top_answer(d, vol, sum.len());
-    if answers::accepted(answer) {
-        let c = load(sum, 1);
-        let share = reports::share_of(d.n, c);
-        return Report {
-            answer: answer,
-            n: d.n,
-            moved: c.moved,
-            left: left_of(d.n, c.moved),
-            flakes: c.flakes,
-            share: share,
-            done: c.done,
-        };
-    }
-    Report {
-        answer: answer,
-        n: 0,
-        moved: 0,
-        left: 0,
-        flakes: 0,
-        share: 0,
-        done: 0,
+    match top_answer(d, vol, sum.len()) {
+        Ok(()) => reports::counted(d.n, load(sum, 1)),
+        Err(refusal) => reports::refused(refusal),
     }
 }

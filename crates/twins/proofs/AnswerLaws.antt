@@ -8,7 +8,7 @@ use borrow.Author.Tests.{ltb-true}
 use Rattle.base.specs.Lists.{same}
 use Rattle.base.proofs.FoldLaws.{same_true}
 use Rattle.layout.specs.Shaped.{Shaped}
-use Rattle.answers.specs.declared.Answer.TheVariants as A
+use Rattle.answers.specs.Answer as A
 use Rattle.answers.specs.declared.Place.TheVariants as P
 use Rattle.answers.specs.Numbers.{accepts}
 use Rattle.answers.proofs.StageLaws.{both_stages, passed, accepted_is}

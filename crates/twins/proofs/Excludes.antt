@@ -17,7 +17,7 @@ use Rattle.layout.specs.Shape.{height_of, leaves}
 use Rattle.layout.specs.Shaped.{Shaped}
 use Rattle.layout.specs.declared.Shape.{Shape}
 use Rattle.layout.proofs.Limits.{lent_small}
-use Rattle.answers.specs.declared.Answer.TheVariants as A
+use Rattle.answers.specs.Answer as A
 use Rattle.answers.specs.Numbers.{accepts}
 use Rattle.answers.proofs.StageLaws.{accepted_is}
 use Rattle.records.specs.declared.Gauge.{Gauge}

@@ -1,12 +1,13 @@
 -- Where two paths meet: on the path, alike in both volumes, and above a node that isn't, unless it is the leaf.
-use mathlib.Core.Path.{◌≡◌, refl, sym}
-use mathlib.Core.Bool.{true, false}
+use mathlib.Core.Path.{◌≡◌, refl, sym, ◌∙◌}
+use mathlib.Core.Bool.{Bool, true, false}
 use mathlib.Core.Logic.{◌⊎◌, inl, inr}
 use mathlib.Core.List.{List}
 use Prim.Native.Nat.{ℕ, zero, suc, ◌+◌, ◌-◌, ◌*◌, ◌/◌, ◌<◌, ◌≤◌}
 use native.Mathlib.Omega.{arith}
 use lib.Dec.{eqb}
 use borrow.Author.Tests.{eq-eqb}
+use Rattle.base.specs.Lists.{same}
 use Rattle.base.proofs.PickLaws.{yes, no, told, clash, either_left, either_right}
 use Rattle.base.proofs.FoldLaws.{same_true, same_refl}
 use Rattle.layout.specs.Shape.{height_of, leaves}
@@ -40,6 +41,11 @@ module _ (s : Shape) (v w : List ℕ) where
   unfolding agreeing
   agreeing_end zero i h = refl
   agreeing_end (suc k) i h = absurd (omega arith)
+
+  -- two nodes that were compared
+  pub node_same : (i : ℕ) {x y : List ℕ} {r : Bool} → x ≡ node_in s v i → y ≡ node_in s w i → r ≡ same x y → same_node s v w i ≡ r
+  unfolding same_node
+  node_same i ex ey er = sym (er ∙ rw (ex, ey) refl)
 
   same_node_lem : (i : ℕ) → same_node s v w i ≡ true → node_in s v i ≡ node_in s w i
   unfolding same_node

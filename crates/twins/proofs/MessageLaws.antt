@@ -45,13 +45,13 @@ module _ (s : Shape) (v : List ℕ) where
 
 -- the parts stand in the volume
 module _ (s : Shape) (v : List ℕ) (l : Shaped s v) where
-  node_long_lem : (i : ℕ) → i < 2 * leaves s.n → length (node_in s v i) ≡ 32
+  pub node_long_lem : (i : ℕ) → i < 2 * leaves s.n → length (node_in s v i) ≡ 32
   node_long_lem i h = length_part (node_at s i) 32 v (node-fits i l h)
 
-  record_long : (n : ℕ) → n < s.n → length (record_part s v n) ≡ width_of s
+  pub record_long : (n : ℕ) → n < s.n → length (record_part s v n) ≡ width_of s
   record_long n h = length_part (record_at s n) (width_of s) v (record_room n l h)
 
-  tags-long : (n : ℕ) → n < s.n → length (tags_part s v n) ≡ 16 * s.p
+  pub tags-long : (n : ℕ) → n < s.n → length (tags_part s v n) ≡ 16 * s.p
   tags-long n h = length_part (tag_at s n 0) (16 * s.p) v (rw l.size (omega (arith, tags-inside s n h, parts_inside s)))
 
   leaf-long : (n : ℕ) → n < s.n → length (of_leaf s v n) ≡ 5 + (width_of s + 16 * s.p)

@@ -8,107 +8,94 @@ use native.Mathlib.Omega.{arith}
 use lib.ListN.{length, length-append}
 use lib.Seq.{sets}
 use borrow.Author.Tests.{lt-ltb, le-ltb}
-use Rattle.base.specs.Lists.{part, same}
+use Rattle.base.specs.Lists.{same}
 use Rattle.base.proofs.PickLaws.{yes, no, told, both-on, both_off}
-use Rattle.base.proofs.PartLaws.{part_to, length_part, sets-append}
+use Rattle.base.proofs.PartLaws.{sets-append}
 use Rattle.words.specs.Le.{le}
 use Rattle.words.proofs.LeLaws.{length-le}
-use Rattle.layout.specs.Shape.{leaves, width_of}
-use Rattle.layout.specs.Parts.{record_at, tag_at, node_at}
+use Rattle.layout.specs.Shape.{leaves}
 use Rattle.layout.specs.Shaped.{Shaped}
 use Rattle.layout.specs.declared.Shape.{Shape}
-use Rattle.answers.specs.declared.Answer.{Answer}
-use Rattle.answers.specs.declared.Answer.TheVariants as A
+use Rattle.answers.specs.Answer.{Answer}
+use Rattle.answers.specs.Answer as A
 use Rattle.answers.specs.declared.Place.TheVariants as P
 use Rattle.answers.specs.Numbers.{accepts}
-use Rattle.answers.proofs.StageLaws.{goes_on, stops, accepted_is}
+use Rattle.answers.proofs.StageLaws.{goes_on, stops}
 use Rattle.records.specs.declared.Gauge.{Gauge}
-use Rattle.nodes.specs.Nodes.{node_in, record_part}
+use Rattle.nodes.specs.Nodes.{node_in, record_part, tags_part}
 use Rattle.tree.specs.Path.{path_of}
 use Rattle.drive.specs.declared.Drive.{Drive}
 use Rattle.drive.specs.Drive.{shape_of, gauge_of}
 use Rattle.drive.specs.Opening.{measure_of}
 use Rattle.twins.specs.declared.Twins.{Twins}
 use Rattle.twins.specs.Collision.{message_of}
-use Rattle.twins.specs.Twins.{path_to, sizes_of, twins_answer, alike_in, same_node, meeting, found_in, twin_in, twins_of}
-use Rattle.twins.proofs.MessageLaws.{message-leaf, message-inner, message-long, long-some}
+use Rattle.twins.specs.Twins.{path_to, sizes_of, twins_answer, alike_in, meeting, found_in, twin_in, twins_of}
+use Rattle.twins.proofs.MessageLaws.{message_bottom, message-inner, message-long, long-some}
 use Rattle.twins.proofs.MeetLaws.{meeting-within}
 
 -- an answer that was tested
-pub tested : {a b : Answer} {x y : Bool} → a ≡ b → x ≡ accepts a → x ≡ y → accepts b ≡ y
-tested ea ex t = ap accepts (sym ea) ∙ sym ex ∙ t
+pub tested : {a b : Answer} {y : Bool} → a ≡ b → accepts a ≡ y → accepts b ≡ y
+tested ea t = ap accepts (sym ea) ∙ t
 
-module _ (d : Drive) (v : List ℕ) (n : ℕ) {s : Shape} {g : Gauge} {a : Answer} {x : Bool} (es : s ≡ shape_of d) (eg : g ≡ gauge_of d) (ea : a ≡ path_of s g v n) (ex : x ≡ accepts a) where
+module _ (d : Drive) (v : List ℕ) (n : ℕ) {s : Shape} {g : Gauge} {a : Answer} (es : s ≡ shape_of d) (eg : g ≡ gauge_of d) (ea : a ≡ path_of s g v n) where
   path_is : a ≡ path_of (shape_of d) (gauge_of d) v n
   path_is = ea ∙ rw (es, eg) refl
 
-  pub path_stops : x ≡ false → a ≡ path_to d v n
+  pub path_stops : accepts a ≡ false → a ≡ path_to d v n
   unfolding path_to
-  path_stops off = path_is ∙ sym (stops _ _ (tested path_is ex off))
+  path_stops off = path_is ∙ sym (stops _ _ (tested path_is off))
 
   top_is : {top : List ℕ} {y : Bool} → top ≡ node_in s v 1 → y ≡ same top d.node → same (node_in (shape_of d) v 1) d.node ≡ y
   top_is et ey = sym (ey ∙ rw (et, es) refl)
 
-  pub path-ends : x ≡ true → {top : List ℕ} {y : Bool} → top ≡ node_in s v 1 → y ≡ same top d.node → y ≡ true → a ≡ path_to d v n
+  pub path-ends : accepts a ≡ true → {top : List ℕ} {y : Bool} → top ≡ node_in s v 1 → y ≡ same top d.node → y ≡ true → A.Accepted ≡ path_to d v n
   unfolding path_to
-  path-ends on et ey t =
-      let p = tested path_is ex on in
-      path_is ∙ accepted_is _ p ∙ sym (goes_on _ _ p ∙ yes _ (top_is et ey ∙ t) refl)
+  path-ends on et ey t = sym (goes_on _ _ (tested path_is on) ∙ yes _ (top_is et ey ∙ t) refl)
 
-  pub path_other : x ≡ true → {top : List ℕ} {y : Bool} → top ≡ node_in s v 1 → y ≡ same top d.node → y ≡ false → A.Altered (P.Node 1) ≡ path_to d v n
+  pub path_other : accepts a ≡ true → {top : List ℕ} {y : Bool} → top ≡ node_in s v 1 → y ≡ same top d.node → y ≡ false → A.Altered (P.Node 1) ≡ path_to d v n
   unfolding path_to
-  path_other on et ey t = sym (goes_on _ _ (tested path_is ex on) ∙ no _ (top_is et ey ∙ t) refl)
+  path_other on et ey t = sym (goes_on _ _ (tested path_is on) ∙ no _ (top_is et ey ∙ t) refl)
 
-module _ (d : Drive) (v w : List ℕ) (n : ℕ) {a : Answer} {x : Bool} (ea : a ≡ measure_of d v) (ex : x ≡ accepts a) where
-  pub sizes-first : x ≡ false → a ≡ sizes_of d v w n
+module _ (d : Drive) (v w : List ℕ) (n : ℕ) {a : Answer} (ea : a ≡ measure_of d v) where
+  pub sizes-first : accepts a ≡ false → a ≡ sizes_of d v w n
   unfolding sizes_of
-  sizes-first off = ea ∙ sym (stops _ _ (tested ea ex off))
+  sizes-first off = ea ∙ sym (stops _ _ (tested ea off))
 
-  module _ (on : x ≡ true) {b : Answer} {y : Bool} (eb : b ≡ measure_of d w) (ey : y ≡ accepts b) where
-    pub sizes-second : y ≡ false → b ≡ sizes_of d v w n
+  module _ (on : accepts a ≡ true) {b : Answer} (eb : b ≡ measure_of d w) where
+    pub sizes-second : accepts b ≡ false → b ≡ sizes_of d v w n
     unfolding sizes_of
-    sizes-second off = eb ∙ sym (goes_on _ _ (tested ea ex on) ∙ stops _ _ (tested eb ey off))
+    sizes-second off = eb ∙ sym (goes_on _ _ (tested ea on) ∙ stops _ _ (tested eb off))
 
-    pub sizes_there : y ≡ true → n < d.n → b ≡ sizes_of d v w n
+    pub sizes_there : accepts b ≡ true → n < d.n → A.Accepted ≡ sizes_of d v w n
     unfolding sizes_of
-    sizes_there t h =
-        let q = tested eb ey t in
-        eb ∙ accepted_is _ q ∙ sym (goes_on _ _ (tested ea ex on) ∙ goes_on _ _ q ∙ yes _ (lt-ltb n d.n h) refl)
+    sizes_there t h = sym (goes_on _ _ (tested ea on) ∙ goes_on _ _ (tested eb t) ∙ yes _ (lt-ltb n d.n h) refl)
 
-    pub sizes-past : y ≡ true → d.n ≤ n → A.PastEnd ≡ sizes_of d v w n
+    pub sizes-past : accepts b ≡ true → d.n ≤ n → A.PastEnd ≡ sizes_of d v w n
     unfolding sizes_of
-    sizes-past t h = sym (goes_on _ _ (tested ea ex on) ∙ goes_on _ _ (tested eb ey t) ∙ no _ (le-ltb n d.n h) refl)
+    sizes-past t h = sym (goes_on _ _ (tested ea on) ∙ goes_on _ _ (tested eb t) ∙ no _ (le-ltb n d.n h) refl)
 
-module _ (d : Drive) (v w : List ℕ) (n : ℕ) {a : Answer} {x : Bool} (ea : a ≡ sizes_of d v w n) (ex : x ≡ accepts a) where
-  pub judge-first : x ≡ false → a ≡ twins_answer d v w n
+module _ (d : Drive) (v w : List ℕ) (n : ℕ) {a : Answer} (ea : a ≡ sizes_of d v w n) where
+  pub judge-first : accepts a ≡ false → a ≡ twins_answer d v w n
   unfolding twins_answer
-  judge-first off = ea ∙ sym (stops _ _ (tested ea ex off))
+  judge-first off = ea ∙ sym (stops _ _ (tested ea off))
 
-  pub judge-second : x ≡ true → {b : Answer} {y : Bool} → b ≡ path_to d v n → y ≡ accepts b → y ≡ false → b ≡ twins_answer d v w n
+  pub judge-second : accepts a ≡ true → {b : Answer} → b ≡ path_to d v n → accepts b ≡ false → b ≡ twins_answer d v w n
   unfolding twins_answer
-  judge-second on eb ey off = eb ∙ sym (goes_on _ _ (tested ea ex on) ∙ stops _ _ (tested eb ey off))
+  judge-second on eb off = eb ∙ sym (goes_on _ _ (tested ea on) ∙ stops _ _ (tested eb off))
 
-  pub judge-last : x ≡ true → {b c : Answer} {y : Bool} → b ≡ path_to d v n → y ≡ accepts b → y ≡ true → c ≡ path_to d w n → c ≡ twins_answer d v w n
+  pub judge-last : accepts a ≡ true → {b c : Answer} → b ≡ path_to d v n → accepts b ≡ true → c ≡ path_to d w n → c ≡ twins_answer d v w n
   unfolding twins_answer
-  judge-last on eb ey t ec = ec ∙ sym (goes_on _ _ (tested ea ex on) ∙ goes_on _ _ (tested eb ey t))
+  judge-last on eb t ec = ec ∙ sym (goes_on _ _ (tested ea on) ∙ goes_on _ _ (tested eb t))
 
--- the same part of both volumes
-pub parts_same : (v w : List ℕ) (at k : ℕ) {at' k' : ℕ} {r : Bool} → r ≡ same (part at (at + k - at) v) (part at (at + k - at) w) → at ≡ at' → k ≡ k'
-    → r ≡ same (part at' k' v) (part at' k' w)
-parts_same v w at k er ea ek = rw (er, part_to at k v, part_to at k w, ea, ek)
-
-pub node-same : (s : Shape) (v w : List ℕ) (i at : ℕ) {r : Bool} → r ≡ same (part at (at + 32 - at) v) (part at (at + 32 - at) w) → at ≡ node_at s i → r ≡ same_node s v w i
-unfolding same_node
-node-same s v w i at er ea = parts_same v w at 32 er ea refl
-
+-- the record bytes and tags of both volumes, as they were compared
 module _ (s : Shape) (v w : List ℕ) (n : ℕ) {b : Bool} (eb : b ≡ same (record_part s v n) (record_part s w n)) where
   pub alike_not : b ≡ false → false ≡ alike_in s v w n
   unfolding alike_in
   alike_not off = sym (both_off _ (sym eb ∙ off))
 
-  pub alike_if : b ≡ true → (at : ℕ) {r : Bool} → at ≡ tag_at s n 0 → r ≡ same (part at (at + 16 * s.p - at) v) (part at (at + 16 * s.p - at) w) → r ≡ alike_in s v w n
+  pub alike_if : b ≡ true → {r : Bool} → r ≡ same (tags_part s v n) (tags_part s w n) → r ≡ alike_in s v w n
   unfolding alike_in
-  alike_if on at ea er = parts_same v w at (16 * s.p) er ea refl ∙ sym (both-on (sym eb ∙ on) refl)
+  alike_if on er = er ∙ sym (both-on (sym eb ∙ on) refl)
 
 -- three pieces
 pub laid-long : (x y z : List ℕ) → length x + length y + length z ≡ length (x ++ (y ++ z))
@@ -118,36 +105,20 @@ pub laid : (o x y z : List ℕ) {p q r : List ℕ} → p ≡ sets o 0 x → q �
 laid o x y z ep eq er =
     er ∙ rw (eq, ep) (sym (sets-append o 0 x (y ++ z) (length x) (omega arith) ∙ sets-append (sets o 0 x) (length x) y z (length x + length y) refl))
 
--- of which two stand in the volume
-module _ (s : Shape) (v x : List ℕ) (at k to m : ℕ) where
-  pub parts_room : (room : ℕ) → at + k ≤ length v → to + m ≤ length v → length x + k + m ≤ room
-      → length x + length (part at (at + k - at) v) + length (part to (to + m - to) v) ≤ room
-  parts_room room a b h = rw (part_to at k v, part_to to m v) (omega (arith, length_part at k v a, length_part to m v b, h))
+-- which are a message
+pub laid_message : (o m : List ℕ) {l : List ℕ} {r : ℕ} {e : List ℕ} → l ≡ m → (r ≡ length l) × (e ≡ sets o 0 l) → (r ≡ length m) × (e ≡ sets o 0 m)
+laid_message o m el p = (p.0 ∙ ap length el, p.1 ∙ ap (λ (x : List ℕ). sets o 0 x) el)
 
-  pub parts_laid : (o message : List ℕ) {r : ℕ} {e : List ℕ} → x ++ (part at k v ++ part to m v) ≡ message
-      → r ≡ length (x ++ (part at (at + k - at) v ++ part to (to + m - to) v)) → e ≡ sets o 0 (x ++ (part at (at + k - at) v ++ part to (to + m - to) v))
-      → (r ≡ length message) × (e ≡ sets o 0 message)
-  parts_laid o message eq er ee =
-      let whole : x ++ (part at (at + k - at) v ++ part to (to + m - to) v) ≡ message = rw (part_to at k v, part_to to m v) eq in
-      (er ∙ ap length whole, ee ∙ ap (λ (l : List ℕ). sets o 0 l) whole)
+module _ (s : Shape) (v : List ℕ) (i : ℕ) where
+  pub inner_is : {x y : List ℕ} → i < leaves s.n → x ≡ node_in s v (2 * i) → y ≡ node_in s v (2 * i + 1) → (0x54 ∷ []) ++ (x ++ y) ≡ message_of s v i
+  inner_is h ex ey = rw (ex, ey) (sym (message-inner s v i h))
 
-pub leaf_is : (s : Shape) (v x : List ℕ) (n : ℕ) {at k to : ℕ} → x ≡ 0x4C ∷ le 4 n → at ≡ record_at s n → k ≡ width_of s → to ≡ tag_at s n 0
-    → x ++ (part at k v ++ part to (16 * s.p) v) ≡ message_of s v (leaves s.n + n)
-leaf_is s v x n ex ea ek et = rw (ex, ea, ek, et) (sym (message-leaf s v n))
-
-pub inner_is : (s : Shape) (v : List ℕ) (i : ℕ) {at to : ℕ} → i < leaves s.n → at ≡ node_at s (2 * i) → to ≡ node_at s (2 * i + 1)
-    → (0x54 ∷ []) ++ (part at 32 v ++ part to 32 v) ≡ message_of s v i
-inner_is s v i h ea et = rw (ea, et) (sym (message-inner s v i h))
+  pub leaf_is : {first : ℕ} {x y z : List ℕ} → first ≡ leaves s.n → first ≤ i → x ≡ 0x4C ∷ le 4 (i - first) → y ≡ record_part s v (i - first) → z ≡ tags_part s v (i - first)
+      → x ++ (y ++ z) ≡ message_of s v i
+  leaf_is ef h ex ey ez = rw (ex, ey, ez, ef) (sym (message_bottom s v i (rw (sym ef) h)))
 
 pub start-long : (x : List ℕ) (n : ℕ) → x ≡ 0x4C ∷ le 4 n → length x ≡ 5
 start-long x n e = ap length e ∙ omega (arith, length-le 4 n)
-
-pub leaf-at : (s : Shape) (v : List ℕ) (i x : ℕ) (o : List ℕ) {r : ℕ} {e : List ℕ} → x ≡ leaves s.n → x ≤ i
-    → (r ≡ length (message_of s v (leaves s.n + (i - x)))) × (e ≡ sets o 0 (message_of s v (leaves s.n + (i - x))))
-    → (r ≡ length (message_of s v i)) × (e ≡ sets o 0 (message_of s v i))
-leaf-at s v i x o ex h p =
-    let z : leaves s.n + (i - x) ≡ i = omega (arith, ex, h) in
-    (p.0 ∙ ap (λ (j : ℕ). length (message_of s v j)) z, p.1 ∙ ap (λ (j : ℕ). sets o 0 (message_of s v j)) z)
 
 -- what is found
 module _ (s : Shape) (v w : List ℕ) (n : ℕ) where
@@ -184,7 +155,7 @@ module _ (s : Shape) (v w : List ℕ) (n : ℕ) where
       go (inr e) =
           rw (found_other e v, message-long s v l (meeting s v w n) (meeting-within s v w n l h).1) (long-some s (meeting s v w n) l).1
 
-module _ (d : Drive) (v w : List ℕ) (n : ℕ) {a : Answer} {x : Bool} (ea : a ≡ twins_answer d v w n) (ex : x ≡ accepts a) where
+module _ (d : Drive) (v w : List ℕ) (n : ℕ) {a : Answer} (ea : a ≡ twins_answer d v w n) where
   abbrev pub Found : Twins → List ℕ → List ℕ → List ℕ → List ℕ → Type 0
   Found t one one' two two' = (t ≡ twins_of d v w n) × (one' ≡ sets one 0 (twin_in d v w n v)) × (two' ≡ sets two 0 (twin_in d v w n w))
 
@@ -193,17 +164,17 @@ module _ (d : Drive) (v w : List ℕ) (n : ℕ) {a : Answer} {x : Bool} (ea : a 
   unfolding twins_of
   found_by r one two er e f = ((λ i. record { answer = ea i; length = er i }), e, f)
 
-  pub find-accepted : x ≡ true → (one two : List ℕ) {s : Shape} {r : ℕ} {one' two' : List ℕ} → s ≡ shape_of d → Laid s v w n r one one' two two'
+  pub find-accepted : accepts a ≡ true → (one two : List ℕ) {s : Shape} {r : ℕ} {one' two' : List ℕ} → s ≡ shape_of d → Laid s v w n r one one' two two'
       → Found (record { answer = a; length = r }) one one' two two'
   unfolding twin_in
   find-accepted on one two {s} {r} es p =
-      let f : found_in s v w n v ≡ twin_in d v w n v = ap (λ (t : Shape). found_in t v w n v) es ∙ sym (yes _ (tested ea ex on) refl) in
-      let g : found_in s v w n w ≡ twin_in d v w n w = ap (λ (t : Shape). found_in t v w n w) es ∙ sym (yes _ (tested ea ex on) refl) in
+      let f : found_in s v w n v ≡ twin_in d v w n v = ap (λ (t : Shape). found_in t v w n v) es ∙ sym (yes _ (tested ea on) refl) in
+      let g : found_in s v w n w ≡ twin_in d v w n w = ap (λ (t : Shape). found_in t v w n w) es ∙ sym (yes _ (tested ea on) refl) in
       found_by r one two (p.0 ∙ ap length f) (p.1 ∙ ap (λ (l : List ℕ). sets one 0 l) f) (p.2 ∙ ap (λ (l : List ℕ). sets two 0 l) g)
 
-  pub find-refused : x ≡ false → (one two : List ℕ) → Found (record { answer = a; length = 0 }) one one two two
+  pub find-refused : accepts a ≡ false → (one two : List ℕ) → Found (record { answer = a; length = 0 }) one one two two
   unfolding twin_in
   find-refused off one two =
-      let f : [] ≡ twin_in d v w n v = sym (no _ (tested ea ex off) refl) in
-      let g : [] ≡ twin_in d v w n w = sym (no _ (tested ea ex off) refl) in
+      let f : [] ≡ twin_in d v w n v = sym (no _ (tested ea off) refl) in
+      let g : [] ≡ twin_in d v w n w = sym (no _ (tested ea off) refl) in
       found_by 0 one two (ap length f) (ap (λ (l : List ℕ). sets one 0 l) f) (ap (λ (l : List ℕ). sets two 0 l) g)

@@ -4,7 +4,7 @@ use Rattle.std.specs.Prelude.{◌≡◌, false, List, ℕ, ◌<◌, ◌≤◌, l
 use Rattle.std.proofs.lemmas.List.Edits.{sets}
 use Rattle.layout.specs.Shaped.{Shaped}
 use Rattle.layout.specs.declared.Shape.{Shape}
-use Rattle.answers.specs.declared.Answer.TheVariants as A
+use Rattle.answers.specs.Answer as A
 use Rattle.answers.specs.Numbers.{accepts}
 use Rattle.records.specs.declared.Gauge.{Gauge}
 use Rattle.nodes.specs.Nodes.{node_in}

@@ -4,8 +4,8 @@ use Rattle.base.specs.Pick.{pick, both}
 use Rattle.base.specs.Lists.{same}
 use Rattle.layout.specs.Shape.{height_of, leaves}
 use Rattle.layout.specs.declared.Shape.{Shape}
-use Rattle.answers.specs.declared.Answer.{Answer}
-use Rattle.answers.specs.declared.Answer.TheVariants as A
+use Rattle.answers.specs.Answer.{Answer}
+use Rattle.answers.specs.Answer as A
 use Rattle.answers.specs.declared.Place.TheVariants as P
 use Rattle.answers.specs.Numbers.{accepts}
 use Rattle.answers.specs.Stages.{and_then}

@@ -6,15 +6,17 @@ ghost use Rattle.std.specs.Prelude.{◌≡◌, ◌++◌, ◌+◌, ◌*◌, ◌<�
 ghost use Rattle.std.proofs.lemmas.List.Edits.{sets};
 ghost use Rattle.layout.specs.Shape.{leaves};
 ghost use Rattle.layout.specs.Shaped.{Shaped};
+ghost use Rattle.nodes.specs.Nodes.{node_in, record_part, tags_part};
 ghost use Rattle.drive.specs.Drive.{shape_of};
 ghost use Rattle.twins.specs.Collision.{message_of};
 ghost use Rattle.twins.specs.Twins.{path_to, sizes_of, twins_answer, alike_in, same_node, meeting, found_in, twin_in, twins_of};
 
-use answers::{Answer, Place};
+use answers::{Answer, Place, Refusal};
 use drive::Drive;
 use layout::Shape;
 
 // What was answered, and how long the two messages are; 0 if there are none.
+// No Result of a length: `TwinsRefused` speaks of the length that a refusal hands back.
 #[derive(Clone, Copy)]
 pub struct Twins {
     pub answer: Answer,
@@ -27,49 +29,61 @@ fn path_to(d: Drive, vol: &[u8], n: u32) -> Answer
     ensures { result ≡ path_to d vol.now n }
 {
     let s = drive::shape_of(d);
-    let a = tree::path(vol, s, drive::gauge_of(d), n);
-    if answers::accepted(a) {
-        let top = nodes::first(vol, s);
-        let node = d.node;
-        if words::equal(&top, &node) {
-            return a;
-        }
-        return Answer::Altered(Place::Node(1));
+    tree::path(vol, s, drive::gauge_of(d), n)?;
+    if !words::equal(&nodes::first(vol, s), &d.node) {
+        return Err(Refusal::Altered(Place::Node(1)));
     }
-    a
+    Ok(())
 }
 
 // "1, 2, 8"
 fn sizes(d: Drive, first: &[u8], second: &[u8], n: u32) -> Answer
     ensures { result ≡ sizes_of d first.now second.now n }
 {
-    let a = drive::measure(d, first);
-    if answers::accepted(a) {
-        let b = drive::measure(d, second);
-        if answers::accepted(b) {
-            if n < d.n {
-                return b;
-            }
-            return Answer::PastEnd;
-        }
-        return b;
+    drive::measure(d, first)?;
+    drive::measure(d, second)?;
+    if d.n <= n {
+        return Err(Refusal::PastEnd);
     }
-    a
+    Ok(())
 }
 
 // "then 7 path for the first volume, then the second"
 fn judge(d: Drive, first: &[u8], second: &[u8], n: u32) -> Answer
     ensures { result ≡ twins_answer d first.now second.now n }
 {
-    let a = sizes(d, first, second, n);
-    if answers::accepted(a) {
-        let b = path_to(d, first, n);
-        if answers::accepted(b) {
-            return path_to(d, second, n);
-        }
-        return b;
-    }
-    a
+    sizes(d, first, second, n)?;
+    path_to(d, first, n)?;
+    path_to(d, second, n)
+}
+
+// The record bytes of nugget n: 18 in version 1, 26 in version 2.
+fn record_bytes(vol: &[u8], s: Shape, n: u32) -> &[u8]
+    requires { Shaped s vol.now × (n < s.n) }
+    ensures { result.now ≡ record_part s vol.now n }
+{
+    let at = layout::record_at(s, n);
+    let end = at + layout::width_of(s);
+    &vol[at..end]
+}
+
+// The tags of nugget n.
+fn tag_bytes(vol: &[u8], s: Shape, n: u32) -> &[u8]
+    requires { Shaped s vol.now × (n < s.n) }
+    ensures { result.now ≡ tags_part s vol.now n }
+{
+    let at = layout::tag_at(s, n, 0);
+    let end = at + 16 * (s.p as usize);
+    &vol[at..end]
+}
+
+fn node_bytes(vol: &[u8], s: Shape, i: u32) -> &[u8]
+    requires { Shaped s vol.now × (1 ≤ i) × (i < 2 * leaves s.n) }
+    ensures { result.now ≡ node_in s vol.now i }
+{
+    let at = layout::node_at(s, i);
+    let end = at + 32;
+    &vol[at..end]
 }
 
 // Whether record bytes and tags of nugget n agree.
@@ -77,25 +91,8 @@ fn alike(first: &[u8], second: &[u8], s: Shape, n: u32) -> bool
     requires { Shaped s first.now × Shaped s second.now × (n < s.n) }
     ensures { result ≡ alike_in s first.now second.now n }
 {
-    let record = layout::record_at(s, n);
-    let record_end = record + layout::width_of(s);
-    if words::equal(&first[record..record_end], &second[record..record_end]) {
-        let tags = layout::tag_at(s, n, 0);
-        let tags_end = tags + 16 * (s.p as usize);
-        words::equal(&first[tags..tags_end], &second[tags..tags_end])
-    } else {
-        false
-    }
-}
-
-// Whether both volumes have the same node i.
-fn same_node(first: &[u8], second: &[u8], s: Shape, i: u32) -> bool
-    requires { Shaped s first.now × Shaped s second.now × (1 ≤ i) × (i < 2 * leaves s.n) }
-    ensures { result ≡ same_node s first.now second.now i }
-{
-    let at = layout::node_at(s, i);
-    let end = at + 32;
-    words::equal(&first[at..end], &second[at..end])
+    words::equal(record_bytes(first, s, n), record_bytes(second, s, n))
+        && words::equal(tag_bytes(first, s, n), tag_bytes(second, s, n))
 }
 
 // The first node from the leaf up that both volumes have alike; node 1, where no other is.
@@ -103,14 +100,12 @@ fn meet(first: &[u8], second: &[u8], s: Shape, n: u32) -> u32
     requires { Shaped s first.now × Shaped s second.now × (n < s.n) }
     ensures { result ≡ meeting s first.now second.now n }
 {
-    let mut k = layout::height_of(s.n);
     let mut i = (layout::leaves_of(s.n) as u32) + n;
-    while 0 < k {
-        if same_node(first, second, s, i) {
+    for _above in 0..layout::height_of(s.n) {
+        if words::equal(node_bytes(first, s, i), node_bytes(second, s, i)) {
             return i;
         }
-        i = i / 2;
-        k -= 1;
+        i /= 2;
     }
     i
 }
@@ -129,46 +124,8 @@ fn lay(out: &mut [u8], x: &[u8], y: &[u8], z: &[u8]) -> usize
     b + z.len()
 }
 
-// "`L`, nugget (4), the 18 record bytes, the nugget's P tags": 18 bytes in version 1, 26 in version 2
-fn lay_leaf(vol: &[u8], s: Shape, n: u32, out: &mut [u8]) -> usize
-    requires { Shaped s vol.now × (n < s.n) × (1055 ≤ length out.old) }
-    ensures { (result ≡ length (message_of s vol.now (leaves s.n + n)))
-        × (out.new ≡ sets out.old 0 (message_of s vol.now (leaves s.n + n))) }
-{
-    let record = layout::record_at(s, n);
-    let record_end = record + layout::width_of(s);
-    let tags = layout::tag_at(s, n, 0);
-    let tags_end = tags + 16 * (s.p as usize);
-    let mut start = [0u8; 5];
-    start[0] = b'L';
-    words::store(&mut start, 1, 4, n as u64);
-    lay(
-        &mut *out,
-        &start,
-        &vol[record..record_end],
-        &vol[tags..tags_end],
-    )
-}
-
-// "`T`, node 2i, node 2i + 1"
-fn lay_inner(vol: &[u8], s: Shape, i: u32, out: &mut [u8]) -> usize
-    requires { Shaped s vol.now × (1 ≤ i) × (i < leaves s.n) × (1055 ≤ length out.old) }
-    ensures { (result ≡ length (message_of s vol.now i))
-        × (out.new ≡ sets out.old 0 (message_of s vol.now i)) }
-{
-    let left = layout::node_at(s, 2 * i);
-    let left_end = left + 32;
-    let right = layout::node_at(s, 2 * i + 1);
-    let right_end = right + 32;
-    lay(
-        &mut *out,
-        &[b'T'],
-        &vol[left..left_end],
-        &vol[right..right_end],
-    )
-}
-
-// What is hashed for node i, a nugget's leaf or a node above it.
+// What is hashed for node i. Of a nugget's leaf: "`L`, nugget (4), the 18 record bytes, the nugget's P tags"; of a node above it:
+// "`T`, node 2i, node 2i + 1".
 fn lay_message(vol: &[u8], s: Shape, i: u32, out: &mut [u8]) -> usize
     requires { Shaped s vol.now × (1 ≤ i) × (i < leaves s.n + s.n) × (1055 ≤ length out.old) }
     ensures { (result ≡ length (message_of s vol.now i))
@@ -176,9 +133,22 @@ fn lay_message(vol: &[u8], s: Shape, i: u32, out: &mut [u8]) -> usize
 {
     let first = layout::leaves_of(s.n) as u32;
     if i < first {
-        return lay_inner(vol, s, i, &mut *out);
+        return lay(
+            &mut *out,
+            &[b'T'],
+            node_bytes(vol, s, 2 * i),
+            node_bytes(vol, s, 2 * i + 1),
+        );
     }
-    lay_leaf(vol, s, i - first, &mut *out)
+    let n = i - first;
+    let mut start = [b'L', 0, 0, 0, 0];
+    words::store(&mut start, 1, 4, u64::from(n));
+    lay(
+        &mut *out,
+        &start,
+        record_bytes(vol, s, n),
+        tag_bytes(vol, s, n),
+    )
 }
 
 // The two messages of the node where the paths meet; none if record and tags agree.
@@ -196,26 +166,6 @@ fn lay_twins(first: &[u8], second: &[u8], s: Shape, n: u32, one: &mut [u8], two:
     lay_message(first, s, i, &mut *one)
 }
 
-fn find_in(d: Drive, first: &[u8], second: &[u8], n: u32, one: &mut [u8], two: &mut [u8]) -> Twins
-    requires { (1055 ≤ length one.old) × (1055 ≤ length two.old) }
-    ensures { (result ≡ twins_of d first.now second.now n)
-        × (one.new ≡ sets one.old 0 (twin_in d first.now second.now n first.now))
-        × (two.new ≡ sets two.old 0 (twin_in d first.now second.now n second.now)) }
-{
-    let a = judge(d, first, second, n);
-    if answers::accepted(a) {
-        let k = lay_twins(first, second, drive::shape_of(d), n, &mut *one, &mut *two);
-        return Twins {
-            answer: a,
-            length: k as u32,
-        };
-    }
-    Twins {
-        answer: a,
-        length: 0,
-    }
-}
-
 // Of one nugget, for one drive and two volumes. A message is at most 5 + 26 + 16 * 64 bytes long.
 pub fn find(
     d: Drive,
@@ -229,5 +179,10 @@ pub fn find(
         × (one.new ≡ sets one.old 0 (twin_in d first.now second.now n first.now))
         × (two.new ≡ sets two.old 0 (twin_in d first.now second.now n second.now)) }
 {
-    find_in(d, first, second, n, one, two)
+    let answer = judge(d, first, second, n);
+    if answer.is_err() {
+        return Twins { answer, length: 0 };
+    }
+    let length = lay_twins(first, second, drive::shape_of(d), n, one, two) as u32;
+    Twins { answer, length }
 }

@@ -13,8 +13,8 @@ use Rattle.layout.specs.Shape.{in_limits}
 use Rattle.layout.specs.Spots.{spot_at, capacity}
 use Rattle.layout.specs.Shaped.{Shaped}
 use Rattle.layout.proofs.Limits.{limits}
-use Rattle.answers.specs.declared.Answer.{Answer}
-use Rattle.answers.specs.declared.Answer.TheVariants as A
+use Rattle.answers.specs.Answer.{Answer}
+use Rattle.answers.specs.Answer as A
 use Rattle.answers.specs.Numbers.{accepts}
 use Rattle.answers.proofs.StageLaws.{goes_on, stops, first-answers}
 use Rattle.records.specs.declared.Record.{Record}

@@ -1,5 +1,9 @@
 -- No second outcome meets the words of a public function: each theorem is over its own `ensures`.
 use mathlib.Core.Path.{refl}
+use denote.Param.Laws.{Laws}
+use denote.RattleType.{RattleType}
+use mir.Syntax.{Dict}
+use Rattle.laying.specs.declared.source.Source.{Ghosts}
 use Rattle.base.specs.Outcome.{OneOutcome}
 use Rattle.base.proofs.OutcomeLaws.{agree, ◌∥◌}
 use Rattle.writing.proofs as fn
@@ -16,6 +20,9 @@ mark_span κs a x y u v p q = (refl, refl ∥ agree p q ∥ refl)
 
 pub tend_span : OneOutcome said.tend_span.ended fn.tend_span.Reads.Post
 tend_span κs a x y u v p q = (refl, refl ∥ agree p q ∥ refl)
+
+pub store : (S : RattleType) (laws : Laws S) (ghosts : Ghosts S.Denot) (dict : Dict) → OneOutcome (said.store.ended S ghosts dict) (fn.store.Reads.Post S laws ghosts dict)
+store S laws ghosts dict κs a x y u v p q = (agree p.0 q.0, refl ∥ agree p.1 q.1 ∥ refl)
 
 pub write : OneOutcome said.write.ended fn.write.Reads.Post
 write κs a x y u v p q = (agree p.0 q.0, refl ∥ agree p.1 q.1 ∥ refl)

@@ -12,8 +12,9 @@ ghost use Rattle.changes.specs.Change.{nugget_change, tested_to, pads_for, marke
 ghost use Rattle.changes.specs.Write.{write_way, write_answer, new_contents, write_work, written_drive, write_done, write_volume};
 ghost use Rattle.writing.specs.Room.{Room};
 
-use answers::Answer;
+use answers::{Answer, Refusal};
 use drive::{Done, Drive};
+use laying::{Source, Written};
 use layout::Shape;
 use records::Way;
 
@@ -33,12 +34,9 @@ fn test_rekey(d: Drive, vol: &[u8], n: u32) -> Answer
     requires { Shaped (shape_of d) vol.now × (n < d.n) }
     ensures { result ≡ nugget_change d vol.now n sweep_way }
 {
-    let a = nuggets::test_path(d, vol, n);
-    if answers::accepted(a) {
-        let g = nuggets::nugget_of(d, vol, n);
-        return nuggets::flakes(vol, drive::shape_of(d), g, g.held);
-    }
-    a
+    nuggets::test_path(d, vol, n)?;
+    let g = nuggets::nugget_of(d, vol, n);
+    nuggets::flakes(vol, drive::shape_of(d), g, g.held)
 }
 
 // "a write without rekey tests none": the path alone.
@@ -47,10 +45,9 @@ fn test_nugget(d: Drive, vol: &[u8], n: u32, way: Way) -> Answer
     ensures { result ≡ nugget_change d vol.now n way }
 {
     match way {
-        Way::Idle => Answer::Accepted,
-        Way::Add(_) => nuggets::test_path(d, vol, n),
+        Way::Idle => Ok(()),
         Way::Rekey(_) => test_rekey(d, vol, n),
-        Way::Clear(_) => nuggets::test_path(d, vol, n),
+        Way::Add(_) | Way::Clear(_) => nuggets::test_path(d, vol, n),
     }
 }
 
@@ -60,66 +57,54 @@ fn test_span(d: Drive, vol: &[u8], o: usize, len: usize) -> Answer
     ensures { result ≡ tested_to d vol.now (write_way d vol.now o len) d.n }
 {
     let span = nuggets::span_of(drive::shape_of(d), o, len);
-    let mut n = span.first;
-    while n < span.end {
+    for n in span.first..span.end {
         let way = way_at(d, vol, o, len, n);
-        let a = test_nugget(d, vol, n, way);
-        if answers::accepted(a) {
-            n += 1;
-        } else {
-            return a;
-        }
+        test_nugget(d, vol, n, way)?;
     }
-    Answer::Accepted
+    Ok(())
 }
 
 // "All others start 1, 2, 7 head"; "Write: 8, 13 unless empty, nuggets."
 pub fn admit(d: Drive, vol: &[u8], offset: u64, len: usize) -> Answer
     ensures { result ≡ write_answer d vol.now offset len }
 {
-    let a = drive::opening(d, vol);
-    if answers::accepted(a) {
-        if nuggets::fits(drive::shape_of(d), offset, len) {
-            if len == 0 {
-                return Answer::Accepted;
-            }
-            if d.counter == 0xffff_ffff_ffff_ffff {
-                return Answer::CounterTop;
-            }
-            return test_span(d, vol, offset as usize, len);
-        }
-        return Answer::PastEnd;
+    drive::opening(d, vol)?;
+    if !nuggets::fits(drive::shape_of(d), offset, len) {
+        Err(Refusal::PastEnd)
+    } else if len == 0 {
+        Ok(())
+    } else if d.counter == u64::MAX {
+        Err(Refusal::CounterTop)
+    } else {
+        test_span(d, vol, offset as usize, len)
     }
-    a
 }
 
 // Flakes and tags of the nuggets that the range meets; each nugget's own still stand as the tests saw them when its turn comes.
-fn lay_span(d: Drive, vol: &mut [u8], o: usize, bytes: &[u8])
-    requires { Shaped (shape_of d) vol.old × (0 < length bytes.now) × (o + length bytes.now ≤ capacity (shape_of d))
-        × Room d vol.old o (length bytes.now) }
-    ensures { vol.new ≡ laid (shape_of d) d.salt (new_contents d vol.old o bytes.now)
-        (pads_for d vol.old (write_way d vol.old o (length bytes.now))) vol.old }
+fn lay_span<S: Source>(d: Drive, vol: &mut [u8], new: &S)
+    requires { Shaped (shape_of d) vol.old × (0 < length (S.bytes new.now)) × S.fits new.now (shape_of d)
+        × Room d vol.old (S.offset new.now) (length (S.bytes new.now)) }
+    ensures { vol.new ≡ laid (shape_of d) d.salt (new_contents d vol.old (S.offset new.now) (S.bytes new.now))
+        (pads_for d vol.old (write_way d vol.old (S.offset new.now) (length (S.bytes new.now)))) vol.old }
 {
-    let span = nuggets::span_of(drive::shape_of(d), o, bytes.len());
-    let mut n = span.first;
-    while n < span.end {
-        let way = way_at(d, vol, o, bytes.len(), n);
-        laying::lay(d, &mut *vol, n, way, o, bytes);
-        n += 1;
+    let o = new.offset();
+    let len = new.len();
+    let span = nuggets::span_of(drive::shape_of(d), o, len);
+    for n in span.first..span.end {
+        let way = way_at(d, vol, o, len, n);
+        laying::lay(d, vol, n, way, new);
     }
 }
 
-// Their records.
+// Their records. This walk, the one before and the next stay three: one over a step handed in has to say what each step asks and leaves.
 pub fn mark_span(d: Drive, vol: &mut [u8], o: usize, len: usize)
     requires { Shaped (shape_of d) vol.old × (0 < len) × (o + len ≤ capacity (shape_of d)) × Room d vol.old o len }
     ensures { vol.new ≡ marked_to (shape_of d) d.epoch (write_way d vol.old o len) vol.old d.n vol.old }
 {
     let span = nuggets::span_of(drive::shape_of(d), o, len);
-    let mut n = span.first;
-    while n < span.end {
+    for n in span.first..span.end {
         let way = way_at(d, vol, o, len, n);
-        laying::mark(d, &mut *vol, n, way);
-        n += 1;
+        laying::mark(d, vol, n, way);
     }
 }
 
@@ -130,25 +115,26 @@ pub fn tend_span(d: Drive, vol: &mut [u8], o: usize, len: usize)
 {
     let s = drive::shape_of(d);
     let span = nuggets::span_of(s, o, len);
-    let mut n = span.first;
-    while n < span.end {
+    for n in span.first..span.end {
         let way = way_at(d, vol, o, len, n);
-        laying::tend(&mut *vol, s, n, way);
-        n += 1;
+        laying::tend(vol, s, n, way);
     }
 }
 
-// All stores, once all tests are passed.
-fn store(d: Drive, vol: &mut [u8], o: usize, bytes: &[u8]) -> Drive
-    requires { Shaped (shape_of d) vol.old × (0 < length bytes.now) × (o + length bytes.now ≤ capacity (shape_of d))
-        × Room d vol.old o (length bytes.now) × (d.counter < counter_top) }
-    ensures { (result ≡ written_drive d vol.old o bytes.now)
-        × (vol.new ≡ settled (written_drive d vol.old o bytes.now) (write_work d vol.old o bytes.now)) }
+// All stores, once all tests are passed; an import's bytes are stored so too.
+pub fn store<S: Source>(d: Drive, vol: &mut [u8], new: &S) -> Drive
+    requires { Shaped (shape_of d) vol.old × (0 < length (S.bytes new.now)) × S.fits new.now (shape_of d)
+        × Room d vol.old (S.offset new.now) (length (S.bytes new.now)) × (d.counter < counter_top) }
+    ensures { (result ≡ written_drive d vol.old (S.offset new.now) (S.bytes new.now))
+        × (vol.new ≡ settled (written_drive d vol.old (S.offset new.now) (S.bytes new.now))
+        (write_work d vol.old (S.offset new.now) (S.bytes new.now))) }
 {
-    lay_span(d, &mut *vol, o, bytes);
-    mark_span(d, &mut *vol, o, bytes.len());
-    tend_span(d, &mut *vol, o, bytes.len());
-    laying::advance(d, &mut *vol)
+    let o = new.offset();
+    let len = new.len();
+    lay_span(d, vol, new);
+    mark_span(d, vol, o, len);
+    tend_span(d, vol, o, len);
+    laying::advance(d, vol)
 }
 
 // "A refusal stores nothing and returns the drive as given"; an empty write too.
@@ -156,18 +142,12 @@ pub fn write(d: Drive, vol: &mut [u8], offset: u64, bytes: &[u8]) -> Done
     ensures { (result ≡ write_done d vol.old offset bytes.now)
         × (vol.new ≡ write_volume d vol.old offset bytes.now) }
 {
-    let a = admit(d, vol, offset, bytes.len());
-    if answers::accepted(a) {
-        if 0 < bytes.len() {
-            let next = store(d, &mut *vol, offset as usize, bytes);
-            return Done {
-                answer: a,
-                drive: next,
-            };
-        }
-    }
-    Done {
-        answer: a,
-        drive: d,
-    }
+    let answer = admit(d, vol, offset, bytes.len());
+    let drive = if answer.is_ok() && !bytes.is_empty() {
+        let offset = offset as usize;
+        store(d, vol, &Written { offset, bytes })
+    } else {
+        d
+    };
+    Done { answer, drive }
 }

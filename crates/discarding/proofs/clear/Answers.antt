@@ -4,22 +4,13 @@ use Rattle.layout.proofs.Limits.{limits}
 use Rattle.records.specs.declared.Way.TheVariants.{Clear}
 use Rattle.records.specs.Record.{record_of}
 use Rattle.drive.specs.Drive.{shape_of}
-use Rattle.base.proofs.PickLaws.{clash}
 use Prim.Native.Nat.{ℕ}
 use native.Mathlib.Omega.{arith}
-use mathlib.Core.Path.{refl, ◌∙◌, ap}
+use mathlib.Core.Path.{◌∙◌, ap}
 use Rattle.discarding.proofs.clear.Goals as goal
 
 pub range_of-range-requires : goal.range_of-range-requires
 range_of-range-requires c = omega (arith, c.requires.2, (limits (shape_of c.args.d) c.requires.0.limited).narrow)
-
-pub mark-requires : goal.mark-requires
-mark-requires c = (c.requires.0, c.requires.1, λ e. absurd (clash e refl))
-
-pub tend-requires : goal.tend-requires
-tend-requires c =
-    let l = c.requires.0 in
-    rw c.shape_of.ensures (record { limited = l.limited; size = c.mark.auto.vol ∙ l.size }, c.requires.1)
 
 pub returns : goal.returns
 returns c =

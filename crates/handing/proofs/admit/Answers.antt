@@ -1,13 +1,16 @@
-use mathlib.Core.Path.{sym, ◌∙◌}
+use mathlib.Core.Path.{ap, ◌∙◌}
+use Rattle.answers.specs.Numbers.{accepts}
+use Rattle.answers.proofs.StageLaws.{handed}
 use Rattle.handing.proofs.HandLaws.{hand_closed, hand_then}
 use Rattle.handing.proofs.admit.Goals as goal
-
-pub returns-then-accepted : goal.returns-then-accepted
-returns-then-accepted c =
-    let a = c.args in
-    hand_then a.d a.vol.now a.one a.two a.len c.opening-a.ensures (sym c.accepted.ensures ∙ c.if-accepted.true) c.shape_of.ensures c.in_sectors-fits.ensures c.equal-twice.ensures c.length_then_keys.ensures
 
 pub returns : goal.returns
 returns c =
     let a = c.args in
-    hand_closed a.d a.vol.now a.one a.two a.len c.opening-a.ensures (sym c.accepted.ensures ∙ c.if-accepted.false)
+    hand_then a.d a.vol.now a.one a.two a.len c.opening.ensures (ap accepts c.in_ok-opening.was) c.shape_of.ensures c.in_sectors-fits.ensures c.equal.ensures c.length_then_keys.ensures
+
+pub returns-in_err-opening : goal.returns-in_err-opening
+returns-in_err-opening c =
+    let a = c.args in
+    handed _ _ _ c.from_residual.ensures.1 c.in_err-opening.was
+    ∙ hand_closed a.d a.vol.now a.one a.two a.len c.opening.ensures (ap accepts c.in_err-opening.was)

@@ -1,13 +1,6 @@
 use Rattle.laying.proofs.ChangeLaws.{advanced_is}
-use Rattle.layout.specs.Shaped.{Shaped}
-use Rattle.layout.specs.declared.Shape.{Shape}
-use mathlib.Core.Path.{sym, subst, ◌∙◌}
+use mathlib.Core.Path.{◌∙◌}
 use Rattle.laying.proofs.advanced_drive.Goals as goal
-
-pub first-node-requires : goal.first-node-requires
-first-node-requires c =
-    let a = c.args in
-    subst (λ (s : Shape). Shaped s a.vol.now) (sym c.shape_of.ensures) c.requires.0
 
 pub returns : goal.returns
 returns c =

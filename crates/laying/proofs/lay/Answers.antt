@@ -1,16 +1,8 @@
 use Rattle.laying.proofs.FlakeLaws.{lay_is}
-use Rattle.laying.proofs.ChangeLaws.{read_is, rise_told}
+use Rattle.laying.proofs.ChangeLaws.{read_is}
 use Rattle.laying.proofs.lay.Goals as goal
 
-pub read-r-requires : goal.read-r-requires
-read-r-requires c = rw c.shape_of.ensures (c.requires.0, c.requires.1)
-
-pub turn-after-requires : goal.turn-after-requires
-turn-after-requires c =
-    let a = c.args in
-    rise_told a.way (read_is a.vol.now a.n c.read-r.ensures c.shape_of.ensures) c.requires.3
-
 pub returns : goal.returns
-returns c =
+returns g c =
     let a = c.args in
-    lay_is a.d a.vol.now a.n a.way a.o a.bytes.now (read_is a.vol.now a.n c.read-r.ensures c.shape_of.ensures) c.turn-after.ensures c.enciphers-mask.ensures c.lay_flakes.ensures
+    lay_is a.d a.vol.now a.n a.way (g.S.Source.offset a.new.now) (g.S.Source.bytes a.new.now) (read_is a.vol.now a.n c.read-r.ensures c.shape_of.ensures) c.turn-after.ensures c.enciphers-mask.ensures c.lay_flakes.ensures

@@ -5,6 +5,3 @@ use Rattle.moving.proofs.up.Goals as goal
 pub move_between-requires : goal.move_between-requires
 unfolding known_version
 move_between-requires c = refl
-
-pub returns : goal.returns
-returns c = c.move_between.ensures

@@ -7,4 +7,4 @@ use Rattle.opening.proofs.check_stands.Goals as goal
 
 pub returns : goal.returns
 unfolding checked
-returns c = c.equal.ensures ∙ ap (λ (h : List ℕ). same (part 40 32 c.args.vol.now) h) c.check_in-check.ensures
+returns c = c.equal.ensures ∙ ap (λ (h : List ℕ). same (part 40 32 c.args.vol.now) h) c.check_in.ensures

@@ -12,26 +12,26 @@ pub returns-then-outside-eq18446744073709551615 : goal.returns-then-outside-eq18
 unfolding format_answer
 returns-then-outside-eq18446744073709551615 c =
     let s = c.args.s in
-    let lim : in_limits s ≡ true = sym c.in_limits.ensures ∙ c.if-in_limits.true in
+    let lim : in_limits s ≡ true = sym c.in_limits.ensures ∙ c.if-not-in_limits.false in
     let long : c.length_of.result ≡ length_of s = c.length_of.ensures ∙ inside s lim in
-    sym (yes _ lim (yes _ (eq-eqb _ _ (c.if-vol-length_of.true ∙ long)) (yes _ (eq-eqb _ _ c.if-outside-eq18446744073709551615.true) refl)))
+    sym (yes _ lim (yes _ (eq-eqb _ _ (c.if-vol-length_of.false ∙ long)) (yes _ (eq-eqb _ _ c.if-outside-eq18446744073709551615.true) refl)))
 
 pub returns-then-vol-length_of : goal.returns-then-vol-length_of
 unfolding format_answer
 returns-then-vol-length_of c =
     let s = c.args.s in
-    let lim : in_limits s ≡ true = sym c.in_limits.ensures ∙ c.if-in_limits.true in
+    let lim : in_limits s ≡ true = sym c.in_limits.ensures ∙ c.if-not-in_limits.false in
     let long : c.length_of.result ≡ length_of s = c.length_of.ensures ∙ inside s lim in
-    sym (yes _ lim (yes _ (eq-eqb _ _ (c.if-vol-length_of.true ∙ long)) (no _ (ne_eqb _ _ c.if-outside-eq18446744073709551615.false) refl)))
+    sym (yes _ lim (no _ (ne_eqb _ _ (λ e. c.if-vol-length_of.true (e ∙ sym long))) refl))
 
-pub returns-then-in_limits : goal.returns-then-in_limits
+pub returns-then-not-in_limits : goal.returns-then-not-in_limits
 unfolding format_answer
-returns-then-in_limits c =
-    let s = c.args.s in
-    let lim : in_limits s ≡ true = sym c.in_limits.ensures ∙ c.if-in_limits.true in
-    let long : c.length_of.result ≡ length_of s = c.length_of.ensures ∙ inside s lim in
-    sym (yes _ lim (no _ (ne_eqb _ _ (λ e. c.if-vol-length_of.false (e ∙ sym long))) refl))
+returns-then-not-in_limits c = sym (no _ (sym c.in_limits.ensures ∙ c.if-not-in_limits.true) refl)
 
 pub returns : goal.returns
 unfolding format_answer
-returns c = sym (no _ (sym c.in_limits.ensures ∙ c.if-in_limits.false) refl)
+returns c =
+    let s = c.args.s in
+    let lim : in_limits s ≡ true = sym c.in_limits.ensures ∙ c.if-not-in_limits.false in
+    let long : c.length_of.result ≡ length_of s = c.length_of.ensures ∙ inside s lim in
+    sym (yes _ lim (yes _ (eq-eqb _ _ (c.if-vol-length_of.false ∙ long)) (no _ (ne_eqb _ _ c.if-outside-eq18446744073709551615.false) refl)))

@@ -3,4 +3,4 @@ use Rattle.opening.proofs.fresh_drive.Goals as goal
 
 pub returns : goal.returns
 unfolding fresh_drive
-returns c = rw (c.first-node.ensures, c.requires.1)
+returns c = rw (c.first.ensures, c.requires.1)

@@ -7,4 +7,4 @@ use Rattle.opening.proofs.seal_stands.Goals as goal
 
 pub returns : goal.returns
 unfolding sealed
-returns c = c.equal.ensures ∙ ap (λ (h : List ℕ). same (part 72 32 c.args.vol.now) h) c.seal_of-seal.ensures
+returns c = c.equal.ensures ∙ ap (λ (h : List ℕ). same (part 72 32 c.args.vol.now) h) c.seal_of.ensures

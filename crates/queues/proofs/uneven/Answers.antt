@@ -1,21 +1,16 @@
-use Rattle.answers.specs.declared.Answer.{Answer}
-use Rattle.answers.specs.declared.Answer.TheVariants as A
-use Rattle.answers.specs.Numbers.{accepts}
-use Rattle.answers.proofs.StageLaws.{goes_on, stops}
-use Rattle.queues.specs.Queue.{measure_by}
-use Rattle.queues.specs.Pass.{queued_at}
 use mathlib.Core.Path.{sym, ap, ◌∙◌}
+use Rattle.answers.specs.Numbers.{accepts}
+use Rattle.answers.proofs.StageLaws.{goes_on, stops, handed}
+use Rattle.queues.proofs.QueueLaws.{measured}
 use Rattle.queues.proofs.uneven.Goals as goal
-
-pub returns-then-accepted : goal.returns-then-accepted
-returns-then-accepted c =
-    let a = c.args in
-    let on = ap accepts (sym c.measured-a.ensures) ∙ sym c.accepted.ensures ∙ c.if-accepted.true in
-    c.queued_at.ensures ∙ ap (λ (x : Answer). queued_at x 0 a.d) (sym (goes_on (measure_by a.d a.held) A.PastEnd on))
 
 pub returns : goal.returns
 returns c =
-    let a = c.args in
-    let answer = c.measured-a.ensures in
-    let off = ap accepts (sym answer) ∙ sym c.accepted.ensures ∙ c.if-accepted.false in
-    c.queued_at-2.ensures ∙ ap (λ (x : Answer). queued_at x 0 a.d) (answer ∙ sym (stops (measure_by a.d a.held) A.PastEnd off))
+    let e = c.measure.ensures ∙ measured c.args.d c.args.vol.now in
+    sym (goes_on _ _ (ap accepts (sym e) ∙ ap accepts c.in_ok-measure.was))
+
+pub returns-in_err-measure : goal.returns-in_err-measure
+returns-in_err-measure c =
+    let e = c.measure.ensures ∙ measured c.args.d c.args.vol.now in
+    handed _ _ _ c.from_residual.ensures.1 c.in_err-measure.was
+    ∙ e ∙ sym (stops _ _ (ap accepts (sym e) ∙ ap accepts c.in_err-measure.was))

@@ -1,13 +1,13 @@
 use Rattle.nuggets.specs.Nugget.{byte_of}
+use Rattle.reading.proofs.FillLaws.{reached}
 use Rattle.base.specs.Lists.{tab}
 use lib.ListN.{length, drop}
 use mathlib.Core.List.{◌++◌}
-use Prim.Native.Nat.{◌+◌, ◌-◌, ◌≤◌}
+use Prim.Native.Nat.{◌+◌, ◌*◌, ◌/◌, ◌≤◌}
 use mathlib.Core.Path.{◌≡◌}
 use Rattle.reading.proofs.fill.Given as goal
 
-abbrev pub invariant-loop-at : goal.invariant-loop-at
-invariant-loop-at l = (l.at ≤ length l.initial.buf) × (length l.buf ≡ length l.initial.buf) × (l.buf ≡ tab l.at (λ i. byte_of l.d l.vol (l.o + i)) ++ drop l.at l.initial.buf)
-
-abbrev pub decreases-loop-at : goal.decreases-loop-at
-decreases-loop-at l = length l.initial.buf - l.at
+abbrev pub invariant-loop-n : goal.invariant-loop-n
+invariant-loop-n l =
+    (l.o / l.whole ≤ l.n) × (length l.buf ≡ length l.initial.buf)
+    × (l.buf ≡ tab (reached l.o l.end (l.n * l.whole)) (λ i. byte_of l.d l.vol (l.o + i)) ++ drop (reached l.o l.end (l.n * l.whole)) l.initial.buf)

@@ -7,17 +7,16 @@ use Rattle.reading.proofs.read.Goals as goal
 pub fill-requires : goal.fill-requires
 fill-requires c =
     let a = c.args in
-    let answer = c.admit-a.ensures in
-    read_lent a.d a.vol.now a.offset (length a.buf.now) (ap accepts (sym answer) ∙ sym c.accepted.ensures ∙ c.if-accepted.true)
+    read_lent a.d a.vol.now a.offset (length a.buf.now) (ap accepts (sym c.admit-answer.ensures) ∙ sym c.is_ok.ensures.value ∙ c.if-is_ok.true)
 
-pub returns-then-accepted : goal.returns-then-accepted
-returns-then-accepted c =
+pub returns-then-is_ok : goal.returns-then-is_ok
+returns-then-is_ok c =
     let a = c.args in
-    let answer = c.admit-a.ensures in
-    (answer, filled a.d a.vol.now a.offset a.buf.now c.admit-a.result (sym c.accepted.ensures ∙ c.if-accepted.true) c.fill.ensures ∙ met a.d a.vol.now a.offset a.buf.now answer)
+    let answer = c.admit-answer.ensures in
+    (answer, filled a.d a.vol.now a.offset a.buf.now c.admit-answer.result (sym c.is_ok.ensures.value ∙ c.if-is_ok.true) c.fill.ensures ∙ met a.d a.vol.now a.offset a.buf.now answer)
 
-pub returns : goal.returns
-returns c =
+pub returns-else-is_ok : goal.returns-else-is_ok
+returns-else-is_ok c =
     let a = c.args in
-    let answer = c.admit-a.ensures in
-    (answer, left_alone a.d a.vol.now a.offset a.buf.now c.admit-a.result (sym c.accepted.ensures ∙ c.if-accepted.false) ∙ met a.d a.vol.now a.offset a.buf.now answer)
+    let answer = c.admit-answer.ensures in
+    (answer, left_alone a.d a.vol.now a.offset a.buf.now c.admit-answer.result (sym c.is_ok.ensures.value ∙ c.if-is_ok.false) ∙ met a.d a.vol.now a.offset a.buf.now answer)

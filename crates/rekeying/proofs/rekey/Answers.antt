@@ -11,11 +11,6 @@ mark-requires c =
     let same = sweep_record d v n l c.requires.1 c.lay.ensures in
     (record { limited = l.limited; size = c.lay.auto.vol ∙ l.size }, c.requires.1, rw same c.requires.2)
 
-pub tend-requires : goal.tend-requires
-tend-requires c =
-    let l = c.requires.0 in
-    rw c.shape_of.ensures (record { limited = l.limited; size = c.mark.auto.vol ∙ c.lay.auto.vol ∙ l.size }, c.requires.1)
-
 pub returns : goal.returns
 returns c =
     let d = c.args.d in

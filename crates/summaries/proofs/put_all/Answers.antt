@@ -5,40 +5,27 @@ use Rattle.layout.proofs.Limits.{lent_small}
 use Rattle.summaries.specs.Entries.{put_entry, built}
 use Rattle.summaries.proofs.put_all.Goals as goal
 
-pub overflow_cast-k : goal.overflow_cast-k
-overflow_cast-k c = omega (arith, c.leaves_of.ensures, (lent_small c.requires.0).few_leaves)
+pub overflow_cast-i : goal.overflow_cast-i
+overflow_cast-i c = omega (arith, c.leaves_of.ensures, (lent_small c.requires.0).few_leaves)
 
-pub overflow_mul-k : goal.overflow_mul-k
-overflow_mul-k c = omega (arith, c.leaves_of.ensures, (lent_small c.requires.0).few_leaves)
+pub overflow_step-i : goal.overflow_step-i
+overflow_step-i c = omega (arith, c.leaves_of.ensures, (lent_small c.requires.0).few_leaves)
 
-pub overflow_sub-k : goal.overflow_sub-k
-overflow_sub-k c = omega (arith, c.leaves_of.ensures, (lent_small c.requires.0).some_leaves)
-
-pub loop-k-init : goal.loop-k-init
+pub loop-i-init : goal.loop-i-init
 unfolding built
-loop-k-init c =
+loop-i-init c =
     let a = c.args in
-    let e = c.leaves_of.ensures in
-    (omega (arith, e, (lent_small c.requires.0).some_leaves), refl, ap (λ (k : ℕ). stored_down (put_entry a.s a.epoch a.vol.now) k a.sum.now) (omega (arith, e)))
+    (refl, ap (λ (k : ℕ). stored_down (put_entry a.s a.epoch a.vol.now) k a.sum.now) (omega (arith, c.leaves_of.ensures)))
 
-pub put-requires : goal.put-requires
-put-requires c =
-    let l = c.loop-k in
-    (c.requires.0, l.invariant.1 ∙ c.requires.1, omega (arith, c.loop-k-test.true), l.invariant.0)
-
-pub loop-k-preserved : goal.loop-k-preserved
-loop-k-preserved c =
+pub loop-i-preserved : goal.loop-i-preserved
+loop-i-preserved c =
     let a = c.args in
-    let l = c.loop-k in
+    let l = c.loop-i in
     let p = c.put in (
-      omega (arith, l.invariant.0),
-      p.auto.sum ∙ l.invariant.1,
-      ap (λ (w : List ℕ). stored_down (put_entry a.s a.epoch a.vol.now) (l.k - 1) w) p.ensures
-          ∙ stored_down-on (put_entry a.s a.epoch a.vol.now) l.sum l.k c.loop-k-test.true ∙ l.invariant.2,
+      p.auto.sum ∙ l.invariant.0,
+      ap (λ (w : List ℕ). stored_down (put_entry a.s a.epoch a.vol.now) (l.i - 1 - 1) w) p.ensures
+          ∙ stored_down-on (put_entry a.s a.epoch a.vol.now) l.sum (l.i - 1) (omega (arith, c.loop-i-test.true)) ∙ l.invariant.1,
     )
 
-pub shape_of-sum : goal.shape_of-sum
-shape_of-sum c = c.loop-k.invariant.1
-
 pub returns : goal.returns
-returns c = stored_down_end _ _ _ c.loop-k-test.false ∙ c.loop-k.invariant.2
+returns c = stored_down_end _ _ (c.loop-i.i - 1) (omega (arith, c.loop-i-test.false)) ∙ c.loop-i.invariant.1

@@ -1,23 +1,24 @@
-use Rattle.std.proofs.Common.{length, sym, ap, ◌∙◌, arith}
+use Rattle.std.proofs.Common.{length, refl, sym, ap, ◌∙◌, arith}
 use Rattle.answers.specs.Numbers.{accepts}
 use Rattle.layout.proofs.Limits.{lent_small}
 use Rattle.summaries.proofs.AnswerLaws.{top-told}
 use Rattle.summaries.proofs.TopLaws.{top-accepted, refused-top}
 use Rattle.summaries.proofs.top.Goals as goal
 
-pub load-c-requires : goal.load-c-requires
-load-c-requires c =
+pub load-requires : goal.load-requires
+load-requires c =
     let a = c.args in
-    let on = ap accepts (sym c.top_answer-answer.ensures) ∙ sym c.accepted.ensures ∙ c.if-accepted.true in
-    let t = top-told a.d a.vol.now (length a.sum.now) on in
+    let t = top-told a.d a.vol.now (length a.sum.now) (ap accepts (sym c.top_answer.ensures ∙ c.in-Ok.is)) in
     (omega arith, omega (arith, t.long, (lent_small t.lent).some_leaves))
 
-pub returns-then-accepted : goal.returns-then-accepted
-returns-then-accepted c =
+pub returns-in-Ok : goal.returns-in-Ok
+returns-in-Ok c =
     let a = c.args in
-    top-accepted a.d a.vol.now a.sum.now c.top_answer-answer.ensures (sym c.accepted.ensures ∙ c.if-accepted.true) c.load-c.ensures c.left_of.ensures c.share_of-share.ensures
+    let told = sym c.top_answer.ensures ∙ c.in-Ok.is in
+    c.counted.ensures ∙ top-accepted a.d a.vol.now a.sum.now (sym told) refl c.load.ensures
 
-pub returns : goal.returns
-returns c =
+pub returns-in-Err : goal.returns-in-Err
+returns-in-Err c =
     let a = c.args in
-    refused-top a.d a.vol.now a.sum.now c.top_answer-answer.ensures (sym c.accepted.ensures ∙ c.if-accepted.false)
+    let told = sym c.top_answer.ensures ∙ c.in-Err.is in
+    c.refused.ensures ∙ refused-top a.d a.vol.now a.sum.now (sym told) refl

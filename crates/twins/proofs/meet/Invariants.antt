@@ -1,12 +1,11 @@
 use mathlib.Core.Path.{◌≡◌}
-use Prim.Native.Nat.{suc, ◌*◌, ◌<◌}
-use Rattle.layout.specs.Shape.{leaves}
+use Prim.Native.Nat.{suc, ◌*◌, ◌-◌, ◌<◌}
+use Rattle.layout.specs.Shape.{height_of, leaves}
 use Rattle.tree.specs.Path.{Rises}
 use Rattle.twins.specs.Twins.{agreeing, meeting}
 use Rattle.twins.proofs.meet.Given as goal
 
-abbrev pub invariant-loop-k : goal.invariant-loop-k
-invariant-loop-k l = Rises (suc l.k) l.i × (l.i < 2 * leaves l.s.n) × (agreeing l.s l.first l.second l.k l.i ≡ meeting l.s l.first l.second l.n)
-
-abbrev pub decreases-loop-k : goal.decreases-loop-k
-decreases-loop-k l = l.k
+abbrev pub invariant-loop-above : goal.invariant-loop-above
+invariant-loop-above l =
+    let left = height_of l.s.n - l._above in
+    Rises (suc left) l.i × (l.i < 2 * leaves l.s.n) × (agreeing l.s l.first l.second left l.i ≡ meeting l.s l.first l.second l.n)

@@ -9,9 +9,6 @@ use Rattle.writing.proofs.StoreLaws.{room-told, marks_record, mark-start, mark-t
 use Rattle.records.specs.Record.{record_of}
 use Rattle.writing.proofs.mark_span.Goals as goal
 
-pub span_of-span-requires : goal.span_of-span-requires
-span_of-span-requires c = rw c.shape_of.ensures (c.requires.0.limited, c.requires.1, c.requires.2)
-
 pub loop-n-init : goal.loop-n-init
 loop-n-init c =
     let a = c.args in
@@ -19,11 +16,6 @@ loop-n-init c =
     let span = span_of-drive a.d a.o a.len c.shape_of.ensures c.span_of-span.ensures.0 in
     let h = inside (shape_of a.d) a.o a.len q.0.limited q.1 q.2 in
     rw (ap (λ (x : Span). x.first) span) (omega (arith, h.first), q.0, refl, sym (mark-start a.d a.vol.now a.o a.len q.0))
-
-pub way_at-way-requires : goal.way_at-way-requires
-way_at-way-requires c =
-    let q = c.requires in
-    (c.loop-n.invariant.1, q.1, q.2, omega (arith, c.loop-n-test.true, span_few c.args.d c.shape_of.ensures c.span_of-span.ensures.1))
 
 pub mark-requires : goal.mark-requires
 mark-requires c =
@@ -34,15 +26,6 @@ mark-requires c =
     let in_span : l.n < a.d.n = omega (arith, c.loop-n-test.true, low) in
     let same = ap (λ (u : List ℕ). record_of (shape_of a.d) u l.n) l.invariant.3 ∙ marks_record a.d a.vol.now a.o a.len q.0 l.n in
     (l.invariant.1, in_span, room-told a.d a.vol.now l.vol a.o a.len l.n c.way_at-way.ensures same (q.3 l.n in_span))
-
-pub overflow_add-n : goal.overflow_add-n
-overflow_add-n c =
-    let q = c.requires in
-    let h = inside (shape_of c.args.d) c.args.o c.args.len q.0.limited q.1 q.2 in
-    omega (arith, c.loop-n.invariant.0, h.few)
-
-pub loop-n-smaller : goal.loop-n-smaller
-loop-n-smaller c = omega (arith, c.loop-n-test.true)
 
 pub loop-n-preserved : goal.loop-n-preserved
 loop-n-preserved c =
@@ -56,9 +39,6 @@ loop-n-preserved c =
       st.auto.vol ∙ l.invariant.2,
       mark-turn a.d a.vol.now a.o a.len q.0 l.n l.invariant.3 c.way_at-way.ensures st.ensures,
     )
-
-pub shape_of-vol : goal.shape_of-vol
-shape_of-vol c = c.loop-n.invariant.2
 
 pub returns : goal.returns
 returns c =

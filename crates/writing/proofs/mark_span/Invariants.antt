@@ -1,13 +1,10 @@
 use Rattle.drive.specs.Drive.{shape_of}
 use Rattle.layout.specs.Shaped.{Shaped}
 use lib.ListN.{length}
-use Prim.Native.Nat.{◌-◌, ◌≤◌}
+use Prim.Native.Nat.{◌≤◌}
 use mathlib.Core.Path.{◌≡◌}
 use Rattle.writing.proofs.StoreLaws.{marks_to}
 use Rattle.writing.proofs.mark_span.Given as goal
 
 abbrev pub invariant-loop-n : goal.invariant-loop-n
 invariant-loop-n l = (l.n ≤ l.d.n) × Shaped (shape_of l.d) l.vol × (length l.vol ≡ length l.initial.vol) × (l.vol ≡ marks_to l.d l.initial.vol l.o l.len l.n)
-
-abbrev pub decreases-loop-n : goal.decreases-loop-n
-decreases-loop-n l = l.span.end - l.n

@@ -4,12 +4,6 @@ use Rattle.layout.specs.declared.Shape.{Shape}
 use mathlib.Core.Path.{◌∙◌, ap}
 use Rattle.writing.proofs.way_at.Goals as goal
 
-pub read-r-requires : goal.read-r-requires
-read-r-requires c = rw c.shape_of-s.ensures (c.requires.0, c.requires.3)
-
-pub touched-t-requires : goal.touched-t-requires
-touched-t-requires c = rw c.shape_of-s.ensures (c.requires.0.limited, c.requires.1, c.requires.2, c.requires.3)
-
 pub returns : goal.returns
 returns c =
     let a = c.args in

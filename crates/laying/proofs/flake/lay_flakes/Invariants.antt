@@ -1,9 +1,5 @@
 use Rattle.laying.proofs.FlakeLaws.{Upto}
-use Prim.Native.Nat.{◌-◌, ◌≤◌}
 use Rattle.laying.proofs.flake.lay_flakes.Given as goal
 
 abbrev pub invariant-loop-f : goal.invariant-loop-f
-invariant-loop-f l = (l.f ≤ l.d.p) × Upto l.d l.initial.vol l.n l.k l.mask l.o l.bytes l.f l.vol
-
-abbrev pub decreases-loop-f : goal.decreases-loop-f
-decreases-loop-f l = l.d.p - l.f
+invariant-loop-f g l = Upto l.fn.d l.initial.vol l.n l.k l.mask (g.S.Source.offset l.new) (g.S.Source.bytes l.new) l.f l.vol

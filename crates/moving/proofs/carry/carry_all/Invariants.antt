@@ -1,10 +1,6 @@
 use mathlib.Core.Path.{◌≡◌}
-use Prim.Native.Nat.{◌-◌, ◌≤◌}
 use Rattle.moving.specs.Carry.{carried_to}
 use Rattle.moving.proofs.carry.carry_all.Given as goal
 
 abbrev pub invariant-loop-n : goal.invariant-loop-n
-invariant-loop-n l = (l.n ≤ l.d.n) × (l.second ≡ carried_to l.d l.t l.vol l.n l.initial.second)
-
-abbrev pub decreases-loop-n : goal.decreases-loop-n
-decreases-loop-n l = l.d.n - l.n
+invariant-loop-n l = l.second ≡ carried_to l.d l.t l.vol l.n l.initial.second

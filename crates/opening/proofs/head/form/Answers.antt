@@ -13,28 +13,28 @@ pub returns-then-vol-lt104 : goal.returns-then-vol-lt104
 unfolding form_of
 returns-then-vol-lt104 c = sym (no _ (lt-leb _ _ c.if-vol-lt104.true) refl)
 
+pub returns : goal.returns
+unfolding form_of head_fits length_fits
+returns c =
+    let v = c.args.vol.now in
+    let fits : head_fits v ≡ true = sym c.head_fits.ensures ∙ c.if-not-head_fits.false in
+    let long : c.length_of.result ≡ length_of (shape_in v) =
+    c.length_of.ensures ∙ ap (λ (s : Shape). within s (length_of s)) c.shape_in.ensures ∙ inside (shape_in v) (both_left (in_limits (shape_in v)) _ fits) in
+    sym (yes _ (le-leb _ _ c.if-vol-lt104.false) (yes _ (sym c.has_mark.ensures ∙ c.if-not-has_mark.false) (yes _ fits (yes _ (eq-eqb _ _ (c.if-vol-length_of.false ∙ long)) refl))))
+
 pub returns-then-vol-length_of : goal.returns-then-vol-length_of
 unfolding form_of head_fits length_fits
 returns-then-vol-length_of c =
     let v = c.args.vol.now in
-    let fits : head_fits v ≡ true = sym c.head_fits.ensures ∙ c.if-head_fits.true in
+    let fits : head_fits v ≡ true = sym c.head_fits.ensures ∙ c.if-not-head_fits.false in
     let long : c.length_of.result ≡ length_of (shape_in v) =
     c.length_of.ensures ∙ ap (λ (s : Shape). within s (length_of s)) c.shape_in.ensures ∙ inside (shape_in v) (both_left (in_limits (shape_in v)) _ fits) in
-    sym (yes _ (le-leb _ _ c.if-vol-lt104.false) (yes _ (sym c.has_mark.ensures ∙ c.if-has_mark.true) (yes _ fits (yes _ (eq-eqb _ _ (c.if-vol-length_of.true ∙ long)) refl))))
+    sym (yes _ (le-leb _ _ c.if-vol-lt104.false) (yes _ (sym c.has_mark.ensures ∙ c.if-not-has_mark.false) (yes _ fits (no _ (ne_eqb _ _ (λ e. c.if-vol-length_of.true (e ∙ sym long))) refl))))
 
-pub returns-then-head_fits : goal.returns-then-head_fits
-unfolding form_of head_fits length_fits
-returns-then-head_fits c =
-    let v = c.args.vol.now in
-    let fits : head_fits v ≡ true = sym c.head_fits.ensures ∙ c.if-head_fits.true in
-    let long : c.length_of.result ≡ length_of (shape_in v) =
-    c.length_of.ensures ∙ ap (λ (s : Shape). within s (length_of s)) c.shape_in.ensures ∙ inside (shape_in v) (both_left (in_limits (shape_in v)) _ fits) in
-    sym (yes _ (le-leb _ _ c.if-vol-lt104.false) (yes _ (sym c.has_mark.ensures ∙ c.if-has_mark.true) (yes _ fits (no _ (ne_eqb _ _ (λ e. c.if-vol-length_of.false (e ∙ sym long))) refl))))
-
-pub returns-then-has_mark : goal.returns-then-has_mark
+pub returns-then-not-head_fits : goal.returns-then-not-head_fits
 unfolding form_of
-returns-then-has_mark c = sym (yes _ (le-leb _ _ c.if-vol-lt104.false) (yes _ (sym c.has_mark.ensures ∙ c.if-has_mark.true) (no _ (sym c.head_fits.ensures ∙ c.if-head_fits.false) refl)))
+returns-then-not-head_fits c = sym (yes _ (le-leb _ _ c.if-vol-lt104.false) (yes _ (sym c.has_mark.ensures ∙ c.if-not-has_mark.false) (no _ (sym c.head_fits.ensures ∙ c.if-not-head_fits.true) refl)))
 
-pub returns : goal.returns
+pub returns-then-not-has_mark : goal.returns-then-not-has_mark
 unfolding form_of
-returns c = sym (yes _ (le-leb _ _ c.if-vol-lt104.false) (no _ (sym c.has_mark.ensures ∙ c.if-has_mark.false) refl))
+returns-then-not-has_mark c = sym (yes _ (le-leb _ _ c.if-vol-lt104.false) (no _ (sym c.has_mark.ensures ∙ c.if-not-has_mark.true) refl))

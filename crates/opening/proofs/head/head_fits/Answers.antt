@@ -1,24 +1,43 @@
-use Rattle.opening.specs.Mount.{head_fits, state_byte_in}
+use Rattle.opening.specs.Mount.{head_fits, state_byte_in, shape_in}
 use Rattle.drive.specs.Opening.{state_fits}
 use Rattle.drive.specs.declared.State.{State}
 use Rattle.layout.specs.Shape.{in_limits}
 use Rattle.layout.specs.declared.Shape.{Shape}
-use Rattle.base.proofs.PickLaws.{both-on, both_off}
-use borrow.Author.Tests.{le-leb, lt-leb}
+use Rattle.base.specs.Pick.{both}
+use Rattle.base.proofs.PickLaws.{both-on, both_off, both_left, both_right}
+use lib.Dec.{leb}
 use Prim.Native.Nat.{ℕ}
-use native.Mathlib.Omega.{arith}
-use mathlib.Core.Path.{refl, sym, ◌∙◌, ap, ap₂}
+use mathlib.Core.Bool.{Bool, true, false}
+use mathlib.Core.Path.{◌≡◌, refl, sym, ◌∙◌, ap, ap₂}
 use Rattle.opening.proofs.head.head_fits.Goals as goal
+use Rattle.opening.proofs.head.head_fits.Goals.{then-in_limits, else-in_limits}
 
-pub returns-then-state_byte_in-gt1 : goal.returns-then-state_byte_in-gt1
-unfolding head_fits
-returns-then-state_byte_in-gt1 c = sym (both-on (sym (ap (λ (s : Shape). in_limits s) c.shape_in.ensures) ∙ sym c.in_limits.ensures ∙ c.if-in_limits.true) (both_off _ (lt-leb (state_byte_in c.args.vol.now) 1 (omega (arith, c.if-state_byte_in-gt1.true, c.state_byte_in.ensures)))))
+both-both : (x y z : Bool) → both x (both y z) ≡ both (both x y) z
+both-both true y z = refl
+both-both false y z = refl
 
-pub returns-then-in_limits : goal.returns-then-in_limits
+pub returns-then-state_byte_in-le1 : goal.returns-then-state_byte_in-le1
 unfolding head_fits
-returns-then-in_limits c = c.state_fits.ensures ∙ ap₂ (λ (s : State) (e : ℕ). state_fits s e) c.state_in.ensures c.epoch_in.ensures
-    ∙ sym (both-on (sym (ap (λ (s : Shape). in_limits s) c.shape_in.ensures) ∙ sym c.in_limits.ensures ∙ c.if-in_limits.true) (both-on (le-leb (state_byte_in c.args.vol.now) 1 (omega (arith, c.if-state_byte_in-gt1.false, c.state_byte_in.ensures))) refl))
+returns-then-state_byte_in-le1 c =
+    let v = c.args.vol.now in
+    let limits : c.in_limits.result ≡ in_limits (shape_in v) = c.in_limits.ensures ∙ ap (λ (s : Shape). in_limits s) c.shape_in.ensures in
+    let first : c.if-in_limits.value ≡ both (in_limits (shape_in v)) (leb (state_byte_in v) 1) =
+    elim c.if-in_limits.branch [
+      | then-in_limits w ↦ w.value-is ∙ ap (λ (b : ℕ). leb b 1) w.state_byte_in.ensures ∙ sym (both-on (sym limits ∙ w.if-in_limits.true) refl)
+      | else-in_limits w ↦ w.value-is ∙ w.if-in_limits.false ∙ sym (both_off _ (sym limits ∙ w.if-in_limits.false))
+    ] in
+    let q = sym first ∙ c.if-state_byte_in-le1.true in
+    c.state_fits.ensures ∙ ap₂ (λ (s : State) (e : ℕ). state_fits s e) c.state_in.ensures c.epoch_in.ensures
+    ∙ sym (both-on (both_left _ (leb (state_byte_in v) 1) q) (both-on (both_right (in_limits (shape_in v)) _ q) refl))
 
-pub returns : goal.returns
+pub returns-else-state_byte_in-le1 : goal.returns-else-state_byte_in-le1
 unfolding head_fits
-returns c = sym (both_off _ (sym (ap (λ (s : Shape). in_limits s) c.shape_in.ensures) ∙ sym c.in_limits.ensures ∙ c.if-in_limits.false))
+returns-else-state_byte_in-le1 c =
+    let v = c.args.vol.now in
+    let limits : c.in_limits.result ≡ in_limits (shape_in v) = c.in_limits.ensures ∙ ap (λ (s : Shape). in_limits s) c.shape_in.ensures in
+    let first : c.if-in_limits.value ≡ both (in_limits (shape_in v)) (leb (state_byte_in v) 1) =
+    elim c.if-in_limits.branch [
+      | then-in_limits w ↦ w.value-is ∙ ap (λ (b : ℕ). leb b 1) w.state_byte_in.ensures ∙ sym (both-on (sym limits ∙ w.if-in_limits.true) refl)
+      | else-in_limits w ↦ w.value-is ∙ w.if-in_limits.false ∙ sym (both_off _ (sym limits ∙ w.if-in_limits.false))
+    ] in
+    c.if-state_byte_in-le1.false ∙ sym (both-both (in_limits (shape_in v)) (leb (state_byte_in v) 1) _ ∙ both_off _ (sym first ∙ c.if-state_byte_in-le1.false))

@@ -12,14 +12,14 @@ pub returns-then-equal : goal.returns-then-equal
 unfolding begin_tests
 returns-then-equal c = sym (no _ (sym c.is_changing.ensures ∙ c.if-is_changing.false) (yes _ (sym c.equal.ensures ∙ c.if-equal.true) refl))
 
-pub returns-then-d-eq65535 : goal.returns-then-d-eq65535
+pub returns-then-d : goal.returns-then-d
 unfolding begin_tests
-returns-then-d-eq65535 c = sym (no _ (sym c.is_changing.ensures ∙ c.if-is_changing.false) (no _ (sym c.equal.ensures ∙ c.if-equal.false) (yes _ (eq-eqb _ _ c.if-d-eq65535.true) refl)))
+returns-then-d c = sym (no _ (sym c.is_changing.ensures ∙ c.if-is_changing.false) (no _ (sym c.equal.ensures ∙ c.if-equal.false) (yes _ (eq-eqb _ _ c.if-d.true) refl)))
 
-pub returns-then-d-eq18446744073709551615 : goal.returns-then-d-eq18446744073709551615
+pub returns-then-d-2 : goal.returns-then-d-2
 unfolding begin_tests
-returns-then-d-eq18446744073709551615 c = sym (no _ (sym c.is_changing.ensures ∙ c.if-is_changing.false) (no _ (sym c.equal.ensures ∙ c.if-equal.false) (no _ (ne_eqb _ _ c.if-d-eq65535.false) (yes _ (eq-eqb _ _ c.if-d-eq18446744073709551615.true) refl))))
+returns-then-d-2 c = sym (no _ (sym c.is_changing.ensures ∙ c.if-is_changing.false) (no _ (sym c.equal.ensures ∙ c.if-equal.false) (no _ (ne_eqb _ _ c.if-d.false) (yes _ (eq-eqb _ _ c.if-d-2.true) refl))))
 
 pub returns : goal.returns
 unfolding begin_tests
-returns c = sym (no _ (sym c.is_changing.ensures ∙ c.if-is_changing.false) (no _ (sym c.equal.ensures ∙ c.if-equal.false) (no _ (ne_eqb _ _ c.if-d-eq65535.false) (no _ (ne_eqb _ _ c.if-d-eq18446744073709551615.false) refl))))
+returns c = sym (no _ (sym c.is_changing.ensures ∙ c.if-is_changing.false) (no _ (sym c.equal.ensures ∙ c.if-equal.false) (no _ (ne_eqb _ _ c.if-d.false) (no _ (ne_eqb _ _ c.if-d-2.false) refl))))

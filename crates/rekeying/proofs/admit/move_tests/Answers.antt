@@ -11,15 +11,12 @@ use borrow.Author.Tests.{eq-eqb, ne_eqb}
 use mathlib.Core.Path.{◌≡◌, refl, sym, ◌∙◌, ap}
 use Rattle.rekeying.proofs.admit.move_tests.Goals as goal
 
-pub read-r-requires : goal.read-r-requires
-read-r-requires c = rw c.shape_of.ensures (c.requires.0, c.requires.1)
-
 pub returns-then-r-d : goal.returns-then-r-d
 unfolding move_tests
 returns-then-r-d c =
     let d = c.args.d in
     let v = c.args.vol.now in
-    let r : c.read-r.result ≡ record_of (shape_of d) v c.args.n = c.read-r.ensures ∙ ap (λ (x : Shape). record_of x v c.args.n) c.shape_of.ensures in
+    let r : c.read-r.result ≡ record_of (shape_of d) v c.args.n = c.read-r.ensures ∙ ap (λ (x : Shape). record_of x v c.args.n) c.shape_of-s.ensures in
     let e : c.read-r.result.epoch ≡ (record_of (shape_of d) v c.args.n).epoch = ap (λ (x : Record). x.epoch) r in
     sym (yes _ (eq-eqb _ _ (sym e ∙ c.if-r-d.true)) refl)
 
@@ -28,19 +25,16 @@ unfolding move_tests
 returns-then-d-eq18446744073709551615 c =
     let d = c.args.d in
     let v = c.args.vol.now in
-    let r : c.read-r.result ≡ record_of (shape_of d) v c.args.n = c.read-r.ensures ∙ ap (λ (x : Shape). record_of x v c.args.n) c.shape_of.ensures in
+    let r : c.read-r.result ≡ record_of (shape_of d) v c.args.n = c.read-r.ensures ∙ ap (λ (x : Shape). record_of x v c.args.n) c.shape_of-s.ensures in
     let e : c.read-r.result.epoch ≡ (record_of (shape_of d) v c.args.n).epoch = ap (λ (x : Record). x.epoch) r in
     sym (no _ (ne_eqb _ _ (λ q. c.if-r-d.false (e ∙ q))) (yes _ (eq-eqb _ _ c.if-d-eq18446744073709551615.true) refl))
-
-pub flakes-requires : goal.flakes-requires
-flakes-requires c = rw (c.shape_of-2.ensures, c.nugget_of-g.ensures) (c.requires.0, c.requires.1)
 
 pub returns : goal.returns
 unfolding move_tests
 returns c =
     let d = c.args.d in
     let v = c.args.vol.now in
-    let r : c.read-r.result ≡ record_of (shape_of d) v c.args.n = c.read-r.ensures ∙ ap (λ (x : Shape). record_of x v c.args.n) c.shape_of.ensures in
+    let r : c.read-r.result ≡ record_of (shape_of d) v c.args.n = c.read-r.ensures ∙ ap (λ (x : Shape). record_of x v c.args.n) c.shape_of-s.ensures in
     let e : c.read-r.result.epoch ≡ (record_of (shape_of d) v c.args.n).epoch = ap (λ (x : Record). x.epoch) r in
-    let f : c.flakes.result ≡ flakes_tested (shape_of d) v (nugget_of d v c.args.n) (record_of (shape_of d) v c.args.n).held = c.flakes.ensures ∙ ap (λ (x : Shape). flakes_tested x v c.nugget_of-g.result c.read-r.result.held) c.shape_of-2.ensures ∙ ap (λ (x : Nugget). flakes_tested (shape_of d) v x c.read-r.result.held) c.nugget_of-g.ensures ∙ ap (λ (x : Record). flakes_tested (shape_of d) v (nugget_of d v c.args.n) x.held) r in
+    let f : c.flakes.result ≡ flakes_tested (shape_of d) v (nugget_of d v c.args.n) (record_of (shape_of d) v c.args.n).held = c.flakes.ensures ∙ ap (λ (x : Shape). flakes_tested x v c.nugget_of.result c.read-r.result.held) c.shape_of-s.ensures ∙ ap (λ (x : Nugget). flakes_tested (shape_of d) v x c.read-r.result.held) c.nugget_of.ensures ∙ ap (λ (x : Record). flakes_tested (shape_of d) v (nugget_of d v c.args.n) x.held) r in
     f ∙ sym (no _ (ne_eqb _ _ (λ q. c.if-r-d.false (e ∙ q))) (no _ (ne_eqb _ _ c.if-d-eq18446744073709551615.false) refl))

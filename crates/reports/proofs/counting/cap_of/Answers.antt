@@ -7,5 +7,5 @@ use Rattle.reports.proofs.counting.cap_of.Goals as goal
 pub returns-then-c-n : goal.returns-then-c-n
 returns-then-c-n c = sym (yes _ (lt-ltb c.args.c.moved c.args.n (omega arith)) refl)
 
-pub returns : goal.returns
-returns c = sym (no _ (le-ltb c.args.c.moved c.args.n (omega arith)) refl)
+pub returns-else-c-n : goal.returns-else-c-n
+returns-else-c-n c = sym (no _ (le-ltb c.args.c.moved c.args.n (omega arith)) refl)

@@ -1,10 +1,6 @@
 use Rattle.reports.specs.Counts.{counts_in}
-use Prim.Native.Nat.{◌-◌, ◌≤◌}
 use mathlib.Core.Path.{◌≡◌}
 use Rattle.reports.proofs.counting.counts_in.Given as goal
 
 abbrev pub invariant-loop-i : goal.invariant-loop-i
-invariant-loop-i l = (l.i ≤ l.n) × (l.c ≡ counts_in l.s 64 l.epoch l.vol l.i)
-
-abbrev pub decreases-loop-i : goal.decreases-loop-i
-decreases-loop-i l = l.n - l.i
+invariant-loop-i l = l.c ≡ counts_in l.s 64 l.epoch l.vol l.i

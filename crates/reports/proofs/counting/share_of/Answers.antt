@@ -1,9 +1,6 @@
-use Rattle.reports.proofs.ShareLaws.{share-below, share-above}
-use native.Mathlib.Omega.{arith}
+use Rattle.reports.specs.Counts.{share_of}
 use Rattle.reports.proofs.counting.share_of.Goals as goal
 
-pub returns-then-exact-cap : goal.returns-then-exact-cap
-returns-then-exact-cap c = share-below c.args.n c.args.c c.exact_of-exact.ensures c.cap_of-cap.ensures (omega arith)
-
 pub returns : goal.returns
-returns c = share-above c.args.n c.args.c c.exact_of-exact.ensures c.cap_of-cap.ensures (omega arith)
+unfolding share_of
+returns c = rw (c.min.ensures, c.from.ensures, c.cap_of.ensures, c.exact_of.ensures)
