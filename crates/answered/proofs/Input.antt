@@ -13,7 +13,7 @@ use Rattle.base.proofs.PartLaws.{part-next}
 use Rattle.words.specs.Le.{le}
 use Rattle.words.proofs.LeLaws.{length-le, num-le}
 use Rattle.answers.specs.Numbers.{accepts}
-use Rattle.answers.specs.declared.Answer.TheVariants as A
+use Rattle.answers.specs.Answer as A
 use Rattle.layout.specs.Parts.{length_of}
 use Rattle.records.proofs.RuleLaws.{formed-epoch, formed-keycount}
 use Rattle.drive.specs.declared.Done.{Done}

@@ -4,7 +4,7 @@ use Rattle.std.specs.Prelude.{ℕ, ◌<◌, ◌≤◌, ◌≡◌, true, List, �
 use Rattle.base.specs.Pick.{pick}
 use Rattle.base.specs.Lists.{same}
 use Rattle.words.specs.Le.{le}
-use Rattle.answers.specs.declared.Answer.TheVariants as A
+use Rattle.answers.specs.Answer as A
 use Rattle.records.specs.Journal.{bit}
 use Rattle.drive.specs.Drive.{shape_of, is_changing}
 use Rattle.records.specs.Record.{record_of}

@@ -12,7 +12,7 @@ use Rattle.records.proofs.RecordLaws.{record_told}
 use Rattle.base.specs.Pick.{pick}
 use Rattle.base.specs.Lists.{part, same}
 use Rattle.base.proofs.PickLaws.{clash, both_left}
-use Rattle.answers.specs.declared.Answer.TheVariants as A
+use Rattle.answers.specs.Answer as A
 use Rattle.answers.specs.declared.Place.TheVariants as P
 use Rattle.answers.specs.Numbers.{accepts}
 use Rattle.layout.specs.declared.Shape.{Shape}

@@ -2,7 +2,7 @@
 use mathlib.Core.Path.{◌≡◌, refl, ap, ◌∙◌}
 use mathlib.Core.Bool.{true}
 use Rattle.base.proofs.PickLaws.{clash}
-use Rattle.answers.specs.declared.Answer.TheVariants as A
+use Rattle.answers.specs.Answer as A
 use Rattle.answers.specs.Stages.{and_then}
 use Rattle.drive.specs.declared.Drive.{Drive}
 use Rattle.drive.specs.Opening.{opening_of}

@@ -9,7 +9,7 @@ use borrow.Author.Tests.{eq-eqb, ne_eqb, lt-ltb, le-leb}
 use Rattle.base.specs.Pick.{both, either}
 use Rattle.base.specs.Lists.{tab, same}
 use Rattle.base.proofs.PickLaws.{yes, no, both_left, both_right, both-on, both_no}
-use Rattle.answers.specs.declared.Answer.TheVariants as A
+use Rattle.answers.specs.Answer as A
 use Rattle.answers.specs.Numbers.{accepts}
 use Rattle.layout.specs.declared.Shape.{Shape}
 use Rattle.layout.specs.Shape.{shape_as}

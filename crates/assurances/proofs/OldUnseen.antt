@@ -8,7 +8,7 @@ use lib.ListN.{length}
 use Rattle.base.specs.Pick.{pick, both}
 use Rattle.base.proofs.PickLaws.{told, clash, both_left}
 use Rattle.answers.specs.Numbers.{accepts}
-use Rattle.answers.specs.declared.Answer.TheVariants as A
+use Rattle.answers.specs.Answer as A
 use Rattle.answers.proofs.StageLaws.{both_stages, passed}
 use Rattle.records.specs.Listing.{Entry}
 use Rattle.drive.specs.declared.Drive.{Drive}

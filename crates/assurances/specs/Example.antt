@@ -1,7 +1,7 @@
 -- The theorems over histories don't speak of nothing: there is a history in which every kind of call is accepted. And a
 -- refused mount leaves nothing to go on with.
 use Rattle.std.specs.Prelude.{ℕ, ◌≡◌, Bool, true, false, ◌⊎◌, List, [], ◌∷◌, replicate}
-use Rattle.answers.specs.declared.Answer.TheVariants as A
+use Rattle.answers.specs.Answer as A
 use Rattle.layout.specs.Shape.{shape_as}
 use Rattle.drive.specs.Drive.{shape_of, blank_drive}
 use Rattle.opening.specs.Mount.{mount_answer}

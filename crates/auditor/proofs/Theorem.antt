@@ -13,7 +13,7 @@ use Rattle.base.proofs.PickLaws.{yes, both_left, both_right}
 use Rattle.base.proofs.PartLaws.{length_part}
 use Rattle.words.specs.Le.{Bytes}
 use Rattle.words.proofs.LeLaws.{num-lt, bytes-part}
-use Rattle.answers.specs.declared.Answer.TheVariants as A
+use Rattle.answers.specs.Answer as A
 use Rattle.answers.specs.Numbers.{accepts}
 use Rattle.layout.specs.Parts.{record_at}
 use Rattle.layout.proofs.Limits.{Limits, limits}

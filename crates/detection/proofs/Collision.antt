@@ -16,7 +16,7 @@ use Rattle.layout.specs.Parts.{record_at, tag_at, flake_at}
 use Rattle.layout.specs.Spots.{spot_at}
 use Rattle.layout.proofs.Limits.{Limits, limits}
 use Rattle.layout.proofs.Places.{Inside}
-use Rattle.answers.specs.declared.Answer.TheVariants as A
+use Rattle.answers.specs.Answer as A
 use Rattle.answers.specs.Numbers.{accepts}
 use Rattle.records.specs.Journal.{bit}
 use Rattle.nodes.specs.Nodes.{record_part, tags_part}

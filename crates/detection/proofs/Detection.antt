@@ -16,7 +16,7 @@ use Rattle.layout.specs.Spots.{spot_at}
 use Rattle.layout.specs.Shaped.{Shaped}
 use Rattle.layout.proofs.Limits.{Limits, limits, cipher-le, cipher-known}
 use Rattle.layout.proofs.Places.{Inside}
-use Rattle.answers.specs.declared.Answer.TheVariants as A
+use Rattle.answers.specs.Answer as A
 use Rattle.answers.specs.Numbers.{accepts}
 use Rattle.answers.specs.Stages.{and_then}
 use Rattle.answers.proofs.StageLaws.{both_stages, accepted_is}

@@ -18,7 +18,7 @@ use Rattle.layout.specs.Shape.{is_one, height_of, leaves}
 use Rattle.layout.specs.Parts.{node_at}
 use Rattle.layout.specs.Shaped.{Shaped}
 use Rattle.layout.proofs.Limits.{lent_small}
-use Rattle.answers.specs.declared.Answer.TheVariants as A
+use Rattle.answers.specs.Answer as A
 use Rattle.answers.specs.declared.Place.TheVariants as P
 use Rattle.answers.proofs.StageLaws.{granted}
 use Rattle.records.specs.declared.Record.{Record}

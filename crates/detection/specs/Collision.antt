@@ -1,7 +1,7 @@
 -- What it takes to give one drive two volumes for the same read.
 use Rattle.std.specs.Prelude.{ℕ, ◌+◌, ◌<◌, ◌≤◌, ◌≡◌, ◌⊎◌, List, length, get_or}
 use Rattle.layout.specs.Spots.{spot_at}
-use Rattle.answers.specs.declared.Answer.TheVariants as A
+use Rattle.answers.specs.Answer as A
 use Rattle.keys.specs.Tags.{covered}
 use Rattle.nodes.specs.Alike.{Alike}
 use Rattle.drive.specs.declared.Drive.{Drive}

@@ -18,18 +18,9 @@ use Rattle.totals.specs.declared.Fleet.{Fleet}
 use Rattle.totals.specs.Fleet.{nobody, joined}
 use Rattle.fleets.specs.Lines.{lines_of, goes, gather_from, gathered_in, printed, fleet_line}
 use Rattle.fleets.proofs.GatherLaws.{lines_first}
+use Rattle.fleets.proofs.PieceLaws.{up_to_cut}
 
--- the first line and what follows, of the first b bytes
-up_to_cut : (c b : ℕ) (i : List ℕ) → up_to c (take b i) ≡ take b (up_to c i)
-unfolding up_to
-up_to_cut c zero i = refl
-up_to_cut c (suc b) [] = refl
-up_to_cut c (suc b) (x ∷ i) = go (eqb x c) (up_to_cut c b i)
-  where
-    go : (t : Bool) → up_to c (take b i) ≡ take b (up_to c i) → pick t [] (x ∷ up_to c (take b i)) ≡ take (suc b) (pick t [] (x ∷ up_to c i))
-    go true h = refl
-    go false h = ap (λ (l : List ℕ). x ∷ l) h
-
+-- what follows the first line, of the first b bytes
 past_cut : (c b : ℕ) (i : List ℕ) → length (up_to c i) < b → past c (take b i) ≡ take (b - suc (length (up_to c i))) (past c i)
 unfolding up_to past
 past_cut c zero i h = absurd (omega arith)

@@ -1,4 +1,5 @@
 pub mod GatherLaws
+pub mod PieceLaws
 pub mod LineLaws
 pub mod OpenLaws
 pub mod EnoughLaws

@@ -2,11 +2,12 @@
 use mathlib.Core.Path.{◌≡◌, sym, ap, ◌∙◌}
 use mathlib.Core.Bool.{Bool, true, false}
 use mathlib.Core.List.{List, [], ◌∷◌, ◌++◌, append_assoc}
-use Prim.Native.Nat.{ℕ, ◌<◌, ◌≤◌}
+use Rattle.std.specs.Prelude.{Ok, Err}
+use Prim.Native.Nat.{ℕ, ◌≤◌}
 use native.Mathlib.Omega.{arith}
 use lib.Dec.{eqb}
 use lib.ListN.{length, take, length-append}
-use lib.Seq.{length-sets, length-take-le, take_all}
+use lib.Seq.{length-sets, length-take-le}
 use borrow.Author.Tests.{eq-eqb, ne_eqb}
 use Rattle.base.specs.Pick.{pick}
 use Rattle.line.specs.Decimal.{decimal}
@@ -15,8 +16,8 @@ use Rattle.line.proofs.PutLaws.{decimal-le}
 use Rattle.standings.specs.Standing.{standing_text}
 use Rattle.standings.proofs.StandingLaws.{standing_le}
 use Rattle.totals.specs.declared.Fleet.{Fleet}
-use Rattle.fleets.specs.declared.Gathered.{Gathered}
-use Rattle.fleets.specs.declared.Gathered.TheVariants as G
+use Rattle.fleets.specs.Gathered.{Gathered}
+use Rattle.fleets.specs.Gathered as G
 use Rattle.fleets.specs.Texts.{t_drives, t_last, t_open}
 use Rattle.fleets.specs.Lines.{gathered_in, open_line, closed_line, printed, fleet_line}
 
@@ -41,12 +42,12 @@ unfolding closed_line
 closed_le f = simp length-append (omega (arith, decimal-le f.drives, standing_le f.total, decimal-le f.last))
 
 printed-le : (g : Gathered) → length (printed g) ≤ 140
-printed-le (G.Whole f) = go (eqb f.drives 0)
+printed-le (Ok f) = go (eqb f.drives 0)
   where
     go : (x : Bool) → length (pick x (open_line 0) (closed_line f)) ≤ 140
     go true = open_le 0
     go false = closed_le f
-printed-le (G.Open k) = open_le k
+printed-le (Err o) = open_le o.line
 
 -- the line by what was gathered
 pub printed_open : (i : List ℕ) (k : ℕ) {g : Gathered} → g ≡ gathered_in i → g ≡ G.Open k → open_line k ≡ fleet_line i
@@ -71,7 +72,3 @@ fleet_fits i {s} {x} {k} h f =
     let long : length x ≡ length s = ap length f.stored ∙ length-sets s 0 (fleet_line i) in
     let fits : k ≤ length x = omega (arith, f.behind, fleet_short i) in
     (fits, sym (length-take-le k x fits))
-
--- a read past the buffer's end is all of it
-pub read_all : (read : ℕ) (b : List ℕ) → length b < read → fleet_line b ≡ fleet_line (take read b)
-read_all read b h = ap fleet_line (sym (take_all read b (omega arith)))

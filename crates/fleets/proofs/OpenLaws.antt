@@ -14,7 +14,7 @@ use Rattle.base.proofs.PickLaws.{yes, no, both-on, both_off, told}
 use Rattle.standings.specs.declared.Standing.{Standing}
 use Rattle.standings.specs.Standing.{standing_in, taken}
 use Rattle.totals.specs.declared.Fleet.{Fleet}
-use Rattle.fleets.specs.declared.Gathered.TheVariants as G
+use Rattle.fleets.specs.Gathered as G
 use Rattle.totals.specs.Fleet.{nobody, joined, fleet_of}
 use Rattle.fleets.specs.Lines.{lines_of, goes, gather_from, gathered_in, open_line, closed_line, fleet_line}
 use Rattle.fleets.specs.Claims.{drives_in, AllTaken, FirstBad}

@@ -1,12 +1,12 @@
 -- Document 02, Item 11: "A program reads such lines from standard input, one per drive, and prints one line".
-use Rattle.std.specs.Prelude.{ℕ, ◌+◌, Bool, List, [], ◌∷◌, ◌++◌, eqb, ltb}
+use Rattle.std.specs.Prelude.{ℕ, ◌+◌, Bool, List, [], ◌∷◌, ◌++◌, eqb, ltb, Ok, Err}
 use Rattle.base.specs.Pick.{pick, both}
 use Rattle.line.specs.Decimal.{decimal}
 use Rattle.line.specs.Lines.{newline}
 use Rattle.standings.specs.Standing.{standing_text, standing_in, taken}
 use Rattle.totals.specs.declared.Fleet.{Fleet}
-use Rattle.fleets.specs.declared.Gathered.{Gathered}
-use Rattle.fleets.specs.declared.Gathered.TheVariants as G
+use Rattle.fleets.specs.Gathered.{Gathered}
+use Rattle.fleets.specs.Gathered as G
 use Rattle.fleets.specs.Texts.{t_drives, t_last, t_open}
 use Rattle.totals.specs.Fleet.{nobody, joined}
 
@@ -47,8 +47,8 @@ closed_line f = t_drives ++ (decimal f.drives ++ (32 ∷ (standing_text f.total 
 
 -- "an empty list prints `open=0`"
 abbrev pub printed : Gathered → List ℕ
-printed (G.Whole f) = pick (eqb f.drives 0) (open_line 0) (closed_line f)
-printed (G.Open k) = open_line k
+printed (Ok f) = pick (eqb f.drives 0) (open_line 0) (closed_line f)
+printed (Err o) = open_line o.line
 
 -- the line for any input
 unfoldable pub fleet_line : List ℕ → List ℕ

@@ -19,8 +19,8 @@ use Rattle.layout.specs.Spots.{capacity, offset_at}
 use Rattle.layout.specs.Shaped.{Shaped}
 use Rattle.layout.proofs.Limits.{limits, inside}
 use Rattle.layout.proofs.Places.{index_lt}
-use Rattle.answers.specs.declared.Answer.{Answer}
-use Rattle.answers.specs.declared.Answer.TheVariants as A
+use Rattle.answers.specs.Answer.{Answer}
+use Rattle.answers.specs.Answer as A
 use Rattle.answers.specs.Numbers.{accepts}
 use Rattle.answers.proofs.StageLaws.{goes_on, stops, first-answers, both_stages, accepted_is}
 use Rattle.records.specs.declared.Record.{Record}

@@ -2,7 +2,7 @@
 -- proofs/Calls.antt.
 use Rattle.std.specs.Prelude.{ℕ, ◌+◌, ◌*◌, ◌≤◌, ◌≡◌, false, List, [], length}
 use Rattle.base.specs.Lists.{part, tab}
-use Rattle.answers.specs.declared.Answer.TheVariants as A
+use Rattle.answers.specs.Answer as A
 use Rattle.answers.specs.Numbers.{accepts}
 use Rattle.drive.specs.declared.Drive.{Drive}
 use Rattle.nuggets.specs.Nugget.{byte_of}

@@ -11,7 +11,7 @@ use Rattle.base.specs.Pick.{pick, both}
 use Rattle.base.specs.Lists.{same}
 use Rattle.base.proofs.PickLaws.{told, both-on}
 use Rattle.base.proofs.FoldLaws.{same_true}
-use Rattle.answers.specs.declared.Answer.TheVariants as A
+use Rattle.answers.specs.Answer as A
 use Rattle.answers.specs.Numbers.{accepts}
 use Rattle.records.specs.Record.{record_of}
 use Rattle.drive.specs.declared.Drive.{Drive}

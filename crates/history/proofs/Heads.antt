@@ -10,7 +10,7 @@ use borrow.Author.Tests.{eq-eqb, le-leb, leb-true}
 use Rattle.base.specs.Lists.{part, same}
 use Rattle.base.proofs.PickLaws.{both_left, both_right, both-on, clash}
 use Rattle.base.proofs.FoldLaws.{same_true, same_refl}
-use Rattle.answers.specs.declared.Answer.TheVariants as A
+use Rattle.answers.specs.Answer as A
 use Rattle.layout.specs.declared.Shape.{Shape}
 use Rattle.layout.specs.Shape.{in_limits}
 use Rattle.layout.specs.Shaped.{Shaped}

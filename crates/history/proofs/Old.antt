@@ -12,7 +12,7 @@ use Rattle.base.specs.Lists.{part, same}
 use Rattle.base.proofs.PickLaws.{yes, no, told}
 use Rattle.base.proofs.FoldLaws.{same_true, same_refl}
 use Rattle.blake2s.specs.Hash.{blake2s}
-use Rattle.answers.specs.declared.Answer.TheVariants as A
+use Rattle.answers.specs.Answer as A
 use Rattle.answers.specs.Numbers.{accepts}
 use Rattle.answers.proofs.StageLaws.{goes_on, first-answers}
 use Rattle.records.specs.Journal.{bit}

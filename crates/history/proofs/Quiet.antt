@@ -7,7 +7,7 @@ use Prim.Native.Nat.{ℕ, zero, suc, ◌+◌, ◌<◌, ◌≤◌}
 use native.Mathlib.Omega.{arith}
 use lib.Bits.{bit_and}
 use Rattle.base.proofs.PickLaws.{yes, no, told, both_left}
-use Rattle.answers.specs.declared.Answer.TheVariants as A
+use Rattle.answers.specs.Answer as A
 use Rattle.answers.specs.Numbers.{accepts}
 use Rattle.layout.specs.declared.Shape.{Shape}
 use Rattle.layout.specs.Shaped.{Shaped}

@@ -9,7 +9,7 @@ use lib.ListN.{length, get_or}
 use borrow.Author.Tests.{le-leb, lt-ltb}
 use Rattle.base.specs.Pick.{pick, both}
 use Rattle.base.proofs.PickLaws.{yes, no, both-on, either_off}
-use Rattle.answers.specs.declared.Answer.TheVariants as A
+use Rattle.answers.specs.Answer as A
 use Rattle.answers.specs.Numbers.{accepts}
 use Rattle.history.specs.World.{World, Call, mount, write, begin, sweep, finish, discard, asks}
 use Rattle.history.specs.Step.{answer_to, world_after, mounted, step, writes_at, alters_at}

@@ -6,8 +6,8 @@ use Rattle.base.specs.Pick.{pick, either, both}
 use Rattle.base.specs.Lists.{part, same}
 use Rattle.messages.specs.Messages.{seal_message, check_message}
 use Rattle.blake2s.specs.Hash.{blake2s}
-use Rattle.answers.specs.declared.Answer.{Answer}
-use Rattle.answers.specs.declared.Answer.TheVariants as A
+use Rattle.answers.specs.Answer.{Answer}
+use Rattle.answers.specs.Answer as A
 use Rattle.answers.specs.Numbers.{accepts}
 use Rattle.records.specs.Journal.{bit, many}
 use Rattle.records.specs.Listing.{Entry}

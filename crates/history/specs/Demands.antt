@@ -15,7 +15,7 @@ use Rattle.std.proofs.Math.Option.{some}
 use Rattle.base.specs.Pick.{both}
 use Rattle.base.specs.Lists.{tab, part}
 use Rattle.words.specs.Xor.{xorl}
-use Rattle.answers.specs.declared.Answer.TheVariants as A
+use Rattle.answers.specs.Answer as A
 use Rattle.answers.specs.Numbers.{number_of}
 use Rattle.layout.specs.declared.Shape.{Shape}
 use Rattle.layout.specs.Parts.{tag_at}

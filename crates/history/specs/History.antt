@@ -1,7 +1,7 @@
 -- Demand 3: "Begin with one accepted format, which isn't repeated. Make any calls after it".
 use Rattle.std.specs.Prelude.{ℕ, ◌^◌, ◌<◌, ◌≡◌, Bool, false, List, [], ◌∷◌, length}
 use Rattle.base.specs.Pick.{either}
-use Rattle.answers.specs.declared.Answer.TheVariants as A
+use Rattle.answers.specs.Answer as A
 use Rattle.layout.specs.declared.Shape.{Shape}
 use Rattle.drive.specs.Drive.{zeros}
 use Rattle.opening.specs.Format.{format_answer, format_done, format_volume}

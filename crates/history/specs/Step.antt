@@ -1,7 +1,7 @@
 -- A call made on what the user holds. Answers, drives, volumes and pads are those of the calls' own definitions.
 use Rattle.std.specs.Prelude.{ℕ, ◌+◌, Bool, false, List, [], ◌++◌, leb, ltb, length}
 use Rattle.base.specs.Pick.{pick, both, either}
-use Rattle.answers.specs.declared.Answer.{Answer}
+use Rattle.answers.specs.Answer.{Answer}
 use Rattle.answers.specs.Numbers.{accepts}
 use Rattle.records.specs.Listing.{Entry}
 use Rattle.drive.specs.declared.Drive.{Drive}

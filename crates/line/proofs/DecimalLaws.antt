@@ -1,18 +1,18 @@
 -- Laws of decimal digits: a turn and the end of the loops that count and store them.
 use mathlib.Core.Path.{◌≡◌, refl, sym, ◌∙◌, ap}
 use mathlib.Core.Bool.{true, false}
-use mathlib.Core.List.{List, [], ◌∷◌}
+use mathlib.Core.List.{List, [], ◌∷◌, ◌++◌}
 use mathlib.Core.Logic.{◌⊎◌, inl, inr}
-use Prim.Native.Nat.{ℕ, zero, suc, ◌+◌, ◌-◌, ◌*◌, ◌/◌, ◌%◌, ◌^◌, ◌<◌, ◌≤◌}
-use native.Mathlib.Nat.{pow-suc, add_comm, lt_of_lt_of_le}
+use Prim.Native.Nat.{ℕ, zero, suc, ◌+◌, ◌*◌, ◌/◌, ◌%◌, ◌^◌, ◌<◌, ◌≤◌}
+use native.Mathlib.Nat.{pow-suc, add_comm, lt_of_lt_of_le, one-le-pow}
 use native.Mathlib.Numerals.{add-one}
 use native.Mathlib.Omega.{arith}
 use lib.Dec.{leb, lit≤}
-use lib.ListN.{length, set, length-append}
-use lib.Seq.{sets}
+use lib.ListN.{length, length-append}
 use borrow.Author.Tests.{lt-ltb, le-ltb, leb-true, leb-false}
+use Rattle.std.specs.Fmt as Fmt
+use Rattle.std.proofs.lemmas.Fmt.{AppendsLastDigit, decimal_from_appends, length-decimal-le}
 use Rattle.base.proofs.PickLaws.{yes, no, told}
-use Rattle.base.proofs.PartLaws.{sets-append, set-sets}
 use Rattle.line.specs.Decimal.{digits, width_in, decimal, long_decimal}
 
 pub length_digits : (w n : ℕ) → length (digits w n) ≡ w
@@ -24,6 +24,10 @@ pub width-last : (k n : ℕ) → n < 10 → width_in k n ≡ 1
 unfolding width_in
 width-last zero n h = refl
 width-last (suc k) n h = yes _ (lt-ltb n 10 h) refl
+
+width-zero : (n : ℕ) → width_in 0 n ≡ 1
+unfolding width_in
+width-zero n = refl
 
 width-next : (k n : ℕ) → 10 ≤ n → width_in (suc k) n ≡ 1 + width_in k (n / 10)
 unfolding width_in
@@ -68,41 +72,31 @@ pub long_decimal_lem : (n : ℕ) → n < 2 ^ 32 → long_decimal n ≡ decimal n
 unfolding long_decimal decimal
 long_decimal_lem n h = ap (λ (w : ℕ). digits w n) (sym (width_same 9 19 n (lit≤ tt) (lt_of_lt_of_le h (lit≤ tt))))
 
--- a turn of the loop that counts digits: w are counted, x is left
-pub width_room : (w x : ℕ) → x < 10 ^ (21 - w) → 10 ≤ x → w ≤ 20 → w ≤ 19
-width_room w x h t l = go (told (leb w 19))
+-- the toolchain's decimal digits are these
+written : ℕ → ℕ → List ℕ
+written zero n = []
+written (suc k) n = digits (width_in k n) n
+
+appends : AppendsLastDigit written
+unfolding written digits
+appends = record { one = one; more = more }
   where
-    go : (leb w 19 ≡ true) ⊎ (leb w 19 ≡ false) → w ≤ 19
-    go (inl e) = leb-true w 19 e
-    go (inr e) =
-        let top : w ≡ 20 = omega (arith, leb-false w 19 e) in
-        let small : x < 10 ^ (21 - 20) = rw top at h in
-        absurd (omega arith)
+    one : (k n : ℕ) → n < 10 → written (suc k) n ≡ (48 + n) ∷ []
+    one k n h = rw (width-last k n h) (ap (λ (x : ℕ). (48 + x) ∷ []) (omega arith))
 
-pub width-left : (w x : ℕ) → x < 10 ^ (21 - w) → w ≤ 19 → x / 10 < 10 ^ (21 - (w + 1))
-width-left w x h l =
-    let e : 21 - w ≡ suc (21 - (w + 1)) = omega arith in
-    let big : x < 10 ^ (21 - (w + 1)) * 10 = rw (pow-suc 10 (21 - (w + 1))) at (rw e at h) in
-    omega arith
+    more : (k n : ℕ) → 10 ≤ n → written (suc k) n ≡ written k (n / 10) ++ ((48 + n % 10) ∷ [])
+    more zero n h = ap (λ (w : ℕ). digits w n) (width-zero n)
+    more (suc k) n h = ap (λ (w : ℕ). digits w n) (width-next k n h ∙ add_comm 1 (width_in k (n / 10)) ∙ add-one (width_in k (n / 10)))
 
-pub width-turn : (w x n : ℕ) → w ≤ 19 → 10 ≤ x → w + width_in (20 - w) x ≡ n → (w + 1) + width_in (20 - (w + 1)) (x / 10) ≡ n
-width-turn w x n l t e =
-    let f : 20 - w ≡ suc (20 - (w + 1)) = omega arith in
-    let g : w + width_in (suc (20 - (w + 1))) x ≡ n = rw f at e in
-    let k : w + (1 + width_in (20 - (w + 1)) (x / 10)) ≡ n = rw (width-next (20 - (w + 1)) x t) at g in
-    omega arith
+pub decimal_is : (n : ℕ) → n < 2 ^ 64 → Fmt.decimal n ≡ long_decimal n
+unfolding written long_decimal
+decimal_is n h = sym (decimal_from_appends written appends 20 n h (length-decimal-le 20 n (lit≤ tt) (lt_of_lt_of_le h (lit≤ tt)) h))
 
--- a turn of the loop that stores digits from the last on: i were left before it, of the number x
-pub digits-turn : (s : List ℕ) (at i x : ℕ) → 0 < i → sets (set s (at + (i - 1)) (48 + x % 10)) at (digits (i - 1) (x / 10)) ≡ sets s at (digits i x)
-unfolding digits
-digits-turn s at zero x h = absurd (omega arith)
-digits-turn s at (suc i) x h =
-    let e : suc i - 1 ≡ i = omega arith in
-    rw e
-    (sym (sets-append s at (digits i (x / 10)) ((48 + x % 10) ∷ []) (at + i) (rw (length_digits i (x / 10)))
-    ∙ set-sets s at (digits i (x / 10)) (at + i) (48 + x % 10) (rw (length_digits i (x / 10)) (omega arith))))
-
-pub digits_end : (s : List ℕ) (at i x : ℕ) → i ≤ 0 → sets s at (digits i x) ≡ s
-unfolding digits
-digits_end s at zero x h = refl
-digits_end s at (suc i) x h = absurd (omega arith)
+-- the power of ten at or below a number counts its digits but one
+pub width_power : (k j n : ℕ) → 10 ^ k ≤ n → n < 10 * 10 ^ k → k ≤ j → width_in j n ≡ k + 1
+width_power zero j n l h m = width-last j n (omega arith)
+width_power (suc k) zero n l h m = absurd (omega arith)
+width_power (suc k) (suc j) n l h m =
+    let low : 10 ^ k * 10 ≤ n = rw (pow-suc 10 k) at l in
+    let high : n < 10 * (10 ^ k * 10) = rw (pow-suc 10 k) at h in
+    width-next j n (omega (arith, low, one-le-pow k 10 (lit≤ tt))) ∙ rw (width_power k j (n / 10) (omega arith) (omega arith) (omega arith)) (omega arith)

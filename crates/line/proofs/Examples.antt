@@ -1,7 +1,7 @@
 -- Document 01's own lines, by computation.
 use mathlib.Core.Path.{◌≡◌, refl}
 use mathlib.Core.List.{[], ◌∷◌}
-use Rattle.answers.specs.declared.Answer.TheVariants as A
+use Rattle.answers.specs.Answer as A
 use Rattle.answers.specs.declared.Place.TheVariants as P
 use Rattle.answers.specs.Classes.{class_of}
 use Rattle.line.specs.Decimal.{digits, width_in, decimal}

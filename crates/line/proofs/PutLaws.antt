@@ -5,10 +5,11 @@ use Prim.Native.Nat.{ℕ, ◌+◌, ◌/◌, ◌%◌, ◌≤◌}
 use native.Mathlib.Omega.{arith}
 use lib.ListN.{length, length-append}
 use lib.Dec.{lit≤}
+use Rattle.std.specs.Prelude.{Option, None, Some}
 use Rattle.base.proofs.PartLaws.{sets-append}
 use Rattle.answers.specs.Numbers.{number_of, carried_of}
 use Rattle.answers.specs.Classes.{class_of}
-use Rattle.answers.specs.declared.Answer.{Answer}
+use Rattle.answers.specs.Answer.{Answer}
 use Rattle.answers.specs.declared.Carried.{Carried}
 use Rattle.answers.specs.declared.Carried.TheVariants as K
 use Rattle.answers.specs.declared.Class.{Class}
@@ -38,21 +39,18 @@ pub long-le : (n : ℕ) → length (long_decimal n) ≤ 20
 unfolding long_decimal
 long-le n = rw (length_digits (width_in 19 n) n) (width-le 19 n)
 
--- how far a field, a share, a class and what an answer carries reach
-pub field-le : {s x : List ℕ} {at r : ℕ} (p : List ℕ) (n : ℕ) → Put s at (p ++ decimal n) r x → r ≤ at + length p + 10
-field-le p n f = omega (arith, f.behind, length-append p (decimal n), decimal-le n)
-
+-- how far a share, a class and what an answer carries reach
 pub share-le : (h : ℕ) → length (share_text h) ≤ 13
 unfolding share_text
 share-le h = omega (arith, length-append (decimal (h / 100)) (46 ∷ (48 + h / 10 % 10) ∷ (48 + h % 10) ∷ []), decimal-le (h / 100))
 
-pub class_le : (k : Class) → length (class_text k) ≤ 7
-class_le C.Nothing = lit≤ tt
-class_le C.Form = lit≤ tt
-class_le C.Key = lit≤ tt
-class_le C.Altered = lit≤ tt
-class_le C.Request = lit≤ tt
-class_le C.Spent = lit≤ tt
+pub class_le : (k : Option Class) → length (class_text k) ≤ 7
+class_le None = lit≤ tt
+class_le (Some C.Form) = lit≤ tt
+class_le (Some C.Key) = lit≤ tt
+class_le (Some C.Altered) = lit≤ tt
+class_le (Some C.Request) = lit≤ tt
+class_le (Some C.Spent) = lit≤ tt
 
 place-le : (p : Place) → length (place_text p) ≤ 40
 place-le P.Head = lit≤ tt
@@ -61,18 +59,18 @@ place-le (P.Node i) = omega (arith, length-append t_node (decimal i), decimal-le
 place-le (P.Flake n f) =
     omega (arith, length-append (t_flake ++ decimal n) (32 ∷ decimal f), length-append t_flake (decimal n), decimal-le n, decimal-le f)
 
-pub carried-le : (k : Carried) → length (carried_text k) ≤ 40
-carried-le K.Nothing = lit≤ tt
-carried-le (K.At p) = place-le p
-carried-le (K.Many k) = lit≤ tt
-carried-le (K.Nugget n) = lit≤ tt
+pub carried-le : (k : Option Carried) → length (carried_text k) ≤ 40
+carried-le None = lit≤ tt
+carried-le (Some (K.At p)) = place-le p
+carried-le (Some (K.Many k)) = lit≤ tt
+carried-le (Some (K.Nugget n)) = lit≤ tt
 
 pub put_as : {s x : List ℕ} {at r : ℕ} (p q : List ℕ) → p ≡ q → Put s at p r x → Put s at q r x
 put_as p q e f = record { behind = rw e at f.behind; stored = rw e at f.stored }
 
 -- the pieces of a line, joined as the code puts them
 twelve : (a b c d e f g h i j k l : List ℕ)
-    → (((a ++ b) ++ (c ++ d)) ++ (e ++ f)) ++ ((((g ++ h) ++ i) ++ j) ++ (k ++ l))
+    → ((((((a ++ b) ++ (c ++ d)) ++ (e ++ f)) ++ (g ++ h)) ++ i) ++ j) ++ (k ++ l)
     ≡ a ++ (b ++ (c ++ (d ++ (e ++ (f ++ (g ++ (h ++ (i ++ (j ++ (k ++ l))))))))))
 twelve a b c d e f g h i j k l = simp append_assoc
 
@@ -80,23 +78,23 @@ six : (a b c d e f : List ℕ) → ((((a ++ b) ++ c) ++ d) ++ e) ++ f ≡ a ++ (
 six a b c d e f = simp append_assoc
 
 pub report_joins : (n m l k h d : ℕ)
-    → (((t_nuggets ++ decimal n) ++ (t_moved ++ decimal m)) ++ (t_left ++ decimal l)) ++ ((((t_flakes ++ decimal k) ++ t_share) ++ share_text h) ++ (t_done ++ decimal d))
+    → ((((((t_nuggets ++ decimal n) ++ (t_moved ++ decimal m)) ++ (t_left ++ decimal l)) ++ (t_flakes ++ decimal k)) ++ t_share) ++ share_text h) ++ (t_done ++ decimal d)
     ≡ report_text n m l k h d
 unfolding report_text
 report_joins n m l k h d =
     twelve t_nuggets (decimal n) t_moved (decimal m) t_left (decimal l) t_flakes (decimal k) t_share (share_text h) t_done (decimal d)
 
--- how far its nuggets and all of it reach
-pub nuggets-le : (n m l : ℕ) → length (((t_nuggets ++ decimal n) ++ (t_moved ++ decimal m)) ++ (t_left ++ decimal l)) ≤ 51
-nuggets-le n m l = simp length-append (omega (arith, decimal-le n, decimal-le m, decimal-le l))
-
+-- how far it reaches
 pub report-le : (n m l k h d : ℕ) → length (report_text n m l k h d) ≤ 105
 unfolding report_text
 report-le n m l k h d =
     simp length-append (omega (arith, decimal-le n, decimal-le m, decimal-le l, decimal-le k, share-le h, decimal-le d))
 
-pub refusal_text_lem : (a : Answer) (n : ℕ) (c : Class) (k : Carried) → n ≡ number_of a → c ≡ class_of n → k ≡ carried_of a
+pub refusal_text_lem : (a : Answer) (n : ℕ) (c : Option Class) (k : Option Carried) → n ≡ number_of a → c ≡ class_of n → k ≡ carried_of a
     → ((((t_refused ++ decimal n) ++ t_class) ++ class_text c) ++ carried_text k) ++ newline ≡ refusal_line a
 unfolding refusal_line
 refusal_text_lem a n c k e f g =
     rw (f, g, e) (six t_refused (decimal (number_of a)) t_class (class_text (class_of (number_of a))) (carried_text (carried_of a)) newline)
+
+-- how long what is put may be
+pub ruleset reaches = (length-append, decimal-le, share-le, class_le, carried-le, report-le)

@@ -127,7 +127,7 @@ pub far_space : Far 32
 far_space x h = ne_eqb (48 + x) 32 (λ e. omega (arith, e))
 
 -- a decimal number is read back
-value_more : (a : ℕ) (l : List ℕ) (b : ℕ) → value_from a (l ++ (b ∷ [])) ≡ value_from a l * 10 + (b - 48)
+pub value_more : (a : ℕ) (l : List ℕ) (b : ℕ) → value_from a (l ++ (b ∷ [])) ≡ value_from a l * 10 + (b - 48)
 unfolding value_from
 value_more a [] b = refl
 value_more a (x ∷ l) b = value_more (a * 10 + (x - 48)) l b

@@ -1,4 +1,5 @@
 pub mod Decimal
 pub mod Texts
 pub mod Lines
+pub mod Pages
 pub mod Reading

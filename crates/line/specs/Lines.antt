@@ -1,7 +1,7 @@
 -- Document 01, "The sheet program": the one line that it prints.
-use Rattle.std.specs.Prelude.{ℕ, ◌+◌, ◌/◌, ◌%◌, ◌≡◌, length, List, [], ◌∷◌, ◌++◌}
+use Rattle.std.specs.Prelude.{ℕ, ◌+◌, ◌/◌, ◌%◌, ◌≡◌, length, List, [], ◌∷◌, ◌++◌, Option, None, Some}
 use Rattle.std.proofs.lemmas.List.Edits.{sets}
-use Rattle.answers.specs.declared.Answer.{Answer}
+use Rattle.answers.specs.Answer.{Answer}
 use Rattle.answers.specs.declared.Carried.{Carried}
 use Rattle.answers.specs.declared.Carried.TheVariants as K
 use Rattle.answers.specs.declared.Class.{Class}
@@ -35,13 +35,13 @@ abbrev pub report_line : ℕ → ℕ → ℕ → ℕ → ℕ → ℕ → List �
 report_line n moved left flakes share done = report_text n moved left flakes share done ++ newline
 
 -- "Classes: answers 1 to 3 form, 4 to 6 key, 7 altered, 8 to 12 request, 13 to 15 spent."
-abbrev pub class_text : Class → List ℕ
-class_text C.Nothing = []
-class_text C.Form = t_form
-class_text C.Key = t_key
-class_text C.Altered = t_altered
-class_text C.Request = t_request
-class_text C.Spent = t_spent
+abbrev pub class_text : Option Class → List ℕ
+class_text None = []
+class_text (Some C.Form) = t_form
+class_text (Some C.Key) = t_key
+class_text (Some C.Altered) = t_altered
+class_text (Some C.Request) = t_request
+class_text (Some C.Spent) = t_spent
 
 -- "Answer 7 adds ` place=head`, ` place=record 2`, ` place=node 5` or ` place=flake 2 1`."
 abbrev pub place_text : Place → List ℕ
@@ -50,11 +50,11 @@ place_text (P.Record n) = t_record ++ decimal n
 place_text (P.Node i) = t_node ++ decimal i
 place_text (P.Flake n f) = (t_flake ++ decimal n) ++ (32 ∷ decimal f)
 
-abbrev pub carried_text : Carried → List ℕ
-carried_text K.Nothing = []
-carried_text (K.At p) = place_text p
-carried_text (K.Many k) = []
-carried_text (K.Nugget n) = []
+abbrev pub carried_text : Option Carried → List ℕ
+carried_text None = []
+carried_text (Some (K.At p)) = place_text p
+carried_text (Some (K.Many k)) = []
+carried_text (Some (K.Nugget n)) = []
 
 -- `refused=6 class=key`
 unfoldable pub refusal_line : Answer → List ℕ

@@ -13,7 +13,7 @@ use Rattle.base.specs.Lists.{part, same}
 use Rattle.base.proofs.PickLaws.{yes, told, both-on}
 use Rattle.base.proofs.PartLaws.{part-sets, part-sets-above, part-sets-below}
 use Rattle.base.proofs.FoldLaws.{same_refl}
-use Rattle.answers.specs.declared.Answer.TheVariants as A
+use Rattle.answers.specs.Answer as A
 use Rattle.answers.specs.Numbers.{accepts}
 use Rattle.layout.specs.declared.Shape.{Shape}
 use Rattle.layout.specs.Shape.{sized, known_version, known_cipher, known, in_limits, leaves, width_of}

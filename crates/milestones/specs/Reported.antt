@@ -1,7 +1,7 @@
 -- A drive's report as a line of the fleet's input.
 use Rattle.std.specs.Prelude.{ℕ, ◌≡◌, List, [], ◌∷◌, ◌++◌}
 use Rattle.words.specs.Le.{Bytes}
-use Rattle.answers.specs.declared.Answer.TheVariants as A
+use Rattle.answers.specs.Answer as A
 use Rattle.drive.specs.declared.Drive.{Drive}
 use Rattle.reports.specs.declared.told.Report.{Report}
 use Rattle.reports.specs.Report.{report_answer, report_of}

@@ -16,7 +16,7 @@ use Rattle.base.specs.Lists.{part}
 use Rattle.base.proofs.PickLaws.{yes, both_right, both-on}
 use Rattle.base.proofs.PartLaws.{part-sets}
 use Rattle.base.proofs.FoldLaws.{same_refl}
-use Rattle.answers.specs.declared.Answer.TheVariants as A
+use Rattle.answers.specs.Answer as A
 use Rattle.layout.specs.declared.Shape.{Shape}
 use Rattle.layout.specs.Shape.{known_version, in_limits, width_of}
 use Rattle.layout.specs.Shaped.{Shaped}

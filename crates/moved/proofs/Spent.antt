@@ -8,11 +8,9 @@ use native.Mathlib.Omega.{arith}
 use lib.Dec.{eqb}
 use borrow.Author.Tests.{eqb-true, eqb-false}
 use Rattle.base.proofs.PickLaws.{yes, no, told, clash}
-use Rattle.answers.specs.declared.Answer.{Answer}
-use Rattle.answers.specs.declared.Answer.TheVariants as A
-use Rattle.answers.specs.declared.Carried.{Carried}
-use Rattle.answers.specs.declared.Carried.TheVariants as K
-use Rattle.answers.specs.Numbers.{accepts, carried_of}
+use Rattle.answers.specs.Answer.{Answer}
+use Rattle.answers.specs.Answer as A
+use Rattle.answers.specs.Numbers.{accepts}
 use Rattle.answers.proofs.StageLaws.{goes_on, stops, passed}
 use Rattle.layout.specs.declared.Shape.{Shape}
 use Rattle.records.specs.Journal.{bit, lies_in}
@@ -33,17 +31,6 @@ masks_same held spent lies all = same_bits spent held (λ f. go f (told (bit spe
     go f (inl on) h = on ∙ sym (all f on)
     go f (inr off) (inl on) = absurd (clash (lies_bits held spent lies f on) off)
     go f (inr off) (inr none) = off ∙ sym none
-
--- the nugget that an answer carries
-nugget_in : Carried → ℕ
-nugget_in K.Nothing = 0
-nugget_in (K.At p) = 0
-nugget_in (K.Many k) = 0
-nugget_in (K.Nugget n) = n
-
-same-nugget : (m n : ℕ) → A.Discarded m ≡ A.Discarded n → m ≡ n
-unfolding nugget_in
-same-nugget m n e = ap (λ (a : Answer). nugget_in (carried_of a)) e
 
 module _ (s : Shape) (v : List ℕ) where
   abbrev one : ℕ → Bool
@@ -67,7 +54,8 @@ module _ (s : Shape) (v : List ℕ) where
           here same later i a b (inr w) = later i (omega (arith, a, eqb-false m i w)) b
       go (inr other) again =
           let refused : kept_tests s v m ≡ A.Discarded m = no _ other refl in
-          let is : m ≡ n = same-nugget m n (sym (stops (kept_tests s v m) _ (ap accepts refused) ∙ refused) ∙ e) in
+          let same : A.Discarded m ≡ A.Discarded n = sym (stops (kept_tests s v m) _ (ap accepts refused) ∙ refused) ∙ e in
+          let is : m ≡ n = cc in
           (omega (arith, is), omega (arith, is), rw (← is) other, λ i a b. absurd (omega (arith, is, a, b)))
 
   held-by_masks : (n : ℕ) → one n ≡ true → AllHeld s v n

@@ -3,7 +3,7 @@
 use Rattle.std.specs.Prelude.{ℕ, ◌+◌, ◌^◌, ◌<◌, ◌≡◌, true, false, List, length, drop}
 use Rattle.base.specs.Lists.{part}
 use Rattle.words.specs.Le.{Bytes}
-use Rattle.answers.specs.declared.Answer.TheVariants as A
+use Rattle.answers.specs.Answer as A
 use Rattle.layout.specs.Shape.{known_version}
 use Rattle.layout.specs.Parts.{tag_at}
 use Rattle.records.specs.Journal.{bit}

@@ -1,7 +1,7 @@
 -- Document 02, Item 6: "then 16 [..] when moving down and some nugget has a spent flake that isn't held (lowest reported)". Proved, under
 -- the same name in small letters, in proofs/Spent.antt.
 use Rattle.std.specs.Prelude.{ℕ, ◌<◌, ◌≡◌, true, List}
-use Rattle.answers.specs.declared.Answer.TheVariants as A
+use Rattle.answers.specs.Answer as A
 use Rattle.layout.specs.declared.Shape.{Shape}
 use Rattle.records.specs.Journal.{bit}
 use Rattle.records.specs.Record.{record_of}

@@ -19,7 +19,10 @@ use Rattle.line.specs.Decimal.{decimal, long_decimal, width_in}
 use Rattle.line.specs.Texts.{t_flakes}
 use Rattle.line.specs.Lines.{Put, newline}
 use Rattle.line.proofs.DecimalLaws.{length_digits, width-le, width_same}
-use Rattle.line.proofs.PutLaws.{put_then, put_as, put-none, decimal-le, long-le}
+use Rattle.line.specs.declared.Page.{Page}
+use Rattle.line.specs.Pages.{Puts}
+use Rattle.line.proofs.PutLaws.{decimal-le, long-le}
+use Rattle.line.proofs.PageLaws.{puts_then, puts_as, puts-none}
 use Rattle.pages.specs.Words.{t_nugget, t_key_is, t_new, t_old, t_present, t_epoch, t_keycount, t_counter, t_secret, t_needed, t_free, t_none}
 use Rattle.pages.specs.Page.{key_text, present_flakes, others, flakes_text, sign_for, with_signs, nugget_text, nugget_line, nugget_lines, counter_text, counter_line, old_state, old_line, drive_text}
 
@@ -55,16 +58,15 @@ first_is (a ∷ fs) {s} {x} {at} {next} f =
     ne_eqb next at (λ e. omega (arith, e, f.behind, length-append (61 ∷ decimal a) (others fs)))
 
 -- a turn of the loop over the flakes
-pub signs_turn : (p j : ℕ) {s x y : List ℕ} {at next r : ℕ} → Put s at (with_signs (present_flakes p j)) next x
-    → Put x next (pick (bit j p) (sign_for (eqb next at) ++ decimal p) []) r y
-    → Put s at (with_signs (present_flakes (p + 1) j)) r y
-signs_turn p j {s} {x} {y} {at} {next} {r} f g =
-    let h : Put x next (pick (bit j p) (sign_for (none (present_flakes p j)) ++ decimal p) []) r y = rw (first_is (present_flakes p j) f) at g in
-    rw (add-one p) (put_as _ _ (sym (signs_next p j)) (put_then _ _ f h))
+pub signs_turn : (p j : ℕ) {a b c : Page} → Puts a (with_signs (present_flakes p j)) b → Puts b (pick (bit j p) (sign_for (eqb b.at a.at) ++ decimal p) []) c
+    → Puts a (with_signs (present_flakes (p + 1) j)) c
+signs_turn p j {a} {b} {c} f g =
+    let h : Puts b (pick (bit j p) (sign_for (none (present_flakes p j)) ++ decimal p) []) c = rw (first_is (present_flakes p j) f.put) at g in
+    rw (add-one p) (puts_as _ _ (sym (signs_next p j)) (puts_then _ _ f h))
 
-pub signs_start : (s : List ℕ) (at j : ℕ) → Put s at (with_signs (present_flakes 0 j)) at s
+pub signs_start : (a : Page) (j : ℕ) → Puts a (with_signs (present_flakes 0 j)) a
 unfolding present_flakes with_signs
-signs_start s at j = put-none s at
+signs_start a j = puts-none a
 
 -- a flake below 100 has two digits at most
 two_digits : (f : ℕ) → f < 100 → length (decimal f) ≤ 2
@@ -82,14 +84,14 @@ signs_le (suc p) j h = rw (signs_next p j) (go (bit j p) (none (present_flakes p
     go false c l = omega (arith, length-append (with_signs (present_flakes p j)) [])
 
 -- the list behind its `=`: with no flake the mark and the dash are still to be put
-pub flakes-none : (fs : List ℕ) {s x y : List ℕ} {at a r : ℕ} → Put s at (with_signs fs) a x → at ≡ a → Put x a (61 ∷ t_none) r y → Put s at (61 ∷ flakes_text fs) r y
+pub flakes-none : (fs : List ℕ) {a b c : Page} → Puts a (with_signs fs) b → b.at ≡ a.at → Puts b (61 ∷ t_none) c → Puts a (61 ∷ flakes_text fs) c
 unfolding with_signs flakes_text
-flakes-none [] f e g = put_then [] _ f g
-flakes-none (b ∷ fs) {at = at} {a = a} f e g = absurd (omega (arith, e, f.behind, length-append (61 ∷ decimal b) (others fs)))
+flakes-none [] f e g = puts_then [] _ f g
+flakes-none (b ∷ fs) f e g = absurd (omega (arith, e, f.put.behind, length-append (61 ∷ decimal b) (others fs)))
 
-pub flakes-some : (fs : List ℕ) {s x : List ℕ} {at a : ℕ} → Put s at (with_signs fs) a x → (at ≡ a → ⊥) → Put s at (61 ∷ flakes_text fs) a x
+pub flakes-some : (fs : List ℕ) {a b : Page} → Puts a (with_signs fs) b → (b.at ≡ a.at → ⊥) → Puts a (61 ∷ flakes_text fs) b
 unfolding with_signs flakes_text
-flakes-some [] {at = at} {a = a} f n = absurd (n (omega (arith, f.behind)))
+flakes-some [] f n = absurd (n (omega (arith, f.put.behind)))
 flakes-some (b ∷ fs) f n = f
 
 -- the key's word, by the epoch and the state
@@ -106,7 +108,7 @@ unfolding key_text
 key-old d e h = rw (ne_eqb e d.epoch h)
 
 -- how far the pieces of a nugget's line reach
-key-le : (d : Drive) (e : ℕ) → length (t_key_is ++ key_text d e) ≤ 12
+pub key-le : (d : Drive) (e : ℕ) → length (t_key_is ++ key_text d e) ≤ 12
 unfolding key_text
 key-le d e = go (eqb e d.epoch) (is_changing d.state)
   where
@@ -115,22 +117,13 @@ key-le d e = go (eqb e d.epoch) (is_changing d.state)
     go true false = lit≤ tt
     go false b = lit≤ tt
 
-flakes-le : (p j : ℕ) → p ≤ 64 → length (t_flakes ++ flakes_text (present_flakes p j)) ≤ 201
+pub flakes-le : (p j : ℕ) → p ≤ 64 → length (t_flakes ++ flakes_text (present_flakes p j)) ≤ 201
 unfolding with_signs flakes_text
 flakes-le p j h = go (present_flakes p j) (signs_le p j (omega arith))
   where
     go : (fs : List ℕ) → length (with_signs fs) ≤ 3 * p → length (t_flakes ++ flakes_text fs) ≤ 201
     go [] l = lit≤ tt
     go (f ∷ fs) l = omega (arith, length-append (decimal f) (others fs), length-append (61 ∷ decimal f) (others fs), length-append t_flakes (decimal f ++ others fs))
-
-pub key_reach : (d : Drive) (e : ℕ) {s x : List ℕ} {at r : ℕ} → Put s at (t_key_is ++ key_text d e) r x → r ≤ at + 12
-key_reach d e f = omega (arith, f.behind, key-le d e)
-
-pub long_reach : (n : ℕ) {s x : List ℕ} {at r : ℕ} → Put s at (long_decimal n) r x → r ≤ at + 20
-long_reach n f = omega (arith, f.behind, long-le n)
-
-pub flakes_reach : (p j : ℕ) {s x : List ℕ} {at r : ℕ} → Put s at (t_flakes ++ flakes_text (present_flakes p j)) r x → p ≤ 64 → r ≤ at + 201
-flakes_reach p j f h = omega (arith, f.behind, flakes-le p j h)
 
 -- the pieces of a line, joined as the code puts them
 eleven : (a b c d e f g h i j k : List ℕ)
@@ -163,20 +156,17 @@ lines_le d v zero h = omega arith
 lines_le d v (suc k) h =
     omega (arith, length-append (nugget_lines d v k) (nugget_line d (record_of (shape_of d) v k) k), lines_le d v k h, line-le d (record_of (shape_of d) v k) k h)
 
-pub lines_reach : (d : Drive) (v : List ℕ) (k : ℕ) {s x : List ℕ} {at r : ℕ} → Put s at (nugget_lines d v k) r x → d.p ≤ 64 → r ≤ at + 300 * k
-lines_reach d v k f h = omega (arith, f.behind, lines_le d v k h)
-
 -- the loop over the nuggets
-pub lines_start : (d : Drive) (v s : List ℕ) (at : ℕ) → Put s at (nugget_lines d v 0) at s
+pub lines_start : (d : Drive) (v : List ℕ) (a : Page) → Puts a (nugget_lines d v 0) a
 unfolding nugget_lines
-lines_start d v s at = put-none s at
+lines_start d v a = puts-none a
 
-pub lines_turn : (d : Drive) (v : List ℕ) (n : ℕ) {s x y : List ℕ} {at next k : ℕ} {z : Shape} {r : Record} → Put s at (nugget_lines d v n) next x
-    → z ≡ shape_of d → r ≡ record_of z v n → Put x next (nugget_line d r n) k y → Put s at (nugget_lines d v (n + 1)) k y
+pub lines_turn : (d : Drive) (v : List ℕ) (n : ℕ) {a b c : Page} {z : Shape} {r : Record} → Puts a (nugget_lines d v n) b → z ≡ shape_of d → r ≡ record_of z v n
+    → Puts b (nugget_line d r n) c → Puts a (nugget_lines d v (n + 1)) c
 unfolding nugget_lines
-lines_turn d v n {x = x} {y = y} {next = next} {k = k} f ea er g =
-    let h : Put x next (nugget_line d (record_of (shape_of d) v n) n) k y = rw (er, ea) at g in
-    rw (add-one n) (put_then _ _ f h)
+lines_turn d v n {b = b} {c = c} f ea er g =
+    let h : Puts b (nugget_line d (record_of (shape_of d) v n) n) c = rw (er, ea) at g in
+    rw (add-one n) (puts_then _ _ f h)
 
 -- the last two lines
 pub counter-le : (outside : ℕ) → length (counter_line outside) ≤ 29
@@ -202,3 +192,6 @@ old-le d = go (is_changing d.state)
 pub drive_text_lem : (d : Drive) (v : List ℕ) (outside : ℕ) → (nugget_lines d v d.n ++ counter_line outside) ++ old_line d ≡ drive_text d v outside
 unfolding drive_text
 drive_text_lem d v outside = append_assoc (nugget_lines d v d.n) (counter_line outside) (old_line d)
+
+-- how long the pieces may be
+pub ruleset far = (length-append, decimal-le, long-le, key-le, flakes-le, line-le, counter-le, old-le)

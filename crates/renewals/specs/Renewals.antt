@@ -2,7 +2,7 @@
 -- building it afresh; a begin rebuilds it." Each statement is proved, under the same name in small letters, in proofs/.
 use Rattle.std.specs.Prelude.{ℕ, ◌*◌, ◌<◌, ◌≤◌, ◌≡◌, Bool, true, false, not, List, eqb, ltb, length}
 use Rattle.base.specs.Pick.{both}
-use Rattle.answers.specs.declared.Answer.TheVariants as A
+use Rattle.answers.specs.Answer as A
 use Rattle.answers.specs.Numbers.{accepts}
 use Rattle.layout.specs.Shape.{leaves}
 use Rattle.drive.specs.Drive.{shape_of}

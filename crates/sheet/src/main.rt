@@ -3,7 +3,8 @@
 
 #![tactic(auto)]
 
-// The buffer is as long as `sheet_line` asks by its type.
+// The buffer is as long as `sheet_line` asks by its type. std's `Read` has no call that fills it and tells how much came: `read_exact`
+// fails at a shorter input, and `read_to_end` needs a heap.
 fn main() {
     let mut input = [0u8; 61513];
     let n = io::read_full(0, &mut input);

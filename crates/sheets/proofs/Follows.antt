@@ -4,7 +4,7 @@ use mathlib.Core.List.{List}
 use Prim.Native.Nat.{ℕ}
 use Rattle.base.proofs.PickLaws.{yes}
 use Rattle.words.specs.Le.{Bytes}
-use Rattle.answers.specs.declared.Answer.TheVariants as A
+use Rattle.answers.specs.Answer as A
 use Rattle.answers.specs.Numbers.{accepts}
 use Rattle.opening.specs.Mount.{opened_drive, mount_answer}
 use Rattle.opening.proofs.HeadBack.{opened, mount_opens}

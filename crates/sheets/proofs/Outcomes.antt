@@ -16,3 +16,6 @@ mounted κs a x y u v p q = (agree p q, refl)
 
 pub sheet_line : OneOutcome said.sheet_line.ended fn.sheet_line.Reads.Post
 sheet_line κs a x y u v p q = (agree p.behind q.behind, refl ∥ refl ∥ agree p.stored q.stored ∥ refl)
+
+pub is_sized : OneOutcome said.is_sized.ended fn.is_sized.Reads.Post
+is_sized κs a x y u v p q = (agree p q, refl)

@@ -5,13 +5,14 @@ use mathlib.Core.List.{List}
 use Prim.Native.Nat.{ℕ, ◌-◌, ◌<◌, ◌≤◌}
 use native.Mathlib.Omega.{arith}
 use native.Mathlib.Nat.{le_refl}
+use lib.Dec.{leb}
 use lib.ListN.{length, take, drop, length-append, length-take, length-drop}
 use lib.Seq.{take_all, length-sets, length-take-le}
-use borrow.Author.Tests.{le-leb, lt-leb}
+use borrow.Author.Tests.{le-leb, lt-leb, leb-true}
 use Rattle.base.specs.Pick.{pick}
-use Rattle.base.proofs.PickLaws.{both-on}
-use Rattle.answers.specs.declared.Answer.{Answer}
-use Rattle.answers.specs.declared.Answer.TheVariants as A
+use Rattle.base.proofs.PickLaws.{both-on, both_left}
+use Rattle.answers.specs.Answer.{Answer}
+use Rattle.answers.specs.Answer as A
 use Rattle.answers.specs.Numbers.{number_of, carried_of, accepts}
 use Rattle.answers.specs.Classes.{class_of}
 use Rattle.line.specs.Lines.{Put, newline, report_text, report_line, refusal_line}
@@ -25,6 +26,11 @@ use Rattle.sheets.specs.Sheet.{present_in, old_in, outside_in, volume_in, input_
 -- the volume is all that follows
 pub volume-taken : (i : List ℕ) → take (length i - 72) (drop 72 i) ≡ volume_in i
 volume-taken i = take_all (length i - 72) (drop 72 i) (rw (length-drop 72 i) (le_refl (length i - 72)))
+
+-- an input of a right size has its secrets and the counter
+pub sized_ge : (i : List ℕ) → input_sized i ≡ true → 72 ≤ length i
+unfolding input_sized
+sized_ge i h = leb-true 72 (length i) (both_left (leb 72 (length i)) _ h)
 
 -- an input that fills a buffer of one byte more is too long
 pub over-long : (read : ℕ) (b : List ℕ) → 61513 ≤ length b → 61512 < read → input_sized (take read b) ≡ false

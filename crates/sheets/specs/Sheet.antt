@@ -4,7 +4,7 @@ use Rattle.std.specs.Prelude.{ℕ, Bool, List, leb, length, drop}
 use Rattle.base.specs.Pick.{pick, both}
 use Rattle.base.specs.Lists.{part}
 use Rattle.words.specs.Le.{num}
-use Rattle.answers.specs.declared.Answer.TheVariants as A
+use Rattle.answers.specs.Answer as A
 use Rattle.answers.specs.Numbers.{accepts}
 use Rattle.line.specs.Lines.{report_line, refusal_line}
 use Rattle.drive.specs.declared.Done.{Done}

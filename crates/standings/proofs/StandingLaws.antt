@@ -1,14 +1,16 @@
 -- What is possible, taken apart; what the code reads is what the line tells, wherever it counts.
 use mathlib.Core.Path.{◌≡◌, refl, sym, ap, ◌∙◌}
-use mathlib.Core.Bool.{true, false}
+use mathlib.Core.Bool.{Bool, true, false}
 use mathlib.Core.Logic.{◌⊎◌, inl, inr}
 use mathlib.Core.List.{List}
+use Rattle.std.specs.Prelude.{Option, None, Some}
+use Rattle.std.specs.Bool.{then_some}
 use Prim.Native.Nat.{ℕ, ◌-◌, ◌*◌, ◌<◌, ◌≤◌}
 use native.Mathlib.Nat.{min-eq_right}
 use native.Mathlib.Omega.{arith}
 use lib.Dec.{leb}
 use lib.ListN.{length, take}
-use lib.Seq.{length-sets, length-take-le, take-append_seam}
+use lib.Seq.{take-append_seam}
 use borrow.Author.Tests.{le-leb, leb-true}
 use Rattle.base.specs.Pick.{both}
 use Rattle.base.specs.Lists.{same}
@@ -18,7 +20,6 @@ use Rattle.line.specs.Lines.{Put}
 use Rattle.line.proofs.PutLaws.{report-le}
 use Rattle.reports.specs.Counts.{share_of}
 use Rattle.standings.specs.declared.Standing.{Standing}
-use Rattle.standings.specs.declared.Found.TheVariants as F
 use Rattle.standings.specs.Standing.{standing_text, possible, standing_in, taken, found_in, at_most, told_in}
 
 -- the tests of what is possible, as facts
@@ -84,16 +85,16 @@ same-told l e =
     joins l (min-eq_right (omega (arith, h.few))) (min-eq_right (omega (arith, h.few, h.moved_few))) (min-eq_right (omega (arith, k))) (min-eq_right (omega (arith, k, h.done_present)))
 
 -- a line that is taken, and the two kinds that aren't
-pub found_taken : (l : List ℕ) {t : Standing} → t ≡ told_in l → possible t ≡ true → same (standing_text t) l ≡ true → F.Taken t ≡ found_in l
+found_taken : (l : List ℕ) {t : Standing} → t ≡ told_in l → possible t ≡ true → same (standing_text t) l ≡ true → Some t ≡ found_in l
 unfolding found_in taken
 found_taken l {t} e p q =
     let f : possible (told_in l) ≡ true = rw e at p in
     let is : t ≡ standing_in l = e ∙ told_same l f in
     let p' : possible (standing_in l) ≡ true = rw is at p in
     let q' : same (standing_text (standing_in l)) l ≡ true = rw is at q in
-    ap F.Taken is ∙ sym (yes _ (both-on p' q') refl)
+    ap Some is ∙ sym (yes _ (both-on p' q') refl)
 
-pub found_other : (l : List ℕ) {t : Standing} → t ≡ told_in l → possible t ≡ true → same (standing_text t) l ≡ false → F.Bad ≡ found_in l
+found_other : (l : List ℕ) {t : Standing} → t ≡ told_in l → possible t ≡ true → same (standing_text t) l ≡ false → None ≡ found_in l
 unfolding found_in taken
 found_other l {t} e p q =
     let f : possible (told_in l) ≡ true = rw e at p in
@@ -102,15 +103,29 @@ found_other l {t} e p q =
     let q' : same (standing_text (standing_in l)) l ≡ false = rw is at q in
     sym (no _ (both-on p' q') refl)
 
-pub found_none : (l : List ℕ) {t : Standing} → t ≡ told_in l → possible t ≡ false → F.Bad ≡ found_in l
+found_told : (l : List ℕ) {t : Standing} → t ≡ told_in l → possible t ≡ true → {b : Bool} → b ≡ same (standing_text t) l → then_some b t ≡ found_in l
+found_told l {t} e p {b} q = go b q
+  where
+    go : (b : Bool) → b ≡ same (standing_text t) l → then_some b t ≡ found_in l
+    go true q = found_taken l e p (sym q)
+    go false q = found_other l e p (sym q)
+
+found_nothing : (l : List ℕ) {t : Standing} → t ≡ told_in l → possible t ≡ false → None ≡ found_in l
 unfolding found_in taken
-found_none l {t} e p = sym (no _ (go (told (possible (standing_in l)))) refl)
+found_nothing l {t} e p = sym (no _ (go (told (possible (standing_in l)))) refl)
   where
     go : (possible (standing_in l) ≡ true) ⊎ (possible (standing_in l) ≡ false) → both (possible (standing_in l)) (same (standing_text (standing_in l)) l) ≡ false
     go (inl h) =
         let z : possible (standing_in l) ≡ false = rw (same-told l h) at (rw e at p) in
         absurd (clash h z)
     go (inr h) = both_off _ h
+
+-- what the code answers, past its test and at it
+pub found_some : (l : List ℕ) {t : Standing} {b : Bool} {r : Option Standing} → t ≡ told_in l → possible t ≡ true → b ≡ same (standing_text t) l → r ≡ then_some b t → r ≡ found_in l
+found_some l e p q f = f ∙ found_told l e p q
+
+pub found_none : (l : List ℕ) {t : Standing} {b : Bool} {r : Option Standing} → t ≡ told_in l → possible t ≡ false → b ≡ false → r ≡ then_some b t → r ≡ found_in l
+found_none l {t} {b} {r} e p q f = let g : r ≡ None = rw q at f in g ∙ found_nothing l e p
 
 -- how far the line reaches
 pub standing_le : (t : Standing) → length (standing_text t) ≤ 105
@@ -122,9 +137,3 @@ pub put_first : (s x : List ℕ) (text : List ℕ) {k : ℕ} → length text ≤
 put_first s x text {k} h f =
     let e : k ≡ length text = f.behind ∙ (omega arith) in
     rw (f.stored, e, sets-front s text h) (take-append_seam text _)
-
-pub standing_fits : (t : Standing) {s x : List ℕ} {k : ℕ} → 105 ≤ length s → Put s 0 (standing_text t) k x → (k ≤ length x) × (k ≡ length (take k x))
-standing_fits t {s} {x} {k} h f =
-    let long : length x ≡ length s = ap length f.stored ∙ length-sets s 0 (standing_text t) in
-    let fits : k ≤ length x = omega (arith, f.behind, standing_le t) in
-    (fits, sym (length-take-le k x fits))

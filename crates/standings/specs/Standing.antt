@@ -1,13 +1,11 @@
 -- Document 02, Item 11: a drive's line, as it is written and as it is read.
-use Rattle.std.specs.Prelude.{ℕ, ◌-◌, ◌*◌, min, Bool, List, leb}
+use Rattle.std.specs.Prelude.{ℕ, ◌-◌, ◌*◌, min, Bool, List, leb, Option, None, Some}
 use Rattle.base.specs.Pick.{pick, both}
 use Rattle.base.specs.Lists.{same}
 use Rattle.reports.specs.Counts.{share_of}
 use Rattle.line.specs.Lines.{report_text}
 use Rattle.line.specs.Reading.{field_at, decimal_value}
 use Rattle.standings.specs.declared.Standing.{Standing}
-use Rattle.standings.specs.declared.Found.{Found}
-use Rattle.standings.specs.declared.Found.TheVariants as F
 
 -- the sheet's line of n nuggets with these counts, without its newline; the share is Item 1's
 unfoldable pub standing_text : Standing → List ℕ
@@ -32,8 +30,9 @@ standing_in l = record { n = decimal_value (field_at 0 l); counts = record { mov
 unfoldable pub taken : List ℕ → Bool
 taken l = both (possible (standing_in l)) (same (standing_text (standing_in l)) l)
 
-unfoldable pub found_in : List ℕ → Found
-found_in l = pick (taken l) (F.Taken (standing_in l)) F.Bad
+-- what it tells if it is taken
+unfoldable pub found_in : List ℕ → Option Standing
+found_in l = pick (taken l) (Some (standing_in l)) None
 
 -- the code reads no number above 2^21: none that is possible is above 2^20
 abbrev pub at_most : ℕ → ℕ

@@ -6,66 +6,48 @@ mod reading;
 
 ghost use Rattle.std.specs.Prelude.{◌≡◌, ◌+◌, ◌≤◌, length};
 ghost use Rattle.base.specs.Lists.{same};
-ghost use Rattle.line.specs.Lines.{Put};
+ghost use Rattle.line.specs.Pages.{Puts};
 ghost use Rattle.standings.specs.Standing.{standing_text, possible, told_in, found_in};
 
+use line::Page;
 pub use reading::{behind, find};
 use reports::Counts;
 
 // N, and what is counted of its nuggets and flakes.
-#[derive(Clone, Copy)]
+#[derive(Clone, Copy, Default)]
 pub struct Standing {
     pub n: u32,
     pub counts: Counts,
 }
 
-// A line that is taken, with what it tells; or one that isn't.
-#[derive(Clone, Copy)]
-pub enum Found {
-    Taken(Standing),
-    Bad,
-}
-
-// The sheet's line of a drive that stands so, without its newline, stored at `at`; the place behind it.
-pub fn put_standing(out: &mut [u8], at: usize, t: Standing) -> usize
-    requires { (at + 105 ≤ length out.old) × (t.counts.moved ≤ t.n) }
-    ensures { Put out.old at (standing_text t) result out.new }
+// The sheet's line of a drive that stands so, without its newline.
+pub fn put_standing(page: &mut Page, t: Standing)
+    requires { (page.old.at + 105 ≤ length page.old.out.now) × (t.counts.moved ≤ t.n) }
+    ensures { Puts page.old (standing_text t) page.new }
 {
-    let c = t.counts;
-    let share = reports::share_of(t.n, c);
-    line::report_text(
-        out,
-        at,
-        t.n,
-        c.moved,
-        t.n - c.moved,
-        c.flakes,
+    let Standing { n, counts } = t;
+    let share = reports::share_of(n, counts);
+    page.report_text(
+        n,
+        counts.moved,
+        n - counts.moved,
+        counts.flakes,
         share,
-        c.done,
-    )
+        counts.done,
+    );
 }
 
 // "that no volume within the limits could give"
+#[tactic(auto, unfolding(crate::specs::Standing::possible))]
 fn is_possible(t: Standing) -> bool
     ensures { result ≡ possible t }
 {
     let c = t.counts;
-    if t.n < 1 {
-        return false;
-    }
-    if 16384 < t.n {
-        return false;
-    }
-    if t.n < c.moved {
-        return false;
-    }
-    if c.flakes < c.done {
-        return false;
-    }
-    if 64 * c.moved < c.done {
-        return false;
-    }
-    c.flakes - c.done <= 64 * (t.n - c.moved)
+    (1..=16384).contains(&t.n)
+        && c.moved <= t.n
+        && c.done <= c.flakes
+        && c.done <= 64 * c.moved
+        && c.flakes - c.done <= 64 * (t.n - c.moved)
 }
 
 // Whether these are the bytes of its line.
@@ -74,38 +56,32 @@ fn spells(t: Standing, line: &[u8]) -> bool
     ensures { result ≡ same (standing_text t) line.now }
 {
     let mut out = [0u8; 128];
-    let k = put_standing(&mut out, 0, t);
-    words::equal(&out[..k], line)
+    let mut page = Page {
+        out: &mut out,
+        at: 0,
+    };
+    put_standing(&mut page, t);
+    words::equal(page.written(), line)
 }
 
 // What the line's fields tell.
 fn told_in(line: &[u8]) -> Standing
     ensures { result ≡ told_in line.now }
 {
-    let n = reading::field(line, 0);
-    let moved = reading::field(line, 1);
-    let flakes = reading::field(line, 3);
-    let done = reading::field(line, 5);
     Standing {
-        n: n,
+        n: reading::field(line, 0),
         counts: Counts {
-            moved: moved,
-            flakes: flakes,
-            done: done,
+            moved: reading::field(line, 1),
+            flakes: reading::field(line, 3),
+            done: reading::field(line, 5),
         },
     }
 }
 
-// A line is taken if what it tells is possible and it is the sheet's line of that, to the byte.
-pub fn found_in(line: &[u8]) -> Found
+// What a line tells, if it is taken: if that is possible, and it is the sheet's line of that, to the byte.
+pub fn found_in(line: &[u8]) -> Option<Standing>
     ensures { result ≡ found_in line.now }
 {
     let t = told_in(line);
-    if is_possible(t) {
-        if spells(t, line) {
-            return Found::Taken(t);
-        }
-        return Found::Bad;
-    }
-    Found::Bad
+    (is_possible(t) && spells(t, line)).then_some(t)
 }

@@ -3,19 +3,19 @@ ghost use Rattle.std.specs.Prelude.{◌≡◌, ◌+◌, ◌-◌, ◌*◌, ◌≤
 ghost use Rattle.line.specs.Reading.{up_to, past, field_at, decimal_value};
 ghost use Rattle.standings.specs.Standing.{at_most};
 
+// The place of the first byte `mark`; the end if there is none.
+fn first(text: &[u8], mark: u8) -> usize
+    ensures { result ≡ length (up_to mark text.now) }
+{
+    text.iter().position(|b| *b == mark).unwrap_or(text.len())
+}
+
 // The place of the first byte `mark` from `at` on; the end if there is none.
 pub fn find(text: &[u8], at: usize, mark: u8) -> usize
     requires { at ≤ length text.now }
     ensures { result ≡ at + length (up_to mark (drop at text.now)) }
 {
-    let mut i = at;
-    while i < text.len() {
-        if text[i] == mark {
-            return i;
-        }
-        i += 1;
-    }
-    i
+    at + first(&text[at..], mark)
 }
 
 // The place behind it.
@@ -23,50 +23,22 @@ pub fn behind(text: &[u8], at: usize, mark: u8) -> usize
     requires { at ≤ length text.now }
     ensures { (result ≤ length text.now) × (drop result text.now ≡ past mark (drop at text.now)) }
 {
-    let i = find(text, at, mark);
-    if i < text.len() {
-        return i + 1;
-    }
-    i
-}
-
-fn digit(b: u8) -> u32
-    ensures { result ≡ b - 48 }
-{
-    if b < 48 {
-        return 0;
-    }
-    (b - 48) as u32
+    text.len().min(find(text, at, mark) + 1)
 }
 
 // One byte more of a number.
 fn grown(a: u32, b: u8) -> u32
-    requires { a ≤ 2097152 }
     ensures { result ≡ at_most (a * 10 + (b - 48)) }
 {
-    let next = a * 10 + digit(b);
-    if next < 2097152 {
-        return next;
-    }
-    2097152
+    let digit = u32::from(b.saturating_sub(b'0'));
+    a.saturating_mul(10).saturating_add(digit).min(2097152)
 }
 
-// The number from `at` up to a space or the end.
-fn number(text: &[u8], at: usize) -> u32
-    requires { at ≤ length text.now }
-    ensures { result ≡ at_most (decimal_value (up_to 32 (drop at text.now))) }
+// The number that decimal digits say.
+fn number(digits: &[u8]) -> u32
+    ensures { result ≡ at_most (decimal_value digits.now) }
 {
-    let mut a = 0;
-    let mut i = at;
-    while i < text.len() {
-        let b = text[i];
-        if b == 32 {
-            return a;
-        }
-        a = grown(a, b);
-        i += 1;
-    }
-    a
+    digits.iter().fold(0, |a, b| grown(a, *b))
 }
 
 // The number of field k.
@@ -74,11 +46,10 @@ pub(crate) fn field(line: &[u8], k: u32) -> u32
     ensures { result ≡ at_most (decimal_value (field_at k line.now)) }
 {
     let mut at = 0;
-    let mut i = 0;
-    while i < k {
-        at = behind(line, at, 32);
-        i += 1;
+    for _before in 0..k {
+        at = behind(line, at, b' ');
     }
-    let from = behind(line, at, 61);
-    number(line, from)
+    let from = behind(line, at, b'=');
+    let end = find(line, from, b' ');
+    number(&line[from..end])
 }

@@ -1,10 +1,8 @@
 -- A drive more in a fleet: its fraction, its place, and that no sum rolls over.
 use mathlib.Core.Path.{◌≡◌, refl, sym}
-use mathlib.Core.Bool.{true, false}
-use Prim.Native.Nat.{ℕ, ◌+◌, ◌*◌, ◌^◌, ◌<◌, ◌≤◌}
-use native.Mathlib.Nat.{mul-le-mul}
+use mathlib.Core.Bool.{true}
+use Prim.Native.Nat.{◌+◌, ◌^◌, ◌<◌}
 use native.Mathlib.Omega.{arith}
-use lib.Dec.{ltb}
 use borrow.Author.Tests.{eq-eqb, ne_eqb}
 use Rattle.base.proofs.PickLaws.{yes, no}
 use Rattle.standings.specs.declared.Standing.{Standing}
@@ -12,7 +10,7 @@ use Rattle.standings.specs.Standing.{possible}
 use Rattle.standings.proofs.StandingLaws.{possible_is, flakes_few}
 use Rattle.totals.specs.declared.Fleet.{Fleet}
 use Rattle.totals.specs.declared.Fraction.{Fraction}
-use Rattle.totals.specs.Fleet.{fraction_of, is_behind, together, nobody, is_last, joined, Summed}
+use Rattle.totals.specs.Fleet.{fraction_of, is_behind, nobody, is_last, joined, Summed}
 
 pub fraction_empty : (t : Standing) → t.counts.flakes ≡ 0 → ◌≡◌ {A = Fraction} (record { done = t.counts.moved; all = t.n }) (fraction_of t)
 unfolding fraction_of
@@ -22,18 +20,6 @@ pub fraction_flakes : (t : Standing) → (t.counts.flakes ≡ 0 → ⊥) → ◌
 unfolding fraction_of
 fraction_flakes t ne = sym (no _ (ne_eqb t.counts.flakes 0 ne) refl)
 
-pub behind_is : (a b : Standing) {x y : Fraction} {p q : ℕ} → x ≡ fraction_of a → y ≡ fraction_of b → p ≡ x.done * y.all → q ≡ y.done * x.all
-    → ltb p q ≡ is_behind a b
-unfolding is_behind
-behind_is a b ex ey ep eq = rw (ep, eq, ex, ey)
-
--- a product of two numbers of 32 bits
-pub product-fits : (x y : ℕ) → x < 2 ^ 32 → y < 2 ^ 32 → x * y < 2 ^ 64
-product-fits x y h k =
-    let a : x ≤ 4294967295 = omega arith in
-    let b : y ≤ 4294967295 = omega arith in
-    omega (arith, mul-le-mul a b)
-
 -- the first is the last, and a later one if it is behind
 pub last-first : (f : Fleet) (t : Standing) → f.drives ≡ 0 → true ≡ is_last f t
 unfolding is_last
@@ -42,16 +28,6 @@ last-first f t e = rw (eq-eqb f.drives 0 e)
 pub last-later : (f : Fleet) (t : Standing) → (f.drives ≡ 0 → ⊥) → is_behind t f.least ≡ is_last f t
 unfolding is_last
 last-later f t ne = rw (ne_eqb f.drives 0 ne)
-
-pub joined-last : (f : Fleet) (t : Standing) {s : Standing} → s ≡ together f.total t → is_last f t ≡ true
-    → ◌≡◌ {A = Fleet} (record { drives = f.drives + 1; total = s; last = f.drives + 1; least = t }) (joined f t)
-unfolding joined
-joined-last f t e h = rw (e, h)
-
-pub joined_other : (f : Fleet) (t : Standing) {s : Standing} → s ≡ together f.total t → is_last f t ≡ false
-    → ◌≡◌ {A = Fleet} (record { drives = f.drives + 1; total = s; last = f.last; least = f.least }) (joined f t)
-unfolding joined
-joined_other f t e h = rw (e, h)
 
 -- 256 drives' sums are below 2^32
 pub sums_fit : (f : Fleet) (t : Standing) → f.drives < 256 → Summed f → possible t ≡ true

@@ -10,7 +10,7 @@ use reports::Counts;
 use standings::Standing;
 
 // How many drives, their totals, and the line number and standing of the drive furthest behind.
-#[derive(Clone, Copy)]
+#[derive(Clone, Copy, Default)]
 pub struct Fleet {
     pub drives: u32,
     pub total: Standing,
@@ -25,19 +25,21 @@ struct Fraction {
     all: u32,
 }
 
+#[tactic(auto, unfolding(crate::specs::Fleet::fraction_of))]
 fn fraction_of(t: Standing) -> Fraction
     ensures { result ≡ fraction_of t }
 {
-    let c = t.counts;
-    if c.flakes == 0 {
-        return Fraction {
-            done: c.moved,
-            all: t.n,
-        };
-    }
-    Fraction {
-        done: c.done,
-        all: c.flakes,
+    let Standing { n, counts } = t;
+    if counts.flakes == 0 {
+        Fraction {
+            done: counts.moved,
+            all: n,
+        }
+    } else {
+        Fraction {
+            done: counts.done,
+            all: counts.flakes,
+        }
     }
 }
 
@@ -45,10 +47,11 @@ fn fraction_of(t: Standing) -> Fraction
 fn product(a: u32, b: u32) -> u64
     ensures { result ≡ a * b }
 {
-    (a as u64) * (b as u64)
+    u64::from(a) * u64::from(b)
 }
 
-// By cross products: nothing is rounded.
+// By cross products: nothing is rounded. No `PartialOrd` of fractions: 0 of 0 would equal every other, which no order allows.
+#[tactic(auto, unfolding(crate::specs::Fleet::is_behind))]
 fn is_behind(a: Standing, b: Standing) -> bool
     ensures { result ≡ is_behind a b }
 {
@@ -62,14 +65,12 @@ fn together(a: Standing, b: Standing) -> Standing
         × (a.counts.flakes + b.counts.flakes < 2 ^ 32) × (a.counts.done + b.counts.done < 2 ^ 32) }
     ensures { result ≡ together a b }
 {
-    let c = a.counts;
-    let d = b.counts;
     Standing {
         n: a.n + b.n,
         counts: Counts {
-            moved: c.moved + d.moved,
-            flakes: c.flakes + d.flakes,
-            done: c.done + d.done,
+            moved: a.counts.moved + b.counts.moved,
+            flakes: a.counts.flakes + b.counts.flakes,
+            done: a.counts.done + b.counts.done,
         },
     }
 }
@@ -77,54 +78,33 @@ fn together(a: Standing, b: Standing) -> Standing
 pub fn nobody() -> Fleet
     ensures { result ≡ nobody }
 {
-    let none = Standing {
-        n: 0,
-        counts: Counts {
-            moved: 0,
-            flakes: 0,
-            done: 0,
-        },
-    };
-    Fleet {
-        drives: 0,
-        total: none,
-        last: 0,
-        least: none,
-    }
+    Fleet::default()
 }
 
 // The drive stands behind all before it; so does the first.
+#[tactic(auto, unfolding(crate::specs::Fleet::is_last))]
 fn is_last(f: Fleet, t: Standing) -> bool
     ensures { result ≡ is_last f t }
 {
-    if f.drives == 0 {
-        return true;
-    }
-    let least = f.least;
-    is_behind(t, least)
+    f.drives == 0 || is_behind(t, f.least)
 }
 
 // The fleet with one drive more.
+#[tactic(auto, unfolding(crate::specs::Fleet::joined))]
 pub fn joined(f: Fleet, t: Standing) -> Fleet
     requires { (f.drives < 256) × Summed f × (possible t ≡ true) }
     ensures { result ≡ joined f t }
 {
-    let k = f.drives + 1;
-    let sum = f.total;
-    let total = together(sum, t);
+    let drives = f.drives + 1;
+    let total = together(f.total, t);
     if is_last(f, t) {
-        return Fleet {
-            drives: k,
-            total: total,
-            last: k,
+        Fleet {
+            drives,
+            total,
+            last: drives,
             least: t,
-        };
-    }
-    let least = f.least;
-    Fleet {
-        drives: k,
-        total: total,
-        last: f.last,
-        least: least,
+        }
+    } else {
+        Fleet { drives, total, ..f }
     }
 }

@@ -1,42 +1,44 @@
-use Rattle.fleets.proofs.GatherLaws.{line_cut, gather-starts, gather_nears, gather-turn, gather_stops, gather-ends, goes_keeps}
+use Rattle.std.proofs.Common.{rules, arith, sym, ◌∙◌, ap}
+use borrow.Author.Tests.{tests}
+use lib.Dec.{eqb}
+use lib.Seq.{length-take-le}
+use denote.Param.Always.{mut_total}
+use Rattle.std.specs.Slice.Iter.{split_inclusive_rest}
+use Rattle.std.proofs.lemmas.Fn.{always_returns_same}
 use Rattle.standings.proofs.ReadingLaws.{found_le}
-use native.Mathlib.Omega.{arith}
-use mathlib.Core.Path.{sym, ◌∙◌}
+use Rattle.fleets.proofs.PieceLaws.{piece_line, piece_rest}
+use Rattle.fleets.proofs.GatherLaws.{line_cut, gather-starts, gather-turn, gather_stops, gather-ends, goes_keeps, handed}
 use Rattle.fleets.proofs.gather.Goals as goal
 
-pub loop-at-init : goal.loop-at-init
-loop-at-init c = let s = gather-starts c.args.input.now c.nobody-f.ensures in (omega arith, s.0, s.1, s.2)
-
-pub slice_bounds-with_line-count : goal.slice_bounds-with_line-count
-slice_bounds-with_line-count c = omega (arith, c.find-end.ensures)
-
-pub slice_bounds-with_line-start : goal.slice_bounds-with_line-start
-slice_bounds-with_line-start c = omega (arith, c.find-end.ensures)
+pub loop-line-init : goal.loop-line-init
+loop-line-init c =
+    let rest = ap (λ i. split_inclusive_rest i) c.into_iter-line-iterator.ensures.into_iter_gives ∙ c.split_inclusive-line-items.ensures.rest in
+    let s = gather-starts c.args.input.now rest c.nobody-fleet.ensures in
+    (mut_total _ _ (λ s a. tt), search rules, s.0, s.1, s.2)
 
 pub slice_bounds-with_line-end : goal.slice_bounds-with_line-end
-slice_bounds-with_line-end c = found_le 10 c.args.input.now c.loop-at.at c.loop-at.invariant.0 c.find-end.ensures
+slice_bounds-with_line-end c = sym (length-take-le _ _ (found_le 10 c.in-Some.line.now 0 (omega arith) c.find-end.ensures))
 
-pub with_line-g-requires : goal.with_line-g-requires
-with_line-g-requires c = (c.loop-at.invariant.1, c.loop-at.invariant.2)
+pub with_line-requires : goal.with_line-requires
+with_line-requires c = (c.loop-line.invariant.2, c.loop-line.invariant.3)
 
-pub returns-in-Open : goal.returns-in-Open
-returns-in-Open c =
-    let t = c.loop-at in
-    let i = c.args.input.now in
-    gather_stops t.f _ i t.at _ c.loop-at-test.true (line_cut i t.at c.find-end.ensures) (sym c.with_line-g.ensures ∙ c.in-Open.is) t.invariant.3
+pub returns-in_err-fleet : goal.returns-in_err-fleet
+returns-in_err-fleet c =
+    let t = c.loop-line in
+    let s = c.in-Some.ensures.steps in
+    let first = (s.1.2 (λ b. eqb b 10) (always_returns_same _ _ _ (λ a r f k. (search (rules, tests), search rules)))).1 in
+    let line = line_cut c.in-Some.line.now c.find-end.ensures ∙ piece_line _ _ _ s.1.0 s.0 s.1.1 first in
+    handed _ _ c.from_residual.ensures.1 ∙ gather_stops t.fleet _ _ _ s.2 line (sym c.with_line.ensures ∙ c.in_err-fleet.was) t.invariant.4
 
-pub loop-at-smaller : goal.loop-at-smaller
-loop-at-smaller c =
-    let near = gather_nears c.args.input.now c.loop-at.at c.behind-at.result c.loop-at-test.true c.behind-at.ensures.0 c.behind-at.ensures.1 in
-    omega (arith, near, c.behind-at.ensures.0)
-
-pub loop-at-preserved : goal.loop-at-preserved
-loop-at-preserved c =
-    let t = c.loop-at in
-    let i = c.args.input.now in
-    let w = sym c.with_line-g.ensures ∙ c.in-Whole.is in
-    let k = goes_keeps t.f _ _ w t.invariant.2 in
-    (c.behind-at.ensures.0, k.0, k.1, gather-turn t.f _ i t.at c.behind-at.result _ c.loop-at-test.true (line_cut i t.at c.find-end.ensures) w c.behind-at.ensures.1 t.invariant.3)
+pub loop-line-preserved : goal.loop-line-preserved
+loop-line-preserved c =
+    let t = c.loop-line in
+    let s = c.in-Some.ensures.steps in
+    let first = (s.1.2 (λ b. eqb b 10) (always_returns_same _ _ _ (λ a r f k. (search (rules, tests), search rules)))).1 in
+    let line = line_cut c.in-Some.line.now c.find-end.ensures ∙ piece_line _ _ _ s.1.0 s.0 s.1.1 first in
+    let w = sym c.with_line.ensures ∙ c.in_ok-fleet.was in
+    let k = goes_keeps t.fleet _ _ w t.invariant.3 in
+    (search rules, search rules, k.0, k.1, gather-turn t.fleet _ _ _ _ s.2 line w (piece_rest _ _ _ s.1.0 s.0 s.1.1 first) t.invariant.4)
 
 pub returns : goal.returns
-returns c = gather-ends c.loop-at.f c.args.input.now c.loop-at.at c.loop-at-test.false c.loop-at.invariant.3
+returns c = gather-ends c.loop-line.fleet _ c.in-None.ensures.steps.0 c.loop-line.invariant.4

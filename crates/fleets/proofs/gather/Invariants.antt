@@ -1,12 +1,14 @@
 use Rattle.totals.specs.Fleet.{Summed}
 use Rattle.fleets.specs.Lines.{lines_of, gather_from, gathered_in}
-use lib.ListN.{length, drop}
+use Rattle.std.specs.Slice.Iter.{split_inclusive_rest}
 use mathlib.Core.Path.{◌≡◌}
-use Prim.Native.Nat.{◌-◌, ◌≤◌}
+use Prim.Native.Nat.{◌≤◌}
 use Rattle.fleets.proofs.gather.Given as goal
 
-abbrev pub invariant-loop-at : goal.invariant-loop-at
-invariant-loop-at l = (l.at ≤ length l.input) × (l.f.drives ≤ 256) × Summed l.f × (gather_from l.f (lines_of (drop l.at l.input)) ≡ gathered_in l.input)
-
-abbrev pub decreases-loop-at : goal.decreases-loop-at
-decreases-loop-at l = length l.input - l.at
+abbrev pub invariant-loop-line : goal.invariant-loop-line
+invariant-loop-line l =
+    (goal.iterator-loop-line).can_next l.line-iterator
+    × (goal.iterator-loop-line).is_finite l.line-iterator
+    × (l.fleet.drives ≤ 256)
+    × Summed l.fleet
+    × (gather_from l.fleet (lines_of (split_inclusive_rest l.line-iterator)) ≡ gathered_in l.input)

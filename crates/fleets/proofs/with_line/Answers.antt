@@ -1,17 +1,17 @@
-use Rattle.fleets.proofs.GatherLaws.{found_possible, with_yes, with_no, with_many}
-use native.Mathlib.Omega.{arith}
-use mathlib.Core.Path.{sym, ◌∙◌}
+use Rattle.std.proofs.Common.{sym, ◌∙◌}
+use Rattle.fleets.proofs.GatherLaws.{found_possible, with_yes, with_none, with_many}
+use Rattle.fleets.proofs.with_line.Goals.{in_default-via-in-Some+else-f-lt-MOST, in_default-via-in_default}
 use Rattle.fleets.proofs.with_line.Goals as goal
 
 pub joined-requires : goal.joined-requires
-joined-requires c =
-    (omega arith, c.requires.1, found_possible c.args.line.now _ (sym c.found_in-found.ensures ∙ c.in-Taken.is))
+joined-requires c = (c.if-f-lt-MOST.true, c.requires.1, found_possible c.args.line.now _ (sym c.found_in.ensures ∙ c.in-Some.is))
 
-pub returns-in-Taken : goal.returns-in-Taken
-returns-in-Taken c = with_yes c.args.f c.args.line.now (omega arith) (sym c.found_in-found.ensures ∙ c.in-Taken.is) c.joined.ensures
+pub returns-in-Some : goal.returns-in-Some
+returns-in-Some c = with_yes c.args.f c.args.line.now c.if-f-lt-MOST.true (sym c.found_in.ensures ∙ c.in-Some.is) c.joined.ensures
 
-pub returns-in-Bad : goal.returns-in-Bad
-returns-in-Bad c = with_no c.args.f c.args.line.now (omega arith) (sym c.found_in-found.ensures ∙ c.in-Bad.is)
-
-pub returns : goal.returns
-returns c = with_many c.args.f c.args.line.now (omega arith)
+pub returns-in_default : goal.returns-in_default
+returns-in_default c =
+    elim c.in_default.branch [
+      | in_default-via-in-Some+else-f-lt-MOST w ↦ with_many c.args.f c.args.line.now w.if-f-lt-MOST.false
+      | in_default-via-in_default w ↦ with_none c.args.f c.args.line.now (sym c.found_in.ensures ∙ w.in_default.is)
+    ]

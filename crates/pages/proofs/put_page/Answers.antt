@@ -1,29 +1,45 @@
-use Rattle.pages.proofs.MountLaws.{mounted-room, mounted_reach, page_refused, page_alone, page_whole}
-use Rattle.sheets.specs.Sheet.{input_sized}
-use Rattle.sheets.proofs.SheetLaws.{volume-taken}
+use Rattle.std.proofs.Common.{arith, sym, ◌∙◌, ap, rules}
+use mathlib.Core.Bool.{not}
 use Rattle.line.proofs.PutLaws.{put_then, put_as}
-use Rattle.base.proofs.PickLaws.{both-on, both_off}
-use borrow.Author.Tests.{le-leb, lt-leb}
-use native.Mathlib.Omega.{arith}
-use mathlib.Core.Path.{sym, ◌∙◌}
+use Rattle.line.proofs.PageLaws.{puts_told}
+use Rattle.sheets.proofs.SheetLaws.{volume-taken, sized_ge}
+use Rattle.pages.proofs.MountLaws.{mounted-room, mounted_reach, page_refused, page_alone, page_whole}
 use Rattle.pages.proofs.put_page.Goals as goal
 
-pub returns-then-input-lt72 : goal.returns-then-input-lt72
-unfolding input_sized
-returns-then-input-lt72 c = put_as _ _ (page_refused c.args.input.now (both_off _ (lt-leb _ _ c.if-input-lt72.true))) c.refusal_line.ensures
+pub returns-then-not-is_sized : goal.returns-then-not-is_sized
+returns-then-not-is_sized c = put_as _ _ (page_refused c.args.input.now (sym c.is_sized.ensures ∙ c.if-not-is_sized.true)) c.refusal_line.ensures
 
-pub returns-then-input-gt61512 : goal.returns-then-input-gt61512
-unfolding input_sized
-returns-then-input-gt61512 c = put_as _ _ (page_refused c.args.input.now (both-on (le-leb _ _ c.if-input-lt72.false) (lt-leb _ _ c.if-input-gt61512.true))) c.refusal_line-then-input-gt61512.ensures
+pub mounted-m-requires : goal.mounted-m-requires
+mounted-m-requires c = sized_ge c.args.input.now (sym c.is_sized.ensures ∙ c.if-not-is_sized.false)
+
+pub slice_bounds-put_mounted-count : goal.slice_bounds-put_mounted-count
+slice_bounds-put_mounted-count c = sized_ge c.args.input.now (sym c.is_sized.ensures ∙ c.if-not-is_sized.false)
+
+pub slice_bounds-put_mounted-start : goal.slice_bounds-put_mounted-start
+slice_bounds-put_mounted-start c = sized_ge c.args.input.now (sym c.is_sized.ensures ∙ c.if-not-is_sized.false)
+
+pub slice_bounds-put_drive-count : goal.slice_bounds-put_drive-count
+slice_bounds-put_drive-count c = sized_ge c.args.input.now (sym c.is_sized.ensures ∙ c.if-not-is_sized.false)
+
+pub slice_bounds-put_drive-start : goal.slice_bounds-put_drive-start
+slice_bounds-put_drive-start c = sized_ge c.args.input.now (sym c.is_sized.ensures ∙ c.if-not-is_sized.false)
+
+pub load-requires : goal.load-requires
+load-requires c = let h = sized_ge c.args.input.now (sym c.is_sized.ensures ∙ c.if-not-is_sized.false) in (omega arith, omega (arith, h))
+
+pub returns-then-is_err : goal.returns-then-is_err
+returns-then-is_err c =
+    let i = c.args.input.now in
+    put_as _ _ (page_alone i (sym c.is_sized.ensures ∙ c.if-not-is_sized.false) c.mounted-m.ensures (volume-taken i) (c.is_err.ensures.negation ∙ ap not c.if-is_err.true)) c.put_mounted-at.ensures
 
 pub put_drive-requires : goal.put_drive-requires
-unfolding input_sized
-put_drive-requires c = let room = mounted-room c.args.input.now (both-on (le-leb _ _ c.if-input-lt72.false) (le-leb _ _ c.if-input-gt61512.false)) c.mounted-m.ensures (volume-taken c.args.input.now) (sym c.accepted.ensures ∙ c.if-accepted.true) in (room.0, omega (arith, room.1, mounted_reach c.mounted-m.result _ c.put_mounted-at.ensures, c.put_mounted-at.auto.out, c.requires))
-
-pub returns-then-accepted : goal.returns-then-accepted
-unfolding input_sized
-returns-then-accepted c = put_as _ _ (page_whole c.args.input.now (both-on (le-leb _ _ c.if-input-lt72.false) (le-leb _ _ c.if-input-gt61512.false)) c.mounted-m.ensures (volume-taken c.args.input.now) c.load-outside.ensures.0 (sym c.accepted.ensures ∙ c.if-accepted.true)) (put_then _ _ c.put_mounted-at.ensures c.put_drive.ensures)
+put_drive-requires c =
+    let i = c.args.input.now in
+    let room = mounted-room i (sym c.is_sized.ensures ∙ c.if-not-is_sized.false) c.mounted-m.ensures (volume-taken i) (c.is_err.ensures.negation ∙ ap not c.if-is_err.false) in
+    (room.0, omega (arith, room.1, mounted_reach c.mounted-m.result _ c.put_mounted-at.ensures, c.put_mounted-at.auto.out, c.requires))
 
 pub returns : goal.returns
-unfolding input_sized
-returns c = put_as _ _ (page_alone c.args.input.now (both-on (le-leb _ _ c.if-input-lt72.false) (le-leb _ _ c.if-input-gt61512.false)) c.mounted-m.ensures (volume-taken c.args.input.now) (sym c.accepted.ensures ∙ c.if-accepted.false)) c.put_mounted-at.ensures
+returns c =
+    let i = c.args.input.now in
+    let lines = puts_told _ c.put_drive.ensures (λ e. search rules) in
+    put_as _ _ (page_whole i (sym c.is_sized.ensures ∙ c.if-not-is_sized.false) c.mounted-m.ensures (volume-taken i) c.load.ensures.0 (c.is_err.ensures.negation ∙ ap not c.if-is_err.false)) (put_then _ _ c.put_mounted-at.ensures lines)

@@ -1,19 +1,25 @@
-use Rattle.sheets.proofs.SheetLaws.{volume-taken, mounted-told}
-use borrow.Author.Tests.{le-leb, lt-leb}
-use Rattle.sheets.specs.Sheet.{input_sized, sheet_line}
+use Rattle.std.proofs.Common.{sym, ◌∙◌, refl}
 use Rattle.line.proofs.PutLaws.{put_as}
-use Rattle.base.proofs.PickLaws.{yes, no, both-on, both_off}
-use mathlib.Core.Path.{refl, sym, ◌∙◌}
+use Rattle.base.proofs.PickLaws.{yes, no}
+use Rattle.sheets.specs.Sheet.{sheet_line}
+use Rattle.sheets.proofs.SheetLaws.{volume-taken, mounted-told, sized_ge}
 use Rattle.sheets.proofs.put_line.Goals as goal
 
-pub returns-then-input-lt72 : goal.returns-then-input-lt72
-unfolding sheet_line input_sized
-returns-then-input-lt72 c = put_as _ _ (sym (no _ (both_off _ (lt-leb _ _ c.if-input-lt72.true)) refl)) c.refusal_line.ensures
+pub returns-then-not-is_sized : goal.returns-then-not-is_sized
+unfolding sheet_line
+returns-then-not-is_sized c = put_as _ _ (sym (no _ (sym c.is_sized.ensures ∙ c.if-not-is_sized.true) refl)) c.refusal_line.ensures
 
-pub returns-then-input-gt61512 : goal.returns-then-input-gt61512
-unfolding sheet_line input_sized
-returns-then-input-gt61512 c = put_as _ _ (sym (no _ (both-on (le-leb _ _ c.if-input-lt72.false) (lt-leb _ _ c.if-input-gt61512.true)) refl)) c.refusal_line-then-input-gt61512.ensures
+pub mounted-requires : goal.mounted-requires
+mounted-requires c = sized_ge c.args.input.now (sym c.is_sized.ensures ∙ c.if-not-is_sized.false)
 
 pub returns : goal.returns
-unfolding sheet_line input_sized
-returns c = put_as _ _ (mounted-told c.args.input.now c.mounted-m.ensures (volume-taken c.args.input.now) ∙ sym (yes _ (both-on (le-leb _ _ c.if-input-lt72.false) (le-leb _ _ c.if-input-gt61512.false)) refl)) c.put_mounted.ensures
+unfolding sheet_line
+returns c =
+    let i = c.args.input.now in
+    put_as _ _ (mounted-told i c.mounted.ensures (volume-taken i) ∙ sym (yes _ (sym c.is_sized.ensures ∙ c.if-not-is_sized.false) refl)) c.put_mounted.ensures
+
+pub slice_bounds-put_mounted-count : goal.slice_bounds-put_mounted-count
+slice_bounds-put_mounted-count c = sized_ge c.args.input.now (sym c.is_sized.ensures ∙ c.if-not-is_sized.false)
+
+pub slice_bounds-put_mounted-start : goal.slice_bounds-put_mounted-start
+slice_bounds-put_mounted-start c = sized_ge c.args.input.now (sym c.is_sized.ensures ∙ c.if-not-is_sized.false)

@@ -1,13 +1,14 @@
-use Rattle.sheets.specs.Sheet.{reported_line}
+use Rattle.std.proofs.Common.{sym, ap, refl}
+use Rattle.answers.specs.Numbers.{accepts}
 use Rattle.line.proofs.PutLaws.{put_as}
 use Rattle.base.proofs.PickLaws.{yes, no}
-use mathlib.Core.Path.{refl, sym, ◌∙◌}
+use Rattle.sheets.specs.Sheet.{reported_line}
 use Rattle.sheets.proofs.put_report.Goals as goal
 
-pub returns-then-accepted : goal.returns-then-accepted
+pub returns-in-Ok : goal.returns-in-Ok
 unfolding reported_line
-returns-then-accepted c = put_as _ _ (sym (yes _ (sym c.accepted.ensures ∙ c.if-accepted.true) refl)) c.report_line.ensures
+returns-in-Ok c = put_as _ _ (sym (yes _ (ap accepts c.in-Ok.is) refl)) c.report_line.ensures
 
-pub returns : goal.returns
+pub returns-in-Err : goal.returns-in-Err
 unfolding reported_line
-returns c = put_as _ _ (sym (no _ (sym c.accepted.ensures ∙ c.if-accepted.false) refl)) c.refusal_line.ensures
+returns-in-Err c = put_as _ _ (sym (no _ (ap accepts c.in-Err.is) refl)) c.refusal_line.ensures

@@ -1,6 +1,6 @@
 use Rattle.standings.specs.Standing.{standing_text}
 use Rattle.line.specs.Lines.{report_text}
-use Rattle.line.proofs.PutLaws.{put_as}
+use Rattle.line.proofs.PageLaws.{puts_as}
 use mathlib.Core.Path.{ap}
 use Prim.Native.Nat.{ℕ, ◌-◌}
 use Rattle.standings.proofs.put_standing.Goals as goal
@@ -9,4 +9,4 @@ pub returns : goal.returns
 unfolding standing_text
 returns c =
     let t = c.args.t in
-    put_as _ _ (ap (λ (h : ℕ). report_text t.n t.counts.moved (t.n - t.counts.moved) t.counts.flakes h t.counts.done) c.share_of-share.ensures) c.report_text.ensures
+    puts_as _ _ (ap (λ (h : ℕ). report_text t.n t.counts.moved (t.n - t.counts.moved) t.counts.flakes h t.counts.done) c.share_of-share.ensures) c.report_text.ensures

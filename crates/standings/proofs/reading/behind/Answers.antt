@@ -1,13 +1,13 @@
-use Rattle.standings.proofs.ReadingLaws.{found_le, behind-mark, behind_end}
-use native.Mathlib.Omega.{arith}
+use Rattle.std.proofs.Common.{arith}
+use Rattle.standings.proofs.ReadingLaws.{found_le, behind_is}
 use Rattle.standings.proofs.reading.behind.Goals as goal
 
-pub returns-then-i-text : goal.returns-then-i-text
-returns-then-i-text c =
+pub overflow_add-find : goal.overflow_add-find
+overflow_add-find c =
     let x = c.args in
-    (omega arith, behind-mark x.mark x.text.now x.at c.find-i.ensures)
+    omega (arith, found_le x.mark x.text.now x.at c.requires c.find.ensures)
 
 pub returns : goal.returns
 returns c =
     let x = c.args in
-    (found_le x.mark x.text.now x.at c.requires c.find-i.ensures, behind_end x.mark x.text.now x.at c.find-i.ensures c.if-i-text.false)
+    (omega (arith, c.min.ensures), rw c.min.ensures (behind_is x.mark x.text.now x.at c.find.ensures))

@@ -1,25 +1,9 @@
-use Rattle.standings.proofs.ReadingLaws.{find-on, find_at, find-over}
-use native.Mathlib.Omega.{arith}
-use mathlib.Core.Path.{refl}
+use Rattle.std.proofs.Common.{arith, take, ◌-◌, length, drop, length-drop, length-take}
+use Rattle.line.proofs.ReadLaws.{up_to-le}
 use Rattle.standings.proofs.reading.find.Goals as goal
 
-pub loop-i-init : goal.loop-i-init
-loop-i-init c = (c.requires, refl)
-
-pub returns-then-text-i : goal.returns-then-text-i
-returns-then-text-i c =
-    let t = c.loop-i in
+pub overflow_add-result : goal.overflow_add-result
+overflow_add-result c =
     let x = c.args in
-    find_at x.mark x.text.now t.i _ c.loop-i-test.true c.if-text-i.true t.invariant.1
-
-pub loop-i-preserved : goal.loop-i-preserved
-loop-i-preserved c =
-    let t = c.loop-i in
-    let x = c.args in
-    (omega arith, find-on x.mark x.text.now t.i _ c.loop-i-test.true c.if-text-i.false t.invariant.1)
-
-pub returns : goal.returns
-returns c =
-    let t = c.loop-i in
-    let x = c.args in
-    find-over x.mark x.text.now t.i _ c.loop-i-test.false t.invariant.1
+    let rest = take (length x.text.now - x.at) (drop x.at x.text.now) in
+    omega (arith, c.first.ensures, up_to-le x.mark rest, length-take (length x.text.now - x.at) (drop x.at x.text.now), length-drop x.at x.text.now)
