@@ -1,7 +1,7 @@
 -- "Demands 1 and 3 read a queue as its writes." Each statement is proved, under the same name in small letters, in proofs/Runs.antt.
 use Prim.{Unit}
 use Rattle.std.specs.Prelude.{ℕ, ◌≤◌, ◌≡◌, ◌⊎◌, List, [], ◌∷◌, ◌++◌, length, take, drop}
-use Rattle.answers.specs.declared.Answer.TheVariants as A
+use Rattle.answers.specs.Answer as A
 use Rattle.answers.specs.Numbers.{number_of}
 use Rattle.queues.specs.declared.Request.{Request}
 use Rattle.queues.specs.Queue.{After, queue_after}

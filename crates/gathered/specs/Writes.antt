@@ -3,8 +3,8 @@
 -- proofs/Writes.antt.
 use Rattle.std.specs.Prelude.{ℕ, zero, suc, ◌<◌, ◌≤◌, ◌≡◌, false, List, [], ◌++◌, length, get_or, take}
 use Rattle.base.specs.Lists.{part}
-use Rattle.answers.specs.declared.Answer.{Answer}
-use Rattle.answers.specs.declared.Answer.TheVariants as A
+use Rattle.answers.specs.Answer.{Answer}
+use Rattle.answers.specs.Answer as A
 use Rattle.answers.specs.Numbers.{accepts}
 use Rattle.records.specs.Listing.{Entry}
 use Rattle.drive.specs.declared.Drive.{Drive}

@@ -4,7 +4,7 @@ use mathlib.Core.Path.{◌≡◌}
 use lib.ListN.{length}
 use Rattle.codec.specs.Row.{◌&◌, AllFit, row_in}
 use Rattle.codec.proofs.RowLaws.{length-row, row_only}
-use Rattle.answers.specs.declared.Answer.{Answer}
+use Rattle.answers.specs.Answer.{Answer}
 use Rattle.images.specs.Answers.{answer_row, answer_values, answer_image}
 
 pub length-answer : (a : Answer) → length (answer_image a) ≡ 16

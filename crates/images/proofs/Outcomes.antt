@@ -2,11 +2,15 @@
 use mathlib.Core.Path.{refl}
 use Rattle.base.specs.Outcome.{OneOutcome}
 use Rattle.base.proofs.OutcomeLaws.{agree}
+use Prim.Native.Nat.{ℕ}
+use mir.Syntax.{w64}
+use mir.Val.{Fits}
+use denote.Param.{number}
 use Rattle.images.proofs as fn
 use Rattle.images.specs.contracts as said
 
-pub six : OneOutcome said.six.ended fn.six.Reads.Post
-six κs a x y u v p q = (agree p q, refl)
+pub row : (N : ℕ) (fits : Fits w64 N) → OneOutcome (said.row.ended (number N)) (fn.row.Reads.Post N fits)
+row N fits κs a x y u v p q = (agree p q, refl)
 
 pub answer_image : OneOutcome said.answer_image.ended fn.answer_image.Reads.Post
 answer_image κs a x y u v p q = (agree p q, refl)

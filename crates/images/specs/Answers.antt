@@ -2,9 +2,9 @@
 -- first value (record, node, nugget of a flake; for 11 how many are left; for 16 the nugget); 12-15 second value (the flake). What
 -- isn't carried is zero."
 use Prim.{tt}
-use Rattle.std.specs.Prelude.{ℕ, List, [], ◌∷◌}
+use Rattle.std.specs.Prelude.{ℕ, List, [], ◌∷◌, Option, Some, None}
 use Rattle.codec.specs.Row.{Field, number, Values, ◌&◌, row}
-use Rattle.answers.specs.declared.Answer.{Answer}
+use Rattle.answers.specs.Answer.{Answer}
 use Rattle.answers.specs.declared.Carried.{Carried}
 use Rattle.answers.specs.declared.Carried.TheVariants as K
 use Rattle.answers.specs.declared.Place.{Place}
@@ -29,23 +29,23 @@ second_at (P.Record n) = 0
 second_at (P.Node i) = 0
 second_at (P.Flake n f) = f
 
-abbrev pub kind_of : Carried → ℕ
-kind_of K.Nothing = 0
-kind_of (K.At p) = kind_at p
-kind_of (K.Many k) = 0
-kind_of (K.Nugget n) = 0
+abbrev pub kind_of : Option Carried → ℕ
+kind_of None = 0
+kind_of (Some (K.At p)) = kind_at p
+kind_of (Some (K.Many k)) = 0
+kind_of (Some (K.Nugget n)) = 0
 
-abbrev pub first_of : Carried → ℕ
-first_of K.Nothing = 0
-first_of (K.At p) = first_at p
-first_of (K.Many k) = k
-first_of (K.Nugget n) = n
+abbrev pub first_of : Option Carried → ℕ
+first_of None = 0
+first_of (Some (K.At p)) = first_at p
+first_of (Some (K.Many k)) = k
+first_of (Some (K.Nugget n)) = n
 
-abbrev pub second_of : Carried → ℕ
-second_of K.Nothing = 0
-second_of (K.At p) = second_at p
-second_of (K.Many k) = 0
-second_of (K.Nugget n) = 0
+abbrev pub second_of : Option Carried → ℕ
+second_of None = 0
+second_of (Some (K.At p)) = second_at p
+second_of (Some (K.Many k)) = 0
+second_of (Some (K.Nugget n)) = 0
 
 -- number, kind of place, first value, second value
 abbrev pub answer_row : List Field

@@ -4,8 +4,8 @@ use Rattle.std.specs.Prelude.{ℕ, List, eqb}
 use Rattle.base.specs.Pick.{pick}
 use Rattle.base.specs.Lists.{part}
 use Rattle.words.specs.Le.{num}
-use Rattle.answers.specs.declared.Answer.{Answer}
-use Rattle.answers.specs.declared.Answer.TheVariants as A
+use Rattle.answers.specs.Answer.{Answer}
+use Rattle.answers.specs.Answer as A
 use Rattle.answers.specs.declared.Place.TheVariants as P
 
 -- "7 with a kind that isn't 1 to 4" tells no refusal

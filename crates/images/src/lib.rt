@@ -2,86 +2,37 @@
 // It touches `answers` and `words`.
 #![tactic(auto)]
 
-ghost use Rattle.std.specs.Prelude.{◌≡◌, ◌++◌, ◌≤◌, length};
-ghost use Rattle.words.specs.Le.{le};
+ghost use Rattle.std.specs.Prelude.{◌≡◌, [], ◌∷◌, ◌*◌, ◌≤◌, length};
+ghost use Rattle.words.specs.Le.{serialised};
 ghost use Rattle.images.specs.Answers.{kind_of, first_of, second_of, answer_image};
 ghost use Rattle.images.specs.Back.{altered_in, refusal_in, answer_in};
 
-use answers::{Answer, Carried, Place};
+use answers::{Answer, Carried, Place, Refusal};
 
-// 4-7: the kind of place.
-fn kind(c: Carried) -> u32
-    ensures { result ≡ kind_of c }
+// 4-15: the kind of place, the first value, the second value.
+fn values(c: Option<Carried>) -> [u32; 3]
+    ensures { result ≡ kind_of c ∷ first_of c ∷ second_of c ∷ [] }
 {
     match c {
-        Carried::Nothing => 0,
-        Carried::At(p) => match p {
-            Place::Head => 1,
-            Place::Record(_) => 2,
-            Place::Node(_) => 3,
-            Place::Flake(_, _) => 4,
-        },
-        Carried::Many(_) => 0,
-        Carried::Nugget(_) => 0,
+        None => [0, 0, 0],
+        Some(Carried::At(Place::Head)) => [1, 0, 0],
+        Some(Carried::At(Place::Record(n))) => [2, n, 0],
+        Some(Carried::At(Place::Node(i))) => [3, i, 0],
+        Some(Carried::At(Place::Flake(n, f))) => [4, n, f],
+        Some(Carried::Many(k)) => [0, k, 0],
+        Some(Carried::Nugget(n)) => [0, n, 0],
     }
 }
 
-// 8-11: the first value.
-fn first(c: Carried) -> u32
-    ensures { result ≡ first_of c }
+// Numbers in a row, 4 bytes each.
+pub fn row<const N: usize>(xs: &[u32]) -> [u8; N]
+    requires { N ≡ 4 * length xs.now }
+    ensures { result ≡ serialised xs.now }
 {
-    match c {
-        Carried::Nothing => 0,
-        Carried::At(p) => match p {
-            Place::Head => 0,
-            Place::Record(n) => n,
-            Place::Node(i) => i,
-            Place::Flake(n, _) => n,
-        },
-        Carried::Many(k) => k,
-        Carried::Nugget(n) => n,
+    let mut out = [0; N];
+    for (i, x) in xs.iter().enumerate() {
+        words::store32(&mut out, 4 * i, *x);
     }
-}
-
-// 12-15: the second value.
-fn second(c: Carried) -> u32
-    ensures { result ≡ second_of c }
-{
-    match c {
-        Carried::Nothing => 0,
-        Carried::At(p) => match p {
-            Place::Head => 0,
-            Place::Record(_) => 0,
-            Place::Node(_) => 0,
-            Place::Flake(_, f) => f,
-        },
-        Carried::Many(_) => 0,
-        Carried::Nugget(_) => 0,
-    }
-}
-
-fn four(a: u32, b: u32, c: u32, d: u32) -> [u8; 16]
-    ensures { result ≡ le 4 a ++ (le 4 b ++ (le 4 c ++ le 4 d)) }
-{
-    let mut out = [0u8; 16];
-    words::store32(&mut out, 0, a);
-    words::store32(&mut out, 4, b);
-    words::store32(&mut out, 8, c);
-    words::store32(&mut out, 12, d);
-    out
-}
-
-// Six numbers, 4 bytes each.
-pub fn six(a: u32, b: u32, c: u32, d: u32, e: u32, f: u32) -> [u8; 24]
-    ensures { result ≡ le 4 a ++ (le 4 b ++ (le 4 c ++ (le 4 d ++ (le 4 e ++ le 4 f)))) }
-{
-    let mut out = [0u8; 24];
-    words::store32(&mut out, 0, a);
-    words::store32(&mut out, 4, b);
-    words::store32(&mut out, 8, c);
-    words::store32(&mut out, 12, d);
-    words::store32(&mut out, 16, e);
-    words::store32(&mut out, 20, f);
     out
 }
 
@@ -89,8 +40,8 @@ pub fn six(a: u32, b: u32, c: u32, d: u32, e: u32, f: u32) -> [u8; 24]
 pub fn answer_image(a: Answer) -> [u8; 16]
     ensures { result ≡ answer_image a }
 {
-    let c = answers::carried_by(a);
-    four(answers::number(a), kind(c), first(c), second(c))
+    let [kind, first, second] = values(answers::carried_by(a));
+    row(&[answers::number(a), kind, first, second])
 }
 
 // Answer 7 by its kind of place; acceptance for a kind that is none.
@@ -98,11 +49,11 @@ fn altered_in(kind: u32, a: u32, b: u32) -> Answer
     ensures { result ≡ altered_in kind a b }
 {
     match kind {
-        1 => Answer::Altered(Place::Head),
-        2 => Answer::Altered(Place::Record(a)),
-        3 => Answer::Altered(Place::Node(a)),
-        4 => Answer::Altered(Place::Flake(a, b)),
-        _ => Answer::Accepted,
+        1 => Err(Refusal::Altered(Place::Head)),
+        2 => Err(Refusal::Altered(Place::Record(a))),
+        3 => Err(Refusal::Altered(Place::Node(a))),
+        4 => Err(Refusal::Altered(Place::Flake(a, b))),
+        _ => Ok(()),
     }
 }
 
@@ -110,22 +61,22 @@ fn refusal_in(n: u32, kind: u32, a: u32, b: u32) -> Answer
     ensures { result ≡ refusal_in n kind a b }
 {
     match n {
-        1 => Answer::Limits,
-        2 => Answer::Length,
-        3 => Answer::Mark,
-        4 => Answer::Seal,
-        5 => Answer::OldSecret,
-        6 => Answer::Counter,
+        1 => Err(Refusal::Limits),
+        2 => Err(Refusal::Length),
+        3 => Err(Refusal::Mark),
+        4 => Err(Refusal::Seal),
+        5 => Err(Refusal::OldSecret),
+        6 => Err(Refusal::Counter),
         7 => altered_in(kind, a, b),
-        8 => Answer::PastEnd,
-        9 => Answer::State,
-        10 => Answer::SameSecret,
-        11 => Answer::Left(a),
-        12 => Answer::Moved,
-        13 => Answer::CounterTop,
-        15 => Answer::EpochTop,
-        16 => Answer::Discarded(a),
-        _ => Answer::Accepted,
+        8 => Err(Refusal::PastEnd),
+        9 => Err(Refusal::State),
+        10 => Err(Refusal::SameSecret),
+        11 => Err(Refusal::Left(a)),
+        12 => Err(Refusal::Moved),
+        13 => Err(Refusal::CounterTop),
+        15 => Err(Refusal::EpochTop),
+        16 => Err(Refusal::Discarded(a)),
+        _ => Ok(()),
     }
 }
 

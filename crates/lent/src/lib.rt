@@ -55,24 +55,21 @@ pub fn read_at(d: &Drive, vol: &[u8], offset: u64, buf: &mut [u8]) -> Answer
     ensures { (result ≡ read_answer d.now vol.now offset (length buf.old))
         × (buf.new ≡ read_buffer d.now vol.now offset buf.old) }
 {
-    let c = *d;
-    reading::read(c, vol, offset, buf)
+    reading::read(*d, vol, offset, buf)
 }
 
 // "Report gives N, nuggets moved [..], left, flakes present, and share"
 pub fn report_at(d: &Drive, vol: &[u8]) -> Report
     ensures { result ≡ report_of d.now vol.now }
 {
-    let c = *d;
-    reports::report(c, vol)
+    reports::report(*d, vol)
 }
 
 // What a stored flake answers: 1, 2, 8.
 pub fn stored_flake_answer_at(d: &Drive, vol: &[u8], nugget: u32, flake: u32) -> Answer
     ensures { result ≡ stored_answer d.now vol.now nugget flake }
 {
-    let c = *d;
-    reports::stored_flake_answer(c, vol, nugget, flake)
+    reports::stored_flake_answer(*d, vol, nugget, flake)
 }
 
 // "shows a backup tool the stored bytes as that part of the volume itself, no copy"
@@ -80,8 +77,7 @@ pub fn stored_flake_at<'v>(d: &Drive, vol: &'v [u8], nugget: u32, flake: u32) ->
     ensures { (result.now ≡ stored_flake d.now vol.now nugget flake)
         × (result.ref_ptr ≡ onward vol.entry.ref_ptr (stored_at d.now vol.now nugget flake)) }
 {
-    let c = *d;
-    reports::stored_flake(c, vol, nugget, flake)
+    reports::stored_flake(*d, vol, nugget, flake)
 }
 
 // Document 01's write.
@@ -90,8 +86,7 @@ pub fn write_at(d: &mut Drive, vol: &mut [u8], offset: u64, bytes: &[u8]) -> Ans
         × ((d.new ≡ (write_done d.entry.now vol.old offset bytes.now).drive)
         × (vol.new ≡ write_volume d.entry.now vol.old offset bytes.now)) }
 {
-    let c = *d;
-    let r = writing::write(c, vol, offset, bytes);
+    let r = writing::write(*d, vol, offset, bytes);
     *d = r.drive;
     r.answer
 }
@@ -101,8 +96,7 @@ pub fn export_at(d: &Drive, vol: &[u8], one: [u8; 32], two: [u8; 32], out: &mut 
     ensures { (result ≡ export_answer d.now vol.now one two (length out.old))
         × (out.new ≡ export_buffer d.now vol.now one two out.old) }
 {
-    let c = *d;
-    handing::export(c, vol, one, two, out)
+    handing::export(*d, vol, one, two, out)
 }
 
 // "Import decrypts such a buffer and writes it whole at offset 0".
@@ -117,8 +111,7 @@ pub fn import_at(
         × ((d.new ≡ (import_done d.entry.now vol.old one two bytes.now).drive)
         × (vol.new ≡ import_volume d.entry.now vol.old one two bytes.now)) }
 {
-    let c = *d;
-    let r = importing::import(c, vol, one, two, bytes);
+    let r = importing::import(*d, vol, one, two, bytes);
     *d = r.drive;
     r.answer
 }
@@ -129,8 +122,7 @@ pub fn begin_at(d: &mut Drive, vol: &mut [u8], secret: [u8; 32]) -> Answer
         × ((d.new ≡ (begin_done d.entry.now vol.old secret).drive)
         × (vol.new ≡ begin_volume d.entry.now vol.old secret)) }
 {
-    let c = *d;
-    let r = rekeying::begin(c, vol, secret);
+    let r = rekeying::begin(*d, vol, secret);
     *d = r.drive;
     r.answer
 }
@@ -141,8 +133,7 @@ pub fn sweep_at(d: &mut Drive, vol: &mut [u8], nugget: u32) -> Answer
         × ((d.new ≡ (sweep_done d.entry.now vol.old nugget).drive)
         × (vol.new ≡ sweep_volume d.entry.now vol.old nugget)) }
 {
-    let c = *d;
-    let r = rekeying::sweep(c, vol, nugget);
+    let r = rekeying::sweep(*d, vol, nugget);
     *d = r.drive;
     r.answer
 }
@@ -153,8 +144,7 @@ pub fn finish_at(d: &mut Drive, vol: &mut [u8]) -> Answer
         × ((d.new ≡ (finish_done d.entry.now vol.old).drive)
         × (vol.new ≡ finish_volume d.entry.now vol.old)) }
 {
-    let c = *d;
-    let r = rekeying::finish(c, vol);
+    let r = rekeying::finish(*d, vol);
     *d = r.drive;
     r.answer
 }
@@ -165,8 +155,7 @@ pub fn discard_at(d: &mut Drive, vol: &mut [u8], freed: Freed) -> Answer
         × ((d.new ≡ (discard_done d.entry.now vol.old freed.nugget freed.first freed.count).drive)
         × (vol.new ≡ discard_volume d.entry.now vol.old freed.nugget freed.first freed.count)) }
 {
-    let c = *d;
-    let r = discarding::discard(c, vol, freed);
+    let r = discarding::discard(*d, vol, freed);
     *d = r.drive;
     r.answer
 }
@@ -177,8 +166,7 @@ pub fn queue_at(d: &mut Drive, vol: &mut [u8], rs: &[Request], bytes: &[u8]) -> 
         × ((d.new ≡ (queue_done d.entry.now vol.old rs.now bytes.now).drive)
         × (vol.new ≡ queue_volume d.entry.now vol.old rs.now bytes.now)) }
 {
-    let c = *d;
-    let r = queues::queue(c, vol, rs, bytes);
+    let r = queues::queue(*d, vol, rs, bytes);
     *d = r.drive;
     r.outcome
 }
@@ -189,8 +177,7 @@ pub fn up_at(d: &mut Drive, vol: &[u8], second: &mut [u8]) -> Answer
         × ((d.new ≡ (up_done d.entry.now vol.now (length second.old)).drive)
         × (second.new ≡ up_second d.entry.now vol.now second.old)) }
 {
-    let c = *d;
-    let r = moving::up(c, vol, second);
+    let r = moving::up(*d, vol, second);
     *d = r.drive;
     r.answer
 }
@@ -201,8 +188,7 @@ pub fn down_at(d: &mut Drive, vol: &[u8], second: &mut [u8]) -> Answer
         × ((d.new ≡ (down_done d.entry.now vol.now (length second.old)).drive)
         × (second.new ≡ down_second d.entry.now vol.now second.old)) }
 {
-    let c = *d;
-    let r = moving::down(c, vol, second);
+    let r = moving::down(*d, vol, second);
     *d = r.drive;
     r.answer
 }

@@ -1,9 +1,9 @@
 -- Promises of the C interface, from those of the calls.
-use mathlib.Core.Path.{◌≡◌, ◌∙◌, ap}
+use mathlib.Core.Path.{◌≡◌, refl, ◌∙◌, ap}
 use mathlib.Core.Bool.{Bool, true}
-use mathlib.Core.List.{List}
+use mathlib.Core.List.{List, [], ◌∷◌}
 use Prim.Native.Nat.{ℕ}
-use Rattle.answers.specs.declared.Answer.{Answer}
+use Rattle.answers.specs.Answer.{Answer}
 use Rattle.answers.specs.Numbers.{number_of, accepts}
 use Rattle.layout.specs.Shape.{in_limits}
 use Rattle.images.specs.Answers.{answer_image}
@@ -12,9 +12,11 @@ use Rattle.drive.specs.declared.Done.{Done}
 use Rattle.drive.specs.Drive.{shape_of}
 use Rattle.reports.specs.Stored.{stored_answer}
 use Rattle.reports.proofs.AnswerLaws.{stored_is}
-use Rattle.words.specs.Le.{le}
+use Rattle.words.specs.Le.{le, serialised}
 use Rattle.queues.specs.declared.Queued.{Queued}
-use Rattle.ngt.specs.Calls.{Tells, image_after, Changed, counter_rose, Queues}
+use Rattle.ngt.specs.Calls.{Tells, report_image, image_after, Changed, counter_rose, Queues}
+use Rattle.ngt.specs.Summary.{tally_image}
+use Rattle.reports.specs.declared.told.Report.{Report}
 
 -- an accepted stored flake has a shape in limits, so its place is the paper's
 pub stored_limits : (d : Drive) (v : List ℕ) (n f : ℕ) → accepts (stored_answer d v n f) ≡ true → in_limits (shape_of d) ≡ true
@@ -49,3 +51,16 @@ queues_by {d} {e} {queued} {changes} {given} queued-of volume-of o h v c i k n a
           ∙ ap (λ (z : Queued). image_after (counter_rose e z.drive) z.drive given) same;
       counts = k ∙ ap (λ (z : Queued). le 8 z.outcome.done) same;
     }
+
+-- numbers in a row are the images that list them
+pub report_row : (r : Report) → serialised (r.n ∷ r.moved ∷ r.left ∷ r.flakes ∷ r.share ∷ []) ≡ report_image r
+unfolding serialised le
+report_row r = refl
+
+pub tally_row : (r : Report) → serialised (r.n ∷ r.moved ∷ r.left ∷ r.flakes ∷ r.share ∷ r.done ∷ []) ≡ tally_image r
+unfolding serialised le
+tally_row r = refl
+
+pub lone_row : (x : ℕ) → serialised (x ∷ []) ≡ le 4 x
+unfolding serialised le
+lone_row x = refl

@@ -2,7 +2,7 @@
 use mathlib.Core.Path.{◌≡◌, ◌∙◌, ap}
 use mathlib.Core.List.{List}
 use Prim.Native.Nat.{ℕ}
-use Rattle.answers.specs.declared.Answer.{Answer}
+use Rattle.answers.specs.Answer.{Answer}
 use Rattle.images.specs.Answers.{answer_image}
 use Rattle.line.proofs.PutLaws.{put_as}
 use Rattle.drive.specs.declared.Drive.{Drive}

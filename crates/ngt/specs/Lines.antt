@@ -1,6 +1,6 @@
 -- What the lines beside the calls leave: the line, with an answer beside it.
 use Rattle.std.specs.Prelude.{ℕ, ◌≡◌, List}
-use Rattle.answers.specs.declared.Answer.{Answer}
+use Rattle.answers.specs.Answer.{Answer}
 use Rattle.images.specs.Answers.{answer_image}
 use Rattle.line.specs.Lines.{Put}
 

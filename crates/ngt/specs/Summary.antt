@@ -1,7 +1,7 @@
 -- What the functions of document 02's Item 9 answer, and what each lent byte holds at the end.
 use Rattle.std.specs.Prelude.{◌≡◌, List, ◌++◌, ℕ}
 use Rattle.words.specs.Le.{le}
-use Rattle.answers.specs.declared.Answer.{Answer}
+use Rattle.answers.specs.Answer.{Answer}
 use Rattle.reports.specs.declared.told.Report.{Report}
 use Rattle.ngt.specs.Calls.{Tells}
 

@@ -1,6 +1,5 @@
 // The calls that change the drive, for C: each stores the image anew where the drive changed.
 ghost use Rattle.std.specs.Prelude.{◌≡◌};
-ghost use Rattle.words.specs.Le.{le};
 ghost use Rattle.packed.specs.Image.{drive_in};
 ghost use Rattle.changes.specs.Write.{writes};
 ghost use Rattle.ngt.specs.Calls.{Begun, Swept, Finished, Written, Imported, counter_rose, Discarded, QueuedBy};
@@ -19,13 +18,8 @@ pub fn ngt_begin(
     ensures { Begun (drive_in image.old) vol.old secret.now
         image.old result vol.new image.new answer.new }
 {
-    let d = crate::opened(*image);
-    let done = rekeying::begin(d, vol, *secret);
-    let a = done.answer;
-    let next = done.drive;
-    crate::keep(image, answers::accepted(a), next);
-    *answer = images::answer_image(a);
-    answers::number(a)
+    let done = rekeying::begin(crate::opened(*image), vol, *secret);
+    crate::hand_back(image, answer, done, done.answer.is_ok())
 }
 
 // Sweep, of one nugget.
@@ -33,13 +27,8 @@ pub fn ngt_sweep(image: &mut [u8; 144], vol: &mut [u8], nugget: u32, answer: &mu
     ensures { Swept (drive_in image.old) vol.old nugget
         image.old result vol.new image.new answer.new }
 {
-    let d = crate::opened(*image);
-    let done = rekeying::sweep(d, vol, nugget);
-    let a = done.answer;
-    let next = done.drive;
-    crate::keep(image, answers::accepted(a), next);
-    *answer = images::answer_image(a);
-    answers::number(a)
+    let done = rekeying::sweep(crate::opened(*image), vol, nugget);
+    crate::hand_back(image, answer, done, done.answer.is_ok())
 }
 
 // Finish.
@@ -47,23 +36,15 @@ pub fn ngt_finish(image: &mut [u8; 144], vol: &mut [u8], answer: &mut [u8; 16]) 
     ensures { Finished (drive_in image.old) vol.old
         image.old result vol.new image.new answer.new }
 {
-    let d = crate::opened(*image);
-    let done = rekeying::finish(d, vol);
-    let a = done.answer;
-    let next = done.drive;
-    crate::keep(image, answers::accepted(a), next);
-    *answer = images::answer_image(a);
-    answers::number(a)
+    let done = rekeying::finish(crate::opened(*image), vol);
+    crate::hand_back(image, answer, done, done.answer.is_ok())
 }
 
 // Whether a write changes the drive: one of no bytes doesn't.
 fn writes_by(a: Answer, bytes: &[u8]) -> bool
     ensures { result ≡ writes a bytes.now }
 {
-    if answers::accepted(a) {
-        return 0 < bytes.len();
-    }
-    false
+    a.is_ok() && 0 < bytes.len()
 }
 
 // Write, from an offset on.
@@ -77,13 +58,8 @@ pub fn ngt_write(
     ensures { Written (drive_in image.old) vol.old offset bytes.now
         image.old result vol.new image.new answer.new }
 {
-    let d = crate::opened(*image);
-    let done = writing::write(d, vol, offset, bytes);
-    let a = done.answer;
-    let next = done.drive;
-    crate::keep(image, writes_by(a, bytes), next);
-    *answer = images::answer_image(a);
-    answers::number(a)
+    let done = writing::write(crate::opened(*image), vol, offset, bytes);
+    crate::hand_back(image, answer, done, writes_by(done.answer, bytes))
 }
 
 // Import of a whole buffer; an accepted one always changes the drive, since no drive is without contents.
@@ -98,13 +74,8 @@ pub fn ngt_import(
     ensures { Imported (drive_in image.old) vol.old key.now tweak.now bytes.now
         image.old result vol.new image.new answer.new }
 {
-    let d = crate::opened(*image);
-    let done = importing::import(d, vol, *key, *tweak, bytes);
-    let a = done.answer;
-    let next = done.drive;
-    crate::keep(image, answers::accepted(a), next);
-    *answer = images::answer_image(a);
-    answers::number(a)
+    let done = importing::import(crate::opened(*image), vol, *key, *tweak, bytes);
+    crate::hand_back(image, answer, done, done.answer.is_ok())
 }
 
 // Whether drives differ: each call that changes one adds to its counter.
@@ -133,19 +104,7 @@ pub fn ngt_discard(
         count,
     };
     let done = discarding::discard(d, vol, freed);
-    let a = done.answer;
-    let next = done.drive;
-    crate::keep(image, counter_rose(d, next), next);
-    *answer = images::answer_image(a);
-    answers::number(a)
-}
-
-fn eight(x: u64) -> [u8; 8]
-    ensures { result ≡ le 8 x }
-{
-    let mut out = [0u8; 8];
-    words::store(&mut out, 0, 8, x);
-    out
+    crate::hand_back(image, answer, done, counter_rose(d, done.drive))
 }
 
 // A queue of writes, "requests: 16 bytes each, offset and length".
@@ -162,11 +121,7 @@ pub fn ngt_queue(
 {
     let d = crate::opened(*image);
     let queued = queues::queue_images(d, vol, requests, bytes);
-    let outcome = queued.outcome;
-    let next = queued.drive;
-    let a = outcome.answer;
-    crate::keep(image, counter_rose(d, next), next);
-    *done = eight(outcome.done);
-    *answer = images::answer_image(a);
-    answers::number(a)
+    crate::keep(image, counter_rose(d, queued.drive), queued.drive);
+    *done = crate::long(queued.outcome.done);
+    crate::told(answer, queued.outcome.answer)
 }

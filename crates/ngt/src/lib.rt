@@ -14,9 +14,10 @@ ghost use Rattle.packed.specs.Image.{drive_in};
 ghost use Rattle.line.specs.Lines.{Put};
 ghost use Rattle.fleets.specs.Lines.{fleet_line};
 ghost use Rattle.ngt.specs.Twins.{Compared};
-ghost use Rattle.ngt.specs.Calls.{Formatted, Mounted, Filled, Exported, Reported, Shown, span_image, image_after};
+ghost use Rattle.ngt.specs.Calls.{Formatted, Mounted, Filled, Exported, Reported, Shown, Tells, span_image, image_after};
 
-use drive::Drive;
+use answers::Answer;
+use drive::{Done, Drive};
 use layout::Shape;
 
 // Format under version 1, with the image of the drive that it hands back.
@@ -60,11 +61,8 @@ pub fn ngt_format_as(
         cipher,
     };
     let done = opening::format(vol, s, *salt, *secret, outside);
-    let d = done.drive;
-    let a = done.answer;
-    *image = packed::pack(d);
-    *answer = images::answer_image(a);
-    answers::number(a)
+    *image = packed::pack(done.drive);
+    told(answer, done.answer)
 }
 
 // Mount, with the image of the drive that it hands back.
@@ -79,23 +77,16 @@ pub fn ngt_mount(
     ensures { Mounted vol.now present.now old.now outside result image.new answer.new }
 {
     let done = opening::mount(vol, *present, *old, outside);
-    let d = done.drive;
-    let a = done.answer;
-    *image = packed::pack(d);
-    *answer = images::answer_image(a);
-    answers::number(a)
+    *image = packed::pack(done.drive);
+    told(answer, done.answer)
 }
 
-fn five(a: u32, b: u32, c: u32, d: u32, e: u32) -> [u8; 20]
-    ensures { result ≡ le 4 a ++ (le 4 b ++ (le 4 c ++ (le 4 d ++ le 4 e))) }
+// "The answer's image, 16 bytes, always stored"; "Each function also returns the number."
+fn told(answer: &mut [u8; 16], a: Answer) -> u32
+    ensures { Tells a result answer.new }
 {
-    let mut out = [0u8; 20];
-    words::store32(&mut out, 0, a);
-    words::store32(&mut out, 4, b);
-    words::store32(&mut out, 8, c);
-    words::store32(&mut out, 12, d);
-    words::store32(&mut out, 16, e);
-    out
+    *answer = images::answer_image(a);
+    answers::number(a)
 }
 
 // "Where the drive comes back as given, no byte of the image is stored": it may lie on a page that can't be written then.
@@ -105,6 +96,14 @@ fn keep(image: &mut [u8; 144], changes: bool, d: Drive)
     if changes {
         *image = packed::pack(d);
     }
+}
+
+// What a call that may change the drive leaves: the image, anew if it changed, and the answer.
+fn hand_back(image: &mut [u8; 144], answer: &mut [u8; 16], done: Done, changes: bool) -> u32
+    ensures { (image.new ≡ image_after changes done.drive image.old) × Tells done.answer result answer.new }
+{
+    keep(image, changes, done.drive);
+    told(answer, done.answer)
 }
 
 // An image by value is known to have its 144 bytes.
@@ -124,10 +123,8 @@ pub fn ngt_read(
 ) -> u32
     ensures { Filled (drive_in image.now) vol.now offset buf.old result buf.new answer.new }
 {
-    let d = opened(*image);
-    let a = reading::read(d, vol, offset, buf);
-    *answer = images::answer_image(a);
-    answers::number(a)
+    let a = reading::read(opened(*image), vol, offset, buf);
+    told(answer, a)
 }
 
 // Export into a lent buffer; `key` is the key for sectors, `tweak` the one for tweaks.
@@ -142,10 +139,8 @@ pub fn ngt_export(
     ensures { Exported (drive_in image.now) vol.now key.now tweak.now out.old
         result out.new answer.new }
 {
-    let d = opened(*image);
-    let a = handing::export(d, vol, *key, *tweak, out);
-    *answer = images::answer_image(a);
-    answers::number(a)
+    let a = handing::export(opened(*image), vol, *key, *tweak, out);
+    told(answer, a)
 }
 
 // Report, "N, moved, left, flakes, share in hundredths of a percent, 4 bytes each; all zero if refused".
@@ -157,12 +152,18 @@ pub fn ngt_report(
 ) -> u32
     ensures { Reported (drive_in image.now) vol.now result report.new answer.new }
 {
-    let d = opened(*image);
-    let r = reports::report(d, vol);
-    let a = r.answer;
-    *report = five(r.n, r.moved, r.left, r.flakes, r.share);
-    *answer = images::answer_image(a);
-    answers::number(a)
+    let r = reports::report(opened(*image), vol);
+    *report = images::row(&[r.n, r.moved, r.left, r.flakes, r.share]);
+    told(answer, r.answer)
+}
+
+// A number as its 8 bytes.
+fn long(x: u64) -> [u8; 8]
+    ensures { result ≡ le 8 x }
+{
+    let mut out = [0u8; 8];
+    words::store(&mut out, 0, 8, x);
+    out
 }
 
 fn two(a: usize, b: u32) -> [u8; 16]
@@ -170,17 +171,18 @@ fn two(a: usize, b: u32) -> [u8; 16]
 {
     let mut out = [0u8; 16];
     words::store(&mut out, 0, 8, a as u64);
-    words::store(&mut out, 8, 8, b as u64);
+    words::store(&mut out, 8, 8, u64::from(b));
     out
 }
 
 fn span_image(d: Drive, vol: &[u8], nugget: u32, flake: u32) -> [u8; 16]
     ensures { result ≡ span_image d vol.now nugget flake }
 {
-    if answers::accepted(reports::stored_flake_answer(d, vol, nugget, flake)) {
-        return two(layout::flake_at(drive::shape_of(d), nugget, flake), d.f);
+    if reports::stored_flake_answer(d, vol, nugget, flake).is_ok() {
+        two(layout::flake_at(drive::shape_of(d), nugget, flake), d.f)
+    } else {
+        [0u8; 16]
     }
-    [0u8; 16]
 }
 
 // Stored flake, as "where the part begins in the volume and its length, 8 bytes each; both zero if refused".
@@ -197,8 +199,7 @@ pub fn ngt_stored_flake(
     let d = opened(*image);
     let a = reports::stored_flake_answer(d, vol, nugget, flake);
     *span = span_image(d, vol, nugget, flake);
-    *answer = images::answer_image(a);
-    answers::number(a)
+    told(answer, a)
 }
 
 // The fleet's line of drives' lines, in the first bytes of `out`; how many they are.
@@ -207,14 +208,6 @@ pub fn ngt_fleet(lines: &[u8], out: &mut [u8; 192]) -> u32
 {
     let k = fleets::fleet_line(lines, out);
     k as u32
-}
-
-fn four(x: u32) -> [u8; 4]
-    ensures { result ≡ le 4 x }
-{
-    let mut out = [0u8; 4];
-    words::store32(&mut out, 0, x);
-    out
 }
 
 // Twins: two messages with one BLAKE2s value, of two volumes that pass one nugget's path and differ there.
@@ -231,10 +224,7 @@ pub fn ngt_twins(
     ensures { Compared (drive_in image.now) first.now second.now nugget one.old two.old
         result one.new two.new length.new answer.new }
 {
-    let d = opened(*image);
-    let t = twins::find(d, first, second, nugget, one, two);
-    let a = t.answer;
-    *length = four(t.length);
-    *answer = images::answer_image(a);
-    answers::number(a)
+    let t = twins::find(opened(*image), first, second, nugget, one, two);
+    *length = images::row(&[t.length]);
+    told(answer, t.answer)
 }

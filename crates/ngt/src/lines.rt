@@ -59,10 +59,8 @@ pub fn ngt_sheet_line(
     ensures { Lined (report_of (drive_in image.now) vol.now).answer (reported_line (report_of (drive_in image.now) vol.now))
         out.old result out.new answer.new }
 {
-    let d = packed::unpack(image);
-    let t = telling::sheet_line(d, vol, out);
-    let a = t.answer;
-    *answer = images::answer_image(a);
+    let t = telling::sheet_line(packed::unpack(image), vol, out);
+    *answer = images::answer_image(t.answer);
     t.count
 }
 
@@ -77,9 +75,7 @@ pub fn ngt_nugget_line(
     ensures { Lined (nugget_answer (drive_in image.now) vol.now nugget) (nugget_told (drive_in image.now) vol.now nugget)
         out.old result out.new answer.new }
 {
-    let d = packed::unpack(image);
-    let t = telling::nugget_line(d, vol, nugget, out);
-    let a = t.answer;
-    *answer = images::answer_image(a);
+    let t = telling::nugget_line(packed::unpack(image), vol, nugget, out);
+    *answer = images::answer_image(t.answer);
     t.count
 }

@@ -13,13 +13,8 @@ pub fn ngt_move_up(
     ensures { MovedUp (drive_in image.old) vol.now second.old
         image.old result second.new image.new answer.new }
 {
-    let d = crate::opened(*image);
-    let done = moving::up(d, vol, second);
-    let a = done.answer;
-    let next = done.drive;
-    crate::keep(image, answers::accepted(a), next);
-    *answer = images::answer_image(a);
-    answers::number(a)
+    let done = moving::up(crate::opened(*image), vol, second);
+    crate::hand_back(image, answer, done, done.answer.is_ok())
 }
 
 // Version 2 to version 1.
@@ -32,11 +27,6 @@ pub fn ngt_move_down(
     ensures { MovedDown (drive_in image.old) vol.now second.old
         image.old result second.new image.new answer.new }
 {
-    let d = crate::opened(*image);
-    let done = moving::down(d, vol, second);
-    let a = done.answer;
-    let next = done.drive;
-    crate::keep(image, answers::accepted(a), next);
-    *answer = images::answer_image(a);
-    answers::number(a)
+    let done = moving::down(crate::opened(*image), vol, second);
+    crate::hand_back(image, answer, done, done.answer.is_ok())
 }

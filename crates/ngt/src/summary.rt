@@ -9,12 +9,9 @@ ghost use Rattle.ngt.specs.Summary.{Tallied, Summed};
 pub fn ngt_tally(image: &[u8; 144], vol: &[u8], report: &mut [u8; 24], answer: &mut [u8; 16]) -> u32
     ensures { Tallied (report_of (drive_in image.now) vol.now) result report.new answer.new }
 {
-    let d = crate::opened(*image);
-    let r = reports::report(d, vol);
-    let a = r.answer;
-    *report = images::six(r.n, r.moved, r.left, r.flakes, r.share, r.done);
-    *answer = images::answer_image(a);
-    answers::number(a)
+    let r = reports::report(crate::opened(*image), vol);
+    *report = images::row(&[r.n, r.moved, r.left, r.flakes, r.share, r.done]);
+    crate::told(answer, r.answer)
 }
 
 // The whole summary, whatever the buffer held.
@@ -27,10 +24,8 @@ pub fn ngt_summary_build(
     ensures { Summed (build_answer (drive_in image.now) vol.now (length sum.old))
         (build_summary (drive_in image.now) vol.now sum.old) result sum.new answer.new }
 {
-    let d = crate::opened(*image);
-    let a = summaries::build(d, vol, sum);
-    *answer = images::answer_image(a);
-    answers::number(a)
+    let a = summaries::build(crate::opened(*image), vol, sum);
+    crate::told(answer, a)
 }
 
 // One nugget's path.
@@ -44,10 +39,8 @@ pub fn ngt_summary_renew(
     ensures { Summed (renew_answer (drive_in image.now) vol.now (length sum.old) nugget)
         (renew_summary (drive_in image.now) vol.now sum.old nugget) result sum.new answer.new }
 {
-    let d = crate::opened(*image);
-    let a = summaries::renew(d, vol, sum, nugget);
-    *answer = images::answer_image(a);
-    answers::number(a)
+    let a = summaries::renew(crate::opened(*image), vol, sum, nugget);
+    crate::told(answer, a)
 }
 
 // "A report from the top entry".
@@ -60,10 +53,7 @@ pub fn ngt_summary_report(
 ) -> u32
     ensures { Tallied (top_report (drive_in image.now) vol.now sum.now) result report.new answer.new }
 {
-    let d = crate::opened(*image);
-    let r = summaries::top(d, vol, sum);
-    let a = r.answer;
-    *report = images::six(r.n, r.moved, r.left, r.flakes, r.share, r.done);
-    *answer = images::answer_image(a);
-    answers::number(a)
+    let r = summaries::top(crate::opened(*image), vol, sum);
+    *report = images::row(&[r.n, r.moved, r.left, r.flakes, r.share, r.done]);
+    crate::told(answer, r.answer)
 }

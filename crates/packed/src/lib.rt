@@ -33,14 +33,14 @@ fn numbers_image(
     ensures { result ≡ numbers_image n p f state cipher epoch left version }
 {
     let mut out = [0u8; 24];
-    words::store(&mut out, 0, 4, n as u64);
-    words::store(&mut out, 4, 4, p as u64);
-    words::store(&mut out, 8, 4, f as u64);
-    words::store(&mut out, 12, 1, state as u64);
-    words::store(&mut out, 13, 1, cipher as u64);
-    words::store(&mut out, 14, 2, epoch as u64);
-    words::store(&mut out, 16, 2, left as u64);
-    words::store(&mut out, 18, 2, version as u64);
+    words::store(&mut out, 0, 4, u64::from(n));
+    words::store(&mut out, 4, 4, u64::from(p));
+    words::store(&mut out, 8, 4, u64::from(f));
+    words::store(&mut out, 12, 1, u64::from(state));
+    words::store(&mut out, 13, 1, u64::from(cipher));
+    words::store(&mut out, 14, 2, u64::from(epoch));
+    words::store(&mut out, 16, 2, u64::from(left));
+    words::store(&mut out, 18, 2, u64::from(version));
     out
 }
 
@@ -70,23 +70,18 @@ fn whole_image(front: [u8; 48], node: [u8; 32], present: [u8; 32], old: [u8; 32]
 pub fn pack(d: Drive) -> [u8; 144]
     ensures { result ≡ drive_image d }
 {
-    let state = d.state;
     let numbers = numbers_image(
         d.n,
         d.p,
         d.f,
-        drive::state_byte(state),
+        drive::state_byte(d.state),
         d.cipher,
         d.epoch,
-        epoch_left(state),
+        epoch_left(d.state),
         d.version,
     );
-    let salt = d.salt;
-    let front = front_image(numbers, salt, d.counter);
-    let node = d.node;
-    let present = d.present;
-    let old = d.old;
-    whole_image(front, node, present, old)
+    let front = front_image(numbers, d.salt, d.counter);
+    whole_image(front, d.node, d.present, d.old)
 }
 
 fn state_in(image: &[u8]) -> State
@@ -114,13 +109,13 @@ fn drive_in(image: &[u8]) -> Drive
         f: words::load32(image, 8),
         version: words::load(image, 18, 2) as u16,
         cipher: words::load(image, 13, 1) as u8,
-        salt: words::sixteen(image, 24),
+        salt: words::taken(image, 24),
         state: state_in(image),
         epoch: words::load(image, 14, 2) as u16,
         counter: words::load(image, 40, 8),
-        node: words::thirty_two(image, 48),
-        present: words::thirty_two(image, 80),
-        old: words::thirty_two(image, 112),
+        node: words::taken(image, 48),
+        present: words::taken(image, 80),
+        old: words::taken(image, 112),
     }
 }
 

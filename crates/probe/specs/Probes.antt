@@ -1,8 +1,8 @@
 -- What the comparisons' calls answer: tests 1 and 2, and 8 for the nugget, then the call itself.
 use Rattle.std.specs.Prelude.{ℕ, List, eqb, ltb, leb, length}
 use Rattle.base.specs.Pick.{pick}
-use Rattle.answers.specs.declared.Answer.{Answer}
-use Rattle.answers.specs.declared.Answer.TheVariants as A
+use Rattle.answers.specs.Answer.{Answer}
+use Rattle.answers.specs.Answer as A
 use Rattle.answers.specs.Numbers.{accepts}
 use Rattle.layout.specs.declared.Shape.{Shape}
 use Rattle.layout.specs.Shape.{in_limits}

@@ -11,10 +11,36 @@ ghost use Rattle.records.specs.Record.{against};
 ghost use Rattle.images.specs.Answers.{answer_image};
 ghost use Rattle.probe.specs.Probes.{lock_with, shaped_answer, path_answer, whole_answer, renew_answer, laid_bytes, renewed_bytes, built_bytes};
 
-use answers::Answer;
+use answers::{Answer, Refusal};
 use keys::Lock;
 use layout::Shape;
 use records::Gauge;
+
+// A lock of that version, by the first cipher.
+fn lock_with(version: u16, key: [u8; 32], number: u32, keycount: u64) -> Lock
+    ensures { result ≡ lock_with version key number keycount }
+{
+    Lock {
+        number,
+        key,
+        keycount,
+        version,
+        cipher: 0,
+    }
+}
+
+// A shape of version 1.
+fn shape(n: u32, p: u32, f: u32) -> Shape
+    ensures { result ≡ shape n p f }
+{
+    Shape {
+        n,
+        p,
+        f,
+        version: 1,
+        cipher: 0,
+    }
+}
 
 #[unsafe(no_mangle)]
 pub extern "C" fn ngt_nugget_key(secret: &[u8; 32], salt: &[u8; 16], n: u32, out: &mut [u8; 32])
@@ -27,14 +53,7 @@ pub extern "C" fn ngt_nugget_key(secret: &[u8; 32], salt: &[u8; 16], n: u32, out
 pub extern "C" fn ngt_tag_key(version: u16, key: &[u8; 32], f: u32, k: u64, out: &mut [u8; 32])
     ensures { out.new ≡ tag_key (lock_with version key.now 0 k) f }
 {
-    let lock = Lock {
-        number: 0,
-        key: *key,
-        keycount: k,
-        version,
-        cipher: 0,
-    };
-    *out = keys::tag_key(lock, f);
+    *out = keys::tag_key(lock_with(version, *key, 0, k), f);
 }
 
 #[unsafe(no_mangle)]
@@ -63,14 +82,7 @@ pub extern "C" fn ngt_tag(
 )
     ensures { out.new ≡ tag_of (lock_with version key.now n k) f stored.now }
 {
-    let lock = Lock {
-        number: n,
-        key: *key,
-        keycount: k,
-        version,
-        cipher: 0,
-    };
-    *out = keys::tag_of(stored, lock, f);
+    *out = keys::tag_of(stored, lock_with(version, *key, n, k), f);
 }
 
 // Poly1305 under any key over what a tag of version 2 is over.
@@ -86,14 +98,7 @@ pub extern "C" fn ngt_named_tag(
     ensures { out.new
         ≡ poly1305 key.now (laid_out (named (lock_with 2 key.now n k) f) stored.now) }
 {
-    let lock = Lock {
-        number: n,
-        key: *key,
-        keycount: k,
-        version: 2,
-        cipher: 0,
-    };
-    let name = keys::name_of(lock, f);
+    let name = keys::name_of(lock_with(2, *key, n, k), f);
     *out = keys::tag_laid_out(*key, &name, stored);
 }
 
@@ -102,18 +107,9 @@ pub extern "C" fn ngt_named_tag(
 pub extern "C" fn ngt_lay_pad(flake: &mut [u8], key: &[u8; 32], k: u64, f: u32)
     ensures { flake.new ≡ laid_bytes key.now k f flake.old }
 {
-    if flake.len() <= 4096 {
-        if f < 64 {
-            let lock = Lock {
-                number: 0,
-                key: *key,
-                keycount: k,
-                version: 1,
-                cipher: 0,
-            };
-            let size = flake.len();
-            keys::lay_from(flake, lock, size, f, 0);
-        }
+    if flake.len() <= 4096 && f < 64 {
+        let size = flake.len();
+        keys::lay_from(flake, lock_with(1, *key, 0, k), size, f, 0);
     }
 }
 
@@ -121,47 +117,39 @@ pub extern "C" fn ngt_lay_pad(flake: &mut [u8], key: &[u8; 32], k: u64, f: u32)
 fn shaped(vol: &[u8], s: Shape) -> Answer
     ensures { result ≡ shaped_answer s vol.now }
 {
-    if layout::in_limits(s) {
-        if vol.len() == layout::length_of(s) {
-            return Answer::Accepted;
-        }
-        return Answer::Length;
+    if !layout::in_limits(s) {
+        return Err(Refusal::Limits);
     }
-    Answer::Limits
+    if vol.len() != layout::length_of(s) {
+        return Err(Refusal::Length);
+    }
+    Ok(())
 }
 
 // And 8 for the nugget.
 fn shaped_nugget(vol: &[u8], s: Shape, n: u32) -> Answer
     ensures { result ≡ renew_answer s vol.now n }
 {
-    let a = shaped(vol, s);
-    if answers::accepted(a) {
-        if n < s.n {
-            return Answer::Accepted;
-        }
-        return Answer::PastEnd;
+    shaped(vol, s)?;
+    if n < s.n {
+        Ok(())
+    } else {
+        Err(Refusal::PastEnd)
     }
-    a
 }
 
 fn path(vol: &[u8], s: Shape, gauge: Gauge, n: u32) -> Answer
     ensures { result ≡ path_answer s gauge vol.now n }
 {
-    let a = shaped_nugget(vol, s, n);
-    if answers::accepted(a) {
-        return tree::path(vol, s, gauge, n);
-    }
-    a
+    shaped_nugget(vol, s, n)?;
+    tree::path(vol, s, gauge, n)
 }
 
 fn whole(vol: &[u8], s: Shape, gauge: Gauge) -> Answer
     ensures { result ≡ whole_answer s gauge vol.now }
 {
-    let a = shaped(vol, s);
-    if answers::accepted(a) {
-        return tree::whole(vol, s, gauge);
-    }
-    a
+    shaped(vol, s)?;
+    tree::whole(vol, s, gauge)
 }
 
 #[unsafe(no_mangle)]
@@ -180,13 +168,7 @@ pub extern "C" fn ngt_path(
 {
     let a = path(
         vol,
-        Shape {
-            n,
-            p,
-            f,
-            version: 1,
-            cipher: 0,
-        },
+        shape(n, p, f),
         Gauge {
             epoch,
             changing,
@@ -212,13 +194,7 @@ pub extern "C" fn ngt_whole(
 {
     let a = whole(
         vol,
-        Shape {
-            n,
-            p,
-            f,
-            version: 1,
-            cipher: 0,
-        },
+        shape(n, p, f),
         Gauge {
             epoch,
             changing,
@@ -232,15 +208,8 @@ pub extern "C" fn ngt_whole(
 pub extern "C" fn ngt_renew(vol: &mut [u8], n: u32, p: u32, f: u32, nugget: u32)
     ensures { vol.new ≡ renewed_bytes (shape n p f) nugget vol.old }
 {
-    let s = Shape {
-        n,
-        p,
-        f,
-        version: 1,
-        cipher: 0,
-    };
-    let a = shaped_nugget(vol, s, nugget);
-    if answers::accepted(a) {
+    let s = shape(n, p, f);
+    if shaped_nugget(vol, s, nugget).is_ok() {
         tree::renew(vol, s, nugget);
     }
 }
@@ -249,15 +218,8 @@ pub extern "C" fn ngt_renew(vol: &mut [u8], n: u32, p: u32, f: u32, nugget: u32)
 pub extern "C" fn ngt_build(vol: &mut [u8], n: u32, p: u32, f: u32)
     ensures { vol.new ≡ built_bytes (shape n p f) vol.old }
 {
-    let s = Shape {
-        n,
-        p,
-        f,
-        version: 1,
-        cipher: 0,
-    };
-    let a = shaped(vol, s);
-    if answers::accepted(a) {
+    let s = shape(n, p, f);
+    if shaped(vol, s).is_ok() {
         tree::build(vol, s);
     }
 }

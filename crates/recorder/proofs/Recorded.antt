@@ -12,7 +12,7 @@ use Rattle.base.specs.Pick.{pick}
 use Rattle.base.specs.Lists.{tab, same}
 use Rattle.base.proofs.PickLaws.{told, yes, no, clash}
 use Rattle.base.proofs.TabLaws.{tab_ext}
-use Rattle.answers.specs.declared.Answer.TheVariants as A
+use Rattle.answers.specs.Answer as A
 use Rattle.answers.specs.Numbers.{accepts}
 use Rattle.layout.specs.declared.Shape.{Shape}
 use Rattle.layout.specs.Shape.{shape, in_limits, sized, known_version, known_cipher, known, width_of, height_of, height_from}

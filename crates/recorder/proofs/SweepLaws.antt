@@ -12,7 +12,7 @@ use Rattle.base.specs.Lists.{tab, same}
 use Rattle.base.proofs.PickLaws.{told, both_left, both_right}
 use Rattle.base.proofs.FoldLaws.{same_true}
 use Rattle.base.proofs.TabLaws.{length-tab, get_or-tab}
-use Rattle.answers.specs.declared.Answer.TheVariants as A
+use Rattle.answers.specs.Answer as A
 use Rattle.answers.specs.Numbers.{accepts}
 use Rattle.answers.proofs.StageLaws.{accepted_is}
 use Rattle.history.specs.World.{World, Call, sweep}

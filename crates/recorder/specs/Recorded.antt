@@ -1,7 +1,7 @@
 -- What a session comes to, whatever the shape, the salt, the text, its place and the two secrets: what was written before the
 -- change of the secret is what is read after it, nothing is left under the first secret, and nobody needs that any more.
 use Rattle.std.specs.Prelude.{ℕ, ◌+◌, ◌*◌, ◌^◌, ◌<◌, ◌≤◌, ◌≡◌, List, length, replicate}
-use Rattle.answers.specs.declared.Answer.TheVariants as A
+use Rattle.answers.specs.Answer as A
 use Rattle.layout.specs.Shape.{shape}
 use Rattle.opening.specs.Format.{format_answer}
 use Rattle.opening.specs.Mount.{mount_done}

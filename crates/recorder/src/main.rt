@@ -11,6 +11,8 @@ use answers::Answer;
 use drive::Drive;
 use layout::Shape;
 use reports::Report;
+use std::io;
+use std::io::Write;
 
 // The shape of a drive, its outside counter, and where the text is written.
 #[derive(Clone, Copy)]
@@ -36,10 +38,8 @@ pub struct Heard {
 pub fn sweep_all(d: &mut Drive, vol: &mut [u8], n: u32)
     ensures { holding d.new vol.new ≡ swept_from 0 n (holding d.entry.now vol.old) }
 {
-    let mut k = 0;
-    while k < n {
-        lent::sweep_at(d, vol, k);
-        k += 1;
+    for k in 0..n {
+        let _ = lent::sweep_at(d, vol, k);
     }
 }
 
@@ -67,17 +67,17 @@ pub fn session(
     let read = lent::read_at(&d, vol, s.offset, back);
     let report = lent::report_at(&d, vol);
     Heard {
-        formatted: formatted,
-        written: written,
-        begun: begun,
-        early: early,
-        finished: finished,
-        read: read,
-        report: report,
+        formatted,
+        written,
+        begun,
+        early,
+        finished,
+        read,
+        report,
     }
 }
 
-fn main() {
+fn main(rt: HostRuntime) -> io::Result<()> {
     let mut vol = [0u8; 862]; // N 3, P 2, F 64: document 01's first figure
     let mut back = [0u8; 15];
     let shape = Shape {
@@ -88,7 +88,7 @@ fn main() {
         cipher: 0,
     };
     let s = Setup {
-        shape: shape,
+        shape,
         outside: 0,
         offset: 100,
     };
@@ -101,19 +101,12 @@ fn main() {
         b"weld 7: 12.4mm\n",
         &mut back,
     );
-    let formatted = t.formatted;
-    lines::say(formatted);
-    let written = t.written;
-    lines::say(written);
-    let begun = t.begun;
-    lines::say(begun);
-    let early = t.early; // 11: three nuggets are left
-    lines::say(early);
-    let finished = t.finished;
-    lines::say(finished);
-    let read = t.read;
-    lines::say(read);
-    io::write_all(1, &back);
-    let r = t.report;
-    lines::show(r);
+    lines::say(&rt, t.formatted)?;
+    lines::say(&rt, t.written)?;
+    lines::say(&rt, t.begun)?;
+    lines::say(&rt, t.early)?; // 11: three nuggets are left
+    lines::say(&rt, t.finished)?;
+    lines::say(&rt, t.read)?;
+    io::writer(&rt).write_all(&back)?;
+    lines::show(&rt, t.report)
 }

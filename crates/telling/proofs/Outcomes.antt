@@ -2,7 +2,7 @@
 use mathlib.Core.Path.{◌≡◌, refl}
 use mathlib.Core.List.{List}
 use Prim.Native.Nat.{ℕ}
-use Rattle.answers.specs.declared.Answer.{Answer}
+use Rattle.answers.specs.Answer.{Answer}
 use Rattle.base.specs.Outcome.{OneOutcome}
 use Rattle.base.proofs.OutcomeLaws.{agree, ◌∥◌}
 use Rattle.telling.specs.declared.Told.{Told}

@@ -1,8 +1,8 @@
 -- "What a host needs beside the calls": the lines that it prints, each with its newline.
 use Rattle.std.specs.Prelude.{ℕ, ◌≡◌, List, [], ltb}
 use Rattle.base.specs.Pick.{pick}
-use Rattle.answers.specs.declared.Answer.{Answer}
-use Rattle.answers.specs.declared.Answer.TheVariants as A
+use Rattle.answers.specs.Answer.{Answer}
+use Rattle.answers.specs.Answer as A
 use Rattle.answers.specs.Numbers.{accepts}
 use Rattle.answers.specs.Stages.{and_then}
 use Rattle.line.specs.Lines.{Put, refusal_line}

@@ -1,8 +1,8 @@
+use Rattle.words.specs.Le.{serialised}
 use Rattle.images.specs.Answers.{answer_image}
-use mathlib.Core.Path.{◌∙◌}
-use mathlib.Core.List.{append-nil}
+use mathlib.Core.Path.{◌∙◌, refl}
 use Rattle.images.proofs.answer_image.Goals as goal
 
 pub returns : goal.returns
-unfolding answer_image
-returns c = c.four.ensures ∙ rw (c.second.ensures, c.first.ensures, c.kind.ensures, c.number.ensures, c.carried_by-c.ensures) (simp append-nil)
+unfolding answer_image serialised
+returns c = c.row.ensures ∙ rw (c.values.ensures, c.number.ensures, c.carried_by.ensures) refl

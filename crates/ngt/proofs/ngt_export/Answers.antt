@@ -9,6 +9,6 @@ pub returns : goal.returns
 returns c =
     let a = c.args in
     record {
-      tells = tells-by (c.export-a.ensures.0 ∙ ap (λ (d : Drive). export_answer d a.vol.now a.key.now a.tweak.now (length a.out.now)) c.opened-d.ensures) c.number.ensures c.answer_image.ensures;
-      bytes = c.export-a.ensures.1 ∙ ap (λ (d : Drive). export_buffer d a.vol.now a.key.now a.tweak.now a.out.now) c.opened-d.ensures;
+      tells = tells-by (c.export-a.ensures.0 ∙ ap (λ (d : Drive). export_answer d a.vol.now a.key.now a.tweak.now (length a.out.now)) c.opened.ensures) c.told.ensures.told c.told.ensures.shown;
+      bytes = c.export-a.ensures.1 ∙ ap (λ (d : Drive). export_buffer d a.vol.now a.key.now a.tweak.now a.out.now) c.opened.ensures;
     }

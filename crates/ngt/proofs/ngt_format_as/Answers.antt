@@ -8,7 +8,7 @@ pub returns : goal.returns
 returns c =
     let e = c.format-done.ensures.0 in
     record {
-      tells = tells-by (ap (λ (z : Done). z.answer) e) c.number.ensures c.answer_image.ensures;
+      tells = tells-by (ap (λ (z : Done). z.answer) e) c.told.ensures.told c.told.ensures.shown;
       volume = c.format-done.ensures.1;
       drive = c.pack.ensures ∙ ap (λ (z : Done). drive_image z.drive) e;
     }

@@ -8,6 +8,6 @@ pub returns : goal.returns
 returns c =
     let e = c.mount-done.ensures in
     record {
-      tells = tells-by (ap (λ (z : Done). z.answer) e) c.number.ensures c.answer_image.ensures;
+      tells = tells-by (ap (λ (z : Done). z.answer) e) c.told.ensures.told c.told.ensures.shown;
       drive = c.pack.ensures ∙ ap (λ (z : Done). drive_image z.drive) e;
     }

@@ -9,6 +9,6 @@ pub returns : goal.returns
 returns c =
     let a = c.args in
     record {
-      tells = tells-by (c.read-a.ensures.0 ∙ ap (λ (d : Drive). read_answer d a.vol.now a.offset (length a.buf.now)) c.opened-d.ensures) c.number.ensures c.answer_image.ensures;
-      bytes = c.read-a.ensures.1 ∙ ap (λ (d : Drive). read_buffer d a.vol.now a.offset a.buf.now) c.opened-d.ensures;
+      tells = tells-by (c.read-a.ensures.0 ∙ ap (λ (d : Drive). read_answer d a.vol.now a.offset (length a.buf.now)) c.opened.ensures) c.told.ensures.told c.told.ensures.shown;
+      bytes = c.read-a.ensures.1 ∙ ap (λ (d : Drive). read_buffer d a.vol.now a.offset a.buf.now) c.opened.ensures;
     }

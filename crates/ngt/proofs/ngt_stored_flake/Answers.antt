@@ -9,6 +9,6 @@ pub returns : goal.returns
 returns c =
     let a = c.args in
     record {
-      tells = tells-by (c.stored_flake_answer-a.ensures ∙ ap (λ (d : Drive). stored_answer d a.vol.now a.nugget a.flake) c.opened-d.ensures) c.number.ensures c.answer_image.ensures;
+      tells = tells-by (c.stored_flake_answer-a.ensures ∙ ap (λ (d : Drive). stored_answer d a.vol.now a.nugget a.flake) c.opened-d.ensures) c.told.ensures.told c.told.ensures.shown;
       part = c.span_image.ensures ∙ ap (λ (d : Drive). span_image d a.vol.now a.nugget a.flake) c.opened-d.ensures;
     }

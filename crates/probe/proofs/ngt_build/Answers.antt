@@ -6,12 +6,12 @@ use mathlib.Core.Path.{refl, sym, ◌∙◌, ap}
 use Rattle.probe.proofs.ngt_build.Goals as goal
 
 pub build-requires : goal.build-requires
-build-requires c = lent_told _ _ (sym (ap accepts c.shaped-a.ensures) ∙ sym c.accepted.ensures ∙ c.if-accepted.true)
+build-requires c = lent_told _ _ (sym (ap accepts c.shaped.ensures) ∙ sym c.is_ok.ensures.value ∙ c.if-is_ok.true)
 
-pub returns-then-accepted : goal.returns-then-accepted
+pub returns-then-is_ok : goal.returns-then-is_ok
 unfolding built_bytes
-returns-then-accepted c = c.build.ensures ∙ sym (yes _ (sym (ap accepts c.shaped-a.ensures) ∙ sym c.accepted.ensures ∙ c.if-accepted.true) refl)
+returns-then-is_ok c = rw (← c.shape-s.ensures) (c.build.ensures ∙ sym (yes _ (sym (ap accepts c.shaped.ensures) ∙ sym c.is_ok.ensures.value ∙ c.if-is_ok.true) refl))
 
-pub returns-else-accepted : goal.returns-else-accepted
+pub returns-else-is_ok : goal.returns-else-is_ok
 unfolding built_bytes
-returns-else-accepted c = sym (no _ (sym (ap accepts c.shaped-a.ensures) ∙ sym c.accepted.ensures ∙ c.if-accepted.false) refl)
+returns-else-is_ok c = rw (← c.shape-s.ensures) (sym (no _ (sym (ap accepts c.shaped.ensures) ∙ sym c.is_ok.ensures.value ∙ c.if-is_ok.false) refl))

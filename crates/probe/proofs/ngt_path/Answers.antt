@@ -1,6 +1,6 @@
 use Rattle.images.specs.Answers.{answer_image}
-use mathlib.Core.Path.{◌∙◌, ap}
+use mathlib.Core.Path.{refl, ◌∙◌, ap}
 use Rattle.probe.proofs.ngt_path.Goals as goal
 
 pub returns : goal.returns
-returns c = c.answer_image.ensures ∙ ap answer_image c.path-a.ensures
+returns c = c.answer_image.ensures ∙ ap answer_image c.path-a.ensures ∙ rw c.shape.ensures refl

@@ -6,12 +6,12 @@ use mathlib.Core.Path.{refl, sym, ◌∙◌, ap}
 use Rattle.probe.proofs.ngt_renew.Goals as goal
 
 pub renew-requires : goal.renew-requires
-renew-requires c = nugget_told_lem _ _ _ (sym (ap accepts c.shaped_nugget-a.ensures) ∙ sym c.accepted.ensures ∙ c.if-accepted.true)
+renew-requires c = nugget_told_lem _ _ _ (sym (ap accepts c.shaped_nugget.ensures) ∙ sym c.is_ok.ensures.value ∙ c.if-is_ok.true)
 
-pub returns-then-accepted : goal.returns-then-accepted
+pub returns-then-is_ok : goal.returns-then-is_ok
 unfolding renewed_bytes
-returns-then-accepted c = c.renew.ensures ∙ sym (yes _ (sym (ap accepts c.shaped_nugget-a.ensures) ∙ sym c.accepted.ensures ∙ c.if-accepted.true) refl)
+returns-then-is_ok c = rw (← c.shape-s.ensures) (c.renew.ensures ∙ sym (yes _ (sym (ap accepts c.shaped_nugget.ensures) ∙ sym c.is_ok.ensures.value ∙ c.if-is_ok.true) refl))
 
-pub returns-else-accepted : goal.returns-else-accepted
+pub returns-else-is_ok : goal.returns-else-is_ok
 unfolding renewed_bytes
-returns-else-accepted c = sym (no _ (sym (ap accepts c.shaped_nugget-a.ensures) ∙ sym c.accepted.ensures ∙ c.if-accepted.false) refl)
+returns-else-is_ok c = rw (← c.shape-s.ensures) (sym (no _ (sym (ap accepts c.shaped_nugget.ensures) ∙ sym c.is_ok.ensures.value ∙ c.if-is_ok.false) refl))

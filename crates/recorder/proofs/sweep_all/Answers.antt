@@ -20,7 +20,7 @@ loop-k-preserved c =
     let l = c.loop-k in
     let n = c.args.n in
     let e = c.sweep_at.ensures in
-    (omega arith, (λ i. swept_from (l.k + 1) (n - (l.k + 1)) (holding (e.1.0 i) (e.1.1 i))) ∙ sym (more_left l.k n l.d l.vol c.loop-k-test.true) ∙ l.invariant.1)
+    ((λ i. swept_from (l.k + 1) (n - (l.k + 1)) (holding (e.1.0 i) (e.1.1 i))) ∙ sym (more_left l.k n l.d l.vol c.loop-k-test.true) ∙ l.invariant)
 
 pub returns : goal.returns
-returns c = sym (none_left c.loop-k.k c.args.n c.loop-k.d c.loop-k.vol (omega (arith, c.loop-k-test.false))) ∙ c.loop-k.invariant.1
+returns c = sym (none_left c.loop-k.k c.args.n c.loop-k.d c.loop-k.vol (omega (arith, c.loop-k-test.false))) ∙ c.loop-k.invariant

@@ -1,6 +1,6 @@
+use Rattle.std.proofs.Common.{arith}
 use Rattle.telling.proofs.ToldLaws.{told_reach}
-use native.Mathlib.Omega.{arith}
 use Rattle.telling.proofs.nugget_line.Goals as goal
 
 pub overflow_cast-result : goal.overflow_cast-result
-overflow_cast-result c = let a = c.args in omega (arith, told_reach a.d a.vol.now a.n c.put_nugget-k.ensures)
+overflow_cast-result c = let a = c.args in omega (arith, told_reach a.d a.vol.now a.n c.put_nugget.ensures)

@@ -10,4 +10,4 @@ returns c =
     let a = c.args in
     let e = c.begin-done.ensures in
     changed_by_lem (λ (z : Drive). begin_done z a.vol.now a.secret.now) (λ (z : Done). accepts z.answer) (λ (z : Drive). begin_volume z a.vol.now a.secret.now)
-    c.opened-d.ensures e.0 e.1 c.accepted.ensures c.keep.ensures c.number.ensures c.answer_image.ensures
+    c.opened.ensures e.0 e.1 c.is_ok.ensures.value c.hand_back.ensures.0 c.hand_back.ensures.1.told c.hand_back.ensures.1.shown

@@ -14,4 +14,4 @@ returns c =
     let o = c.opened-d.ensures in
     let d = drive_in a.image.now in
     changed_by_lem (λ (z : Drive). discard_done z a.vol.now a.nugget a.first a.count) (λ (z : Done). counter_rose d z.drive) (λ (z : Drive). discard_volume z a.vol.now a.nugget a.first a.count)
-    o e.0 e.1 (c.counter_rose.ensures ∙ ap (λ (z : Drive). counter_rose z c.discard-done.result.drive) o) c.keep.ensures c.number.ensures c.answer_image.ensures
+    o e.0 e.1 (c.counter_rose.ensures ∙ ap (λ (z : Drive). counter_rose z c.discard-done.result.drive) o) c.hand_back.ensures.0 c.hand_back.ensures.1.told c.hand_back.ensures.1.shown

@@ -8,4 +8,4 @@ returns c =
     let a = c.args in
     let e = c.queue_images-queued.ensures in
     queues_by (λ (z : Drive). images_done z a.vol.now a.requests.now a.bytes.now) (λ (z : Drive). images_volume z a.vol.now a.requests.now a.bytes.now)
-    c.opened-d.ensures e.0 e.1 c.counter_rose.ensures c.keep.ensures c.eight.ensures c.number.ensures c.answer_image.ensures
+    c.opened-d.ensures e.0 e.1 c.counter_rose.ensures c.keep.ensures c.long.ensures c.told.ensures.told c.told.ensures.shown

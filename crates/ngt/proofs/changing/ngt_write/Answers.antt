@@ -9,4 +9,4 @@ returns c =
     let a = c.args in
     let e = c.write-done.ensures in
     changed_by_lem (λ (z : Drive). write_done z a.vol.now a.offset a.bytes.now) (λ (z : Done). writes z.answer a.bytes.now) (λ (z : Drive). write_volume z a.vol.now a.offset a.bytes.now)
-    c.opened-d.ensures e.0 e.1 c.writes_by.ensures c.keep.ensures c.number.ensures c.answer_image.ensures
+    c.opened.ensures e.0 e.1 c.writes_by.ensures c.hand_back.ensures.0 c.hand_back.ensures.1.told c.hand_back.ensures.1.shown

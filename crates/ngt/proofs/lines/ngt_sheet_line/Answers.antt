@@ -7,4 +7,4 @@ use Rattle.ngt.proofs.lines.ngt_sheet_line.Goals as goal
 pub returns : goal.returns
 returns c =
     let v = c.args.vol.now in
-    lined_by (λ (x : Drive). (report_of x v).answer) (λ (x : Drive). reported_line (report_of x v)) c.unpack-d.ensures c.sheet_line-t.ensures c.answer_image.ensures
+    lined_by (λ (x : Drive). (report_of x v).answer) (λ (x : Drive). reported_line (report_of x v)) c.unpack.ensures c.sheet_line-t.ensures c.answer_image.ensures

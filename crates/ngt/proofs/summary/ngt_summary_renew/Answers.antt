@@ -9,6 +9,6 @@ pub returns : goal.returns
 returns c =
     let a = c.args in
     record {
-      tells = tells-by (c.renew-a.ensures.0 ∙ ap (λ (d : Drive). renew_answer d a.vol.now (length a.sum.now) a.nugget) c.opened-d.ensures) c.number.ensures c.answer_image.ensures;
-      bytes = c.renew-a.ensures.1 ∙ ap (λ (d : Drive). renew_summary d a.vol.now a.sum.now a.nugget) c.opened-d.ensures;
+      tells = tells-by (c.renew-a.ensures.0 ∙ ap (λ (d : Drive). renew_answer d a.vol.now (length a.sum.now) a.nugget) c.opened.ensures) c.told.ensures.told c.told.ensures.shown;
+      bytes = c.renew-a.ensures.1 ∙ ap (λ (d : Drive). renew_summary d a.vol.now a.sum.now a.nugget) c.opened.ensures;
     }

@@ -1,5 +1,5 @@
 use Rattle.words.specs.Le.{le}
-use Rattle.ngt.proofs.changing.eight.Goals as goal
+use Rattle.ngt.proofs.long.Goals as goal
 
 pub returns : goal.returns
 unfolding le
