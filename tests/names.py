@@ -14,7 +14,7 @@ CRATES = {path.name: path for path in pathlib.Path("crates").iterdir()}
 OTHERS = {"rt", "python3", "ldconfig", "ensures", "requires", "match", "cryptography"}
 COMMANDS = ("cc ", "gcc ", "cryptsetup ", "nbd-client ")
 STATED = re.compile(r"^ *(?:pub |abbrev |unfoldable )*(?:([^\s:(){}]+) :(?= |$)|(?:record|data|mod|module) ([^\s:(){}]+))", re.M)
-WRITTEN = re.compile(r"\b(?:fn|struct|enum|const|mod) (\w+)|^    (?:pub )?([A-Za-z]\w*)(?:\(.*\)|: .*| \{.*)?,$", re.M)
+WRITTEN = re.compile(r"\b(?:fn|struct|enum|trait|const|mod) (\w+)|^    (?:pub )?([A-Za-z]\w*)(?:\(.*\)|: .*| \{.*)?,$", re.M)
 
 
 def kept(folder, name):

@@ -18,12 +18,19 @@ SHOWN = "(λ κs. (ℕ × ℕ) × List ℕ) (λ κs r. (r.ref_ptr, r.now))"
 
 
 def functions(crate):
-    """Each public function: its path, and whether it hands back a reference."""
+    """Each public function or method: its path, its const and type parameters, and whether it hands back a reference."""
+    shape = r'^(?:impl(?:<[^>]*>)? (?:\w+ for )?(\w+)|\}|[ ]*pub (?:extern "C" )?fn (\w+)(<[^(]*>)?\([^{]*?\)(?:\s*->\s*(\S+))?)'
     for source in sorted((crate / "src").rglob("*.rt")):
         module = source.relative_to(crate / "src").with_suffix("").parts
-        module = () if module in (("lib",), ("main",)) else module
-        for found in re.finditer(r'^\s*pub (?:extern "C" )?fn (\w+)[^{]*?\)(?:\s*->\s*(\S+))?', source.read_text(), re.M):
-            yield (*module, found.group(1)), (found.group(2) or "").startswith("&")
+        module, owner = () if module in (("lib",), ("main",)) else module, ()
+        for found in re.finditer(shape, source.read_text(), re.M):
+            kind, name, generic, result = found.groups()
+            if name:
+                inside = owner if found.group(0).startswith(" ") else ()
+                parameters = [part.split(":")[0].split()[-1] for part in (generic or "").strip("<>").split(",") if part.strip()]
+                yield (*module, *inside, name), [part for part in parameters if not part.startswith("'")], (result or "").startswith("&")
+            else:
+                owner = (kind,) if kind else ()
 
 
 def said(page, name, ends):
@@ -32,11 +39,15 @@ def said(page, name, ends):
     return " ".join(found.group(1).split()) if found else None
 
 
-def is_promised(page, path, hands_back):
-    """Whether the page has the theorem of this function."""
+def is_promised(page, path, parameters, hands_back):
+    """Whether the page has the theorem of this function; of a generic one for all its parameters."""
     name, module = "_".join(path), ".".join(path)
+    theorem = said(page, f"pub {name} :", f"{name} ")
+    if parameters:
+        over = re.fullmatch(rf"(\(.*\)) → OneOutcome \(said\.{re.escape(module)}\.ended(.*)\) \(fn\.{re.escape(module)}\.Reads\.Post(.*)\)", theorem or "")
+        return bool(over) and all(re.search(rf"\b{part}\b", text) for part in parameters for text in over.groups())
     kind = f"OneSeen said.{module}.ended {SHOWN}" if hands_back else f"OneOutcome said.{module}.ended"
-    return said(page, f"pub {name} :", f"{name} ") == f"{kind} fn.{module}.Reads.Post"
+    return theorem == f"{kind} fn.{module}.Reads.Post"
 
 
 def stated(crate):
@@ -65,8 +76,8 @@ def lacking(crate):
     checked = root.exists() and "pub mod Outcomes\n" in root.read_text()
     cited = (BASE, f"use Rattle.{crate.name}.proofs as fn\n", f"use Rattle.{crate.name}.specs.contracts as said\n")
     if not checked or not all(line in page for line in cited):
-        return len(every), ["::".join(path) for path, _ in every]
-    return len(every), ["::".join(path) for path, hands_back in every if not is_promised(page, path, hands_back)]
+        return len(every), ["::".join(path) for path, *_ in every]
+    return len(every), ["::".join(path) for path, *rest in every if not is_promised(page, path, *rest)]
 
 
 def main():
