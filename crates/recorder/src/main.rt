@@ -11,8 +11,6 @@ use answers::Answer;
 use drive::Drive;
 use layout::Shape;
 use reports::Report;
-use std::io;
-use std::io::Write;
 
 // The shape of a drive, its outside counter, and where the text is written.
 #[derive(Clone, Copy)]
@@ -77,7 +75,7 @@ pub fn session(
     }
 }
 
-fn main(rt: HostRuntime) -> io::Result<()> {
+fn main(rt: HostRuntime) {
     let mut vol = [0u8; 862]; // N 3, P 2, F 64: document 01's first figure
     let mut back = [0u8; 15];
     let shape = Shape {
@@ -101,12 +99,12 @@ fn main(rt: HostRuntime) -> io::Result<()> {
         b"weld 7: 12.4mm\n",
         &mut back,
     );
-    lines::say(&rt, t.formatted)?;
-    lines::say(&rt, t.written)?;
-    lines::say(&rt, t.begun)?;
-    lines::say(&rt, t.early)?; // 11: three nuggets are left
-    lines::say(&rt, t.finished)?;
-    lines::say(&rt, t.read)?;
-    io::writer(&rt).write_all(&back)?;
-    lines::show(&rt, t.report)
+    lines::say(&rt, t.formatted);
+    lines::say(&rt, t.written);
+    lines::say(&rt, t.begun);
+    lines::say(&rt, t.early); // 11: three nuggets are left
+    lines::say(&rt, t.finished);
+    lines::say(&rt, t.read);
+    lines::put(&rt, &back);
+    lines::show(&rt, t.report);
 }

@@ -3,9 +3,9 @@
 #![tactic(auto)]
 
 use layout::Shape;
-use std::io;
 
-fn tell(rt: &impl Print, n: u32, p: u32, f: u32) -> io::Result<()> {
+// As in the programs that read, what can't be written is let go: each line is tried, and the program ends the same.
+fn tell(rt: &impl Print, n: u32, p: u32, f: u32) {
     let s = Shape {
         n,
         p,
@@ -15,13 +15,13 @@ fn tell(rt: &impl Print, n: u32, p: u32, f: u32) -> io::Result<()> {
     };
     if layout::in_limits(s) {
         let length = layout::length_of(s);
-        println!(rt; "N {n}, P {p}, F {f}: length {length}")
+        let _ = println!(rt; "N {n}, P {p}, F {f}: length {length}");
     } else {
-        println!(rt; "N {n}, P {p}, F {f}: refused")
+        let _ = println!(rt; "N {n}, P {p}, F {f}: refused");
     }
 }
 
-fn main(rt: HostRuntime) -> io::Result<()> {
+fn main(rt: HostRuntime) {
     let shapes = [
         (3, 2, 64),
         (1, 1, 64),
@@ -38,7 +38,6 @@ fn main(rt: HostRuntime) -> io::Result<()> {
         (3, 2, 4294967295),
     ];
     for (n, p, f) in shapes {
-        tell(&rt, n, p, f)?;
+        tell(&rt, n, p, f);
     }
-    Ok(())
 }

@@ -3,11 +3,10 @@
 use crate::hex::Hex;
 use crate::{others, pieces};
 use blake2s::State;
-use std::io;
 
-pub fn sections(rt: &impl Print) -> io::Result<()> {
+pub fn sections(rt: &impl Print) {
     let h = pieces::digest_of(blake2s::start(), b"abc", pieces::WHOLE);
-    println!(rt; "RFC 7693 B: {}", Hex(&h))
+    let _ = println!(rt; "RFC 7693 B: {}", Hex(&h));
 }
 
 // selftest_seq: the high byte of each number of a Fibonacci sequence; its seed is the length.
@@ -30,41 +29,40 @@ fn keyed() -> State {
 }
 
 // The two hashes of the sequence that fills m, shown and absorbed into the hash of hashes.
-fn pair(rt: &impl Print, hashes: State, m: &mut [u8]) -> io::Result<State> {
+fn pair(rt: &impl Print, hashes: State, m: &mut [u8]) -> State {
     sequence(m);
     let n = m.len();
     let h = pieces::digest_of(blake2s::start(), m, pieces::WHOLE);
-    println!(rt; "RFC 7693 E, {n} bytes: {}", Hex(&h))?;
+    let _ = println!(rt; "RFC 7693 E, {n} bytes: {}", Hex(&h));
     let k = pieces::digest_of(keyed(), m, pieces::WHOLE);
-    println!(rt; "RFC 7693 E, {n} bytes, keyed: {}", Hex(&k))?;
+    let _ = println!(rt; "RFC 7693 E, {n} bytes, keyed: {}", Hex(&k));
     let s = blake2s::absorb(hashes, &h);
-    Ok(blake2s::absorb(s, &k))
+    blake2s::absorb(s, &k)
 }
 
-pub fn self_test(rt: &impl Print) -> io::Result<()> {
+pub fn self_test(rt: &impl Print) {
     let mut hashes = blake2s::absorb(blake2s::start(), &others::OTHERS);
     let mut m = [0; 1024];
     for n in [0, 3, 64, 65, 255, 1024] {
-        let next = pair(rt, hashes, &mut m[..n])?;
+        let next = pair(rt, hashes, &mut m[..n]);
         hashes = next;
     }
-    println!(rt;
+    let _ = println!(rt;
         "RFC 7693 E, the hash of the hashes: {}",
         Hex(&blake2s::finish(hashes))
-    )
+    );
 }
 
-fn all_ways(rt: &impl Print, name: &str, keyed_name: &str, m: &[u8]) -> io::Result<()> {
+fn all_ways(rt: &impl Print, name: &str, keyed_name: &str, m: &[u8]) {
     for step in pieces::STEPS {
         let h = pieces::digest_of(blake2s::start(), m, step);
-        pieces::show(rt, name, step, &h)?;
+        pieces::show(rt, name, step, &h);
         let k = pieces::digest_of(keyed(), m, step);
-        pieces::show(rt, keyed_name, step, &k)?;
+        pieces::show(rt, keyed_name, step, &k);
     }
-    Ok(())
 }
 
-pub fn in_pieces(rt: &impl Print) -> io::Result<()> {
+pub fn in_pieces(rt: &impl Print) {
     let mut a = [0; 255];
     sequence(&mut a);
     all_ways(
@@ -72,7 +70,7 @@ pub fn in_pieces(rt: &impl Print) -> io::Result<()> {
         "RFC 7693 E, 255 bytes",
         "RFC 7693 E, 255 bytes, keyed",
         &a,
-    )?;
+    );
     let mut b = [0; 1024];
     sequence(&mut b);
     all_ways(

@@ -2,7 +2,6 @@
 ghost use Rattle.std.specs.Prelude.{◌<◌};
 
 use crate::hex::Hex;
-use std::io;
 
 // As much as any message here has.
 pub const WHOLE: usize = 1024;
@@ -49,6 +48,6 @@ pub fn digest_of<const N: usize, D: Digest<N>>(start: D, m: &[u8], step: usize) 
     d.finish()
 }
 
-pub fn show(rt: &impl Print, name: &str, step: usize, digest: &[u8]) -> io::Result<()> {
-    println!(rt; "{name}, pieces of {step}: {}", Hex(digest))
+pub fn show(rt: &impl Print, name: &str, step: usize, digest: &[u8]) {
+    let _ = println!(rt; "{name}, pieces of {step}: {}", Hex(digest));
 }

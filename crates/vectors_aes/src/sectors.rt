@@ -1,6 +1,5 @@
 // IEEE 1619, vectors 10 and 14: XTS-AES-256 over one sector, there and back. Debian's python3-cryptography gives the same.
 use crate::hex::Hex;
-use std::io;
 
 const ONE: [u8; 32] = *b"\x27\x18\x28\x18\x28\x45\x90\x45\x23\x53\x60\x28\x74\x71\x35\x26\
     \x62\x49\x77\x57\x24\x70\x93\x69\x99\x59\x57\x49\x66\x96\x76\x27";
@@ -41,15 +40,15 @@ const PLAIN: [u8; 512] = *b"\x00\x01\x02\x03\x04\x05\x06\x07\x08\x09\x0a\x0b\x0c
     \xe0\xe1\xe2\xe3\xe4\xe5\xe6\xe7\xe8\xe9\xea\xeb\xec\xed\xee\xef\
     \xf0\xf1\xf2\xf3\xf4\xf5\xf6\xf7\xf8\xf9\xfa\xfb\xfc\xfd\xfe\xff";
 
-fn there_and_back(rt: &impl Print, name: &str, sector: u64) -> io::Result<()> {
+fn there_and_back(rt: &impl Print, name: &str, sector: u64) {
     let mut d = PLAIN;
     xts::encrypt_sector(&mut d, ONE, TWO, sector);
-    println!(rt; "{name}: {}", Hex(&d))?;
+    let _ = println!(rt; "{name}: {}", Hex(&d));
     xts::decrypt_sector(&mut d, ONE, TWO, sector);
-    println!(rt; "{name}, back: {}", Hex(&d))
+    let _ = println!(rt; "{name}, back: {}", Hex(&d));
 }
 
-pub fn both(rt: &impl Print) -> io::Result<()> {
-    there_and_back(rt, "IEEE 1619 vector 10", 0xff)?;
+pub fn both(rt: &impl Print) {
+    there_and_back(rt, "IEEE 1619 vector 10", 0xff);
     there_and_back(rt, "IEEE 1619 vector 14", 0xff_ffff_ffff)
 }

@@ -79,7 +79,10 @@ pub fn copy(s: &mut [u8], at: usize, from: &[u8])
     requires { at + length from.now ≤ length s.old }
     ensures { s.new ≡ sets s.old at from.now }
 {
-    s[at..at + from.len()].copy_from_slice(from);
+    // Byte by byte: of `copy_from_slice` the compiler makes calls of memmove, which hosts in C needn't have.
+    for i in 0..from.len() {
+        s[at + i] = from[i];
+    }
 }
 
 // The N bytes at `at`.
