@@ -3,20 +3,19 @@ use mathlib.Core.Path.{◌≡◌, refl, sym, ap, ◌∙◌}
 use mathlib.Core.Bool.{Bool, true, false}
 use mathlib.Core.Logic.{◌⊎◌, inl, inr}
 use mathlib.Core.List.{List, [], ◌∷◌, ◌++◌}
-use Prim.Native.Nat.{ℕ, zero, suc, ◌+◌, ◌≤◌, min}
+use Prim.Native.Nat.{ℕ, zero, suc, ◌+◌, ◌-◌, ◌<◌, ◌≤◌, min}
 use native.Mathlib.Omega.{arith}
-use lib.Dec.{eqb, leb}
-use lib.ListN.{length, get_or, take, drop}
+use lib.Dec.{eqb, leb, ltb}
+use lib.ListN.{length, get_or, get_or-append, take, drop}
 use lib.Seq.{take_all, take-append_seam, drop-append_seam}
-use borrow.Author.Tests.{leb-true, leb-false, eq-eqb}
+use borrow.Author.Tests.{leb-true, leb-false, ltb-true, ltb-false, eq-eqb}
 use Rattle.std.specs.List.{IsFirstMatchOrLen}
-use Rattle.std.proofs.lemmas.List.{get_or_past}
 use Rattle.std.proofs.lemmas.List.{get_or_past}
 use Rattle.std.proofs.lemmas.List.Sums.{position_or_len_is}
 use Rattle.base.specs.Pick.{pick}
-use Rattle.base.proofs.PickLaws.{told, clash}
+use Rattle.base.proofs.PickLaws.{told, clash, yes, no}
 use Rattle.line.specs.Reading.{up_to, past}
-use Rattle.line.proofs.ReadLaws.{up_to-le}
+use Rattle.line.proofs.ReadLaws.{up_to-le, up_to-take}
 use Rattle.standings.proofs.ReadingLaws.{prefix_is, behind_is}
 
 -- the first line of the first b bytes
@@ -52,3 +51,38 @@ piece_rest l x r i e n h =
     let cut : drop (length x) l ≡ r = rw e (drop-append_seam x r) in
     let m : length x ≡ min (length l) (i + 1) = omega (arith, n) in
     sym cut ∙ rw m (behind_is 10 l 0 is)
+
+-- where the first piece's line ends: at its last byte if that is a newline, and else behind it
+pub unended_le : (x : List ℕ) {end : ℕ} → end ≡ pick (eqb (get_or x (length x - 1) 0) 10) (length x - 1) (length x) → end ≤ length x
+unended_le x e = go (eqb (get_or x (length x - 1) 0) 10) e
+  where
+    go : (t : Bool) {end : ℕ} → end ≡ pick t (length x - 1) (length x) → end ≤ length x
+    go true q = omega (arith, q)
+    go false q = omega (arith, q)
+
+pub piece_some : (l x : List ℕ) (i : ℕ) → length x ≡ min (i + 1) (length l) → 0 < length l → 0 < length x
+piece_some l x i n some = omega (arith, n, some)
+
+pub piece_end : (l x r : List ℕ) (i : ℕ) → l ≡ x ++ r → length x ≡ min (i + 1) (length l) → IsFirstMatchOrLen (λ b. eqb b 10) l i → 0 < length l
+    → {end : ℕ} → end ≡ pick (eqb (get_or x (length x - 1) 0) 10) (length x - 1) (length x) → take end x ≡ up_to 10 x
+piece_end l x r i e n h some {end} ee =
+    let is = first_is l i h in
+    let long : length (up_to 10 x) ≡ i = ap (λ (k : List ℕ). length k) (piece_line l x r i e n h) ∙ sym is in
+    let inside : length x - 1 < length x = omega (arith, n, some) in
+    let last : get_or x (length x - 1) 0 ≡ get_or l (length x - 1) 0 = sym (ap (λ (k : List ℕ). get_or k (length x - 1) 0) e ∙ get_or-append x r 0 (length x - 1) inside) in
+    let ends : end ≡ i = go (told (ltb i (length l))) last in
+    let f : end ≡ length (up_to 10 x) = ends ∙ sym long in
+    rw f (up_to-take 10 x)
+  where
+    go : (ltb i (length l) ≡ true) ⊎ (ltb i (length l) ≡ false) → get_or x (length x - 1) 0 ≡ get_or l (length x - 1) 0 → end ≡ i
+    go (inl t) last =
+        let s : i < length l = ltb-true i (length l) t in
+        let at : length x - 1 ≡ i = omega (arith, n, s) in
+        let hit : eqb (get_or x (length x - 1) 0) 10 ≡ true = ap (λ (b : ℕ). eqb b 10) (last ∙ ap (λ (k : ℕ). get_or l k 0) at) ∙ h.1 s 0 in
+        ee ∙ yes _ hit refl ∙ at
+    go (inr t) last =
+        let s : length l ≤ i = ltb-false i (length l) t in
+        let is = first_is l i h in
+        let all : length x ≡ i = omega (arith, n, s, is, up_to-le 10 l) in
+        let miss : eqb (get_or x (length x - 1) 0) 10 ≡ false = ap (λ (b : ℕ). eqb b 10) last ∙ h.0 (length x - 1) 0 (omega arith) (omega (arith, all, n, some)) in
+        ee ∙ no _ miss refl ∙ all

@@ -2,7 +2,8 @@
 // It touches `standings` to read each drive's line, `totals` to join the drives, and `line` to put the fleet's line.
 #![tactic(auto)]
 
-ghost use Rattle.std.specs.Prelude.{◌≡◌, ◌≤◌, length, take};
+ghost use Rattle.std.specs.Prelude.{◌≡◌, ◌-◌, ◌<◌, ◌≤◌, eqb, length, get_or, take};
+ghost use Rattle.base.specs.Pick.{pick};
 ghost use Rattle.line.specs.Lines.{Put};
 ghost use Rattle.totals.specs.Fleet.{Summed};
 ghost use Rattle.fleets.specs.Lines.{with_line, closed_line, open_line, gathered_in, fleet_line};
@@ -19,14 +20,30 @@ pub struct Open {
     pub line: u32,
 }
 
-// The fleet with one line more: one too many, or one that isn't taken, ends it.
+// The fleet with one line more: one too many, which isn't read, or one that isn't taken, ends it.
 fn with_line(f: Fleet, line: &[u8]) -> Result<Fleet, Open>
     requires { (f.drives ≤ 256) × Summed f }
     ensures { result ≡ with_line f line.now }
 {
+    if f.drives >= MOST {
+        return Err(Open { line: f.drives + 1 });
+    }
     match standings::found_in(line) {
-        Some(t) if f.drives < MOST => Ok(totals::joined(f, t)),
-        _ => Err(Open { line: f.drives + 1 }),
+        Some(t) => Ok(totals::joined(f, t)),
+        None => Err(Open { line: f.drives + 1 }),
+    }
+}
+
+// How long a line is without its newline, which the last one may lack: its last byte tells, so that no line is gone over for it.
+fn unended(line: &[u8]) -> usize
+    requires { 0 < length line.now }
+    ensures { result ≡ pick (eqb (get_or line.now (length line.now - 1) 0) 10) (length line.now - 1) (length line.now) }
+{
+    let last = line.len() - 1;
+    if line[last] == b'\n' {
+        last
+    } else {
+        line.len()
     }
 }
 
@@ -36,7 +53,7 @@ fn gather(input: &[u8]) -> Result<Fleet, Open>
 {
     let mut fleet = totals::nobody();
     for line in input.split_inclusive(|b| *b == b'\n') {
-        let end = standings::find(line, 0, b'\n');
+        let end = unended(line);
         fleet = with_line(fleet, &line[..end])?;
     }
     Ok(fleet)

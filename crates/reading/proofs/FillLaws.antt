@@ -5,12 +5,13 @@ use Prim.Native.Nat.{ℕ, suc, ◌+◌, ◌-◌, ◌*◌, ◌/◌, ◌%◌, ◌<
 use native.Mathlib.Nat.{div-add-mod', mod-lt, div-lt_iff_lt-mul, mul-le-mul, le_refl, lt-div-mul-add, div-mul-le_self, lt_of_mul-lt-mul_right}
 use Rattle.std.specs.Int.{div_ceil}
 use Rattle.std.proofs.lemmas.Grind.{div_ceil_times}
+use Rattle.std.proofs.lemmas.List.{nil_from_length}
 use native.Mathlib.Omega.{arith}
 use borrow.Rule.Slice.PartMut.{put_mid, Post-is}
 use lib.Arith.{digits_div, digits_mod}
 use lib.ListN.{get_or, take, drop, length}
 use Rattle.base.specs.Lists.{part, tab}
-use Rattle.base.proofs.TabLaws.{tab_ext, tab-none, tab-all, tab-part, part-tab}
+use Rattle.base.proofs.TabLaws.{length-tab, tab_ext, tab-none, tab-all, tab-part, part-tab}
 use Rattle.layout.specs.declared.Shape.{Shape}
 use Rattle.layout.specs.declared.Spot.{Spot}
 use Rattle.layout.specs.Spots.{capacity, offset_at}
@@ -134,3 +135,7 @@ nugget-bytes d v o at m r k n size whole h ek es eg ez =
     ∙ tab_ext n (λ i. byte_in (shape_of d) v (nugget_of d v m) (r + i)) (λ j. byte_of d v (o + (at + j))) (λ j l.
     let place : m * w + (r + j) ≡ o + (at + j) = omega (arith, whole) in
     sym (in_nugget_lem d v m (r + j) size (omega (arith, l, h))) ∙ ap (λ (x : ℕ). byte_of d v x) place)
+
+-- an empty buffer is filled as it stands
+pub fills-none : (f : ℕ → ℕ) (b : List ℕ) → length b ≡ 0 → b ≡ tab (length b) f
+fills-none f b e = nil_from_length b e ∙ sym (nil_from_length (tab (length b) f) (length-tab (length b) f ∙ e))

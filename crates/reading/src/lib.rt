@@ -77,6 +77,10 @@ fn fill(d: Drive, vol: &[u8], o: usize, buf: &mut [u8])
     requires { Shaped (shape_of d) vol.now × (o + length buf.old ≤ capacity (shape_of d)) }
     ensures { buf.new ≡ tab (length buf.old) (λ i. byte_of d vol.now (o + i)) }
 {
+    // The walk would take one turn inside a nugget, and make its key for nothing.
+    if buf.is_empty() {
+        return;
+    }
     let s = drive::shape_of(d);
     let whole = d.p as usize * d.f as usize;
     let end = o + buf.len();

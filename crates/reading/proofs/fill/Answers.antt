@@ -1,4 +1,4 @@
-use Rattle.reading.proofs.FillLaws.{nuggets_wide, nugget_met, walk-starts, walk_on, walk_ends, nugget-bytes}
+use Rattle.reading.proofs.FillLaws.{nuggets_wide, nugget_met, walk-starts, walk_on, walk_ends, nugget-bytes, fills-none}
 use Rattle.nuggets.specs.Nugget.{byte_of}
 use Rattle.drive.specs.Drive.{shape_of}
 use Rattle.layout.proofs.Limits.{limits, lent_small}
@@ -10,6 +10,7 @@ use native.Mathlib.Nat.{mul-le-mul, le_refl}
 use mathlib.Core.List.{List}
 use Prim.Native.Nat.{ℕ, ◌+◌, ◌-◌, ◌*◌}
 use native.Mathlib.Omega.{arith}
+use borrow.Author.Tests.{eqb-true}
 use mathlib.Core.Path.{◌≡◌, refl, sym, ◌∙◌, ap}
 use Rattle.reading.proofs.fill.Goals as goal
 
@@ -108,3 +109,8 @@ returns c =
     let a = c.args in
     let d = a.d in
     walk_ends (d.p * d.f) (nuggets_wide d a.vol.now c.requires.0) (λ (i : ℕ). byte_of d a.vol.now (a.o + i)) a.buf.now a.o c.loop-n.n c.div_ceil-n-end.ensures c.loop-n-test.false c.loop-n.invariant.2
+
+pub returns-then-is_empty : goal.returns-then-is_empty
+returns-then-is_empty c =
+    let a = c.args in
+    fills-none (λ (i : ℕ). byte_of a.d a.vol.now (a.o + i)) a.buf.now (eqb-true (length a.buf.now) 0 (sym c.is_empty.ensures ∙ c.if-is_empty.true))
