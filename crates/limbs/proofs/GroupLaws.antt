@@ -11,8 +11,8 @@ use lib.Seq.{drop-drop}
 use Rattle.words.specs.Le.{num}
 use Rattle.limbs.specs.declared.Limbs.{Limbs}
 use Rattle.limbs.specs.Limbs.{at, value, p}
-use Rattle.limbs.specs.Bounds.{step_by, steps_by}
-use Rattle.limbs.specs.Lanes.{lane_of, block_at, sum_by_powers, weighed, Level, LanesFit, Blocks, Turned}
+use Rattle.limbs.specs.Bounds.{Below, Fives, step_by, steps_by}
+use Rattle.limbs.specs.Lanes.{lane_of, block_at, sum_by_powers, weighed, Level, LanesFit, Multiplies, Blocks, Turned}
 use Rattle.limbs.proofs.Field.{mod_in}
 use Rattle.limbs.proofs.Digits.{wraps}
 use Rattle.limbs.proofs.TurnLaws.{wider, steps_append}
@@ -124,6 +124,9 @@ more_lanes r a i {s} m q h v power level turned e =
     (value (lane_of v 0)) (value (lane_of v 1)) (value (lane_of v 2)) (value (lane_of v 3)) (b 0) (b 1) (b 2) (b 3) power e
     (each 0 (lit< tt)) (each 1 (lit< tt)) (each 2 (lit< tt)) (each 3 (lit< tt))
     ∙ sym (four_more r a i m)
+
+pub multiplies : {s t : Limbs} (q v : List ℕ) → Level s q → Level t v → Below (2 ^ 26 + 2 ^ 20) s → Fives s t → Multiplies q v
+multiplies q v a b small five = record { loose = λ l h. rw (a.at l h) small; five = λ l h. rw (a.at l h, b.at l h) five }
 
 pub turned-fits : (q m : List ℕ) (at : ℕ) (h v : List ℕ) → Turned q m at h v → LanesFit v
 turned-fits q m at h v turned = record { at = λ l h. wider (lit≤ tt) (turned.each l h).loose }

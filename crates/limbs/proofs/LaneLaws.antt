@@ -11,7 +11,7 @@ use lib.Seq.{get_or-set_same, get_or-set_other}
 use Rattle.base.proofs.PickLaws.{told}
 use Rattle.limbs.specs.declared.Limbs.{Limbs}
 use Rattle.limbs.specs.Limbs.{at, value, p}
-use Rattle.limbs.specs.Bounds.{Below, Stands, Holds, Sums}
+use Rattle.limbs.specs.Bounds.{Below, Stands, Holds, Sums, Fives}
 use Rattle.limbs.specs.Lanes.{lane_of, block_at, LanePut, Blocks}
 use Rattle.limbs.proofs.Field.{plus}
 use Rattle.limbs.proofs.Digits.{wraps}
@@ -126,6 +126,16 @@ mul-added d0 d1 d2 d3 d4 lo hi x e =
 pub stands_by : {h r h' r' x : Limbs} {n n' : ℕ} → Stands (value h * value r + (n + 2 ^ 104 * 2 ^ 24)) x → h ≡ h' → r ≡ r' → n' ≡ n
     → Stands (value h' * value r' + (n' + 2 ^ 104 * 2 ^ 24)) x
 stands_by s e f g = rw (← e, ← f, g) s
+
+pub fives-below : {r v : Limbs} → Fives r v → Below (2 ^ 26 + 2 ^ 20) r → Below (2 ^ 29) v
+fives-below f b =
+    record {
+      b0 = omega (arith, f.f0, b.b0);
+      b1 = omega (arith, f.f1, b.b1);
+      b2 = omega (arith, f.f2, b.b2);
+      b3 = omega (arith, f.f3, b.b3);
+      b4 = omega (arith, f.f4, b.b4);
+    }
 
 -- a joins the first of four blocks
 pub begun : {a n x : Limbs} (m w : List ℕ) {v : List ℕ} → ((j : ℕ) → j < 4 → Holds (block_at m (16 * j)) (lane_of w j)) → Below (2 ^ 26) a → n ≡ lane_of w 0

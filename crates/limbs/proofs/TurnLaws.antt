@@ -2,7 +2,7 @@
 use mathlib.Core.Path.{◌≡◌, refl, ap, sym, ◌∙◌}
 use mathlib.Core.List.{List, [], ◌∷◌, ◌++◌}
 use Prim.Native.Nat.{ℕ, zero, suc, ◌+◌, ◌-◌, ◌*◌, ◌%◌, ◌^◌, ◌<◌, ◌≤◌}
-use native.Mathlib.Nat.{mul_comm, zero-add, add-zero, mod-eq_of_lt, mod-lt, sub-eq-zero_of_le}
+use native.Mathlib.Nat.{mul_comm, zero-add, add-zero, sub-zero, mod-eq_of_lt, mod-lt, sub-eq-zero_of_le}
 use native.Mathlib.Omega.{arith}
 use lib.Dec.{lit<}
 use lib.ListN.{length, take, drop, length-drop}
@@ -60,6 +60,10 @@ num-one b e = num-append b (1 ∷ []) ∙ rw e
 step_is : (top r h t : ℕ) (b : List ℕ) → t % p ≡ (h + (num b + 2 ^ 104 * top)) * r % p → t % p ≡ step_by top r (h % p) b
 unfolding step_by
 step_is top r h t b f = f ∙ mod_in (2 ^ 26) p wraps h (num b + 2 ^ 104 * top) r ∙ rw (mul_comm r (h % p + (num b + 2 ^ 104 * top)))
+
+-- before the first turn
+pub steps_none : (top n r a : ℕ) (m : List ℕ) → steps_by top (n - 0) r a (drop (16 * 0) m) ≡ steps_by top n r a m
+steps_none top n r a m = rw (sub-zero n)
 
 -- the next turn
 pub steps_more : (top n i r h t : ℕ) (m : List ℕ) {T : ℕ} → i < n → t % p ≡ (h + (num (part (16 * i) 16 m) + 2 ^ 104 * top)) * r % p

@@ -12,4 +12,4 @@ pub returns : goal.returns
 unfolding tag_key
 returns c =
     c.lettered.ensures
-    ∙ rw (c.letter_of-letter.ensures, c.to_le_bytes.ensures, le_eight c.args.lock.keycount, flake c)
+    ∙ rw (c.letter_of-letter.ensures, c.to_le_bytes.ensures ∙ le_eight c.args.lock.keycount, flake c)
