@@ -11,18 +11,23 @@ PAGE = "## Functions that ask something of their caller\n"
 
 
 def asking():
-    """(crate, function) of each public function with a `requires`."""
+    """(crate, function) of each public function with a `requires`, and of each such method of a public trait, behind the trait's name."""
     for source in sorted(pathlib.Path("crates").glob("*/src/**/*.rt")):
-        for found in re.finditer(r'^ *pub (?:extern "C" )?fn (\w+)(.*?)(?:\{|^ *\{)\n', source.read_text(), re.M | re.S):
+        page = source.read_text()
+        for found in re.finditer(r'^ *pub (?:extern "C" )?fn (\w+)(.*?)(?:\{|^ *\{)\n', page, re.M | re.S):
             if "requires" in found.group(2):
                 yield source.parts[1], found.group(1)
+        for trait in re.finditer(r"^pub trait (\w+)[^{]*\{\n(.*?)^\}", page, re.M | re.S):
+            for found in re.finditer(r"^    fn (\w+)(.*?)(?:;|\{)\n", trait.group(2), re.M | re.S):
+                if "requires" in found.group(2):
+                    yield source.parts[1], f"{trait.group(1)}::{found.group(1)}"
 
 
 def named():
     """(crate, function) of each row of the page's table."""
     page = pathlib.Path("docs/DECISIONS.md").read_text().split(PAGE)[1].split("\n## ")[0]
     for row in re.finditer(r"^\| `(\w+)` \| (.*?) \| \S.* \|$", page, re.M):
-        for function in re.findall(r"`(\w+)`", row.group(2)):
+        for function in re.findall(r"`(\w+(?:::\w+)?)`", row.group(2)):
             yield row.group(1), function
 
 
