@@ -13,8 +13,8 @@ import sys
 PRINTS = "its functions print, and no contract can say what is written"
 PROGRAMS = {"vectors": PRINTS, "vectors_aes": PRINTS}
 
-# The public traits, whose instances' methods are met through a type parameter and have the trait's very words. These have no
-# theorem of their own: those of the generic functions over them say what comes of it.
+# The public traits, whose instances' methods are met through a type parameter and have the trait's very words. Those named here
+# below have no theorem of their own: those of the generic functions over them say what comes of it.
 TRAITS = {"Direction", "Source"}
 SAID_BY_THE_TRAIT = {"ForwardDirection_turn", "BackwardDirection_turn", "source_WrittenSource_offset", "source_WrittenSource_len",
                      "encrypted_EncryptedSource_offset", "encrypted_EncryptedSource_len", "encrypted_EncryptedSource_lay_flake"}

@@ -17,6 +17,7 @@ use Rattle.base.proofs.PickLaws.{told, clash, yes, no}
 use Rattle.line.specs.Reading.{up_to, past}
 use Rattle.line.proofs.ReadLaws.{up_to-le, up_to-take}
 use Rattle.standings.proofs.ReadingLaws.{prefix_is, behind_is}
+use Rattle.fleets.specs.Lines.{unended}
 
 -- the first line of the first b bytes
 pub up_to_cut : (c b : ℕ) (i : List ℕ) → up_to c (take b i) ≡ take b (up_to c i)
@@ -53,7 +54,7 @@ piece_rest l x r i e n h =
     sym cut ∙ rw m (behind_is 10 l 0 is)
 
 -- where the first piece's line ends: at its last byte if that is a newline, and else behind it
-pub unended_le : (x : List ℕ) {end : ℕ} → end ≡ pick (eqb (get_or x (length x - 1) 0) 10) (length x - 1) (length x) → end ≤ length x
+pub unended_le : (x : List ℕ) {end : ℕ} → end ≡ unended x → end ≤ length x
 unended_le x e = go (eqb (get_or x (length x - 1) 0) 10) e
   where
     go : (t : Bool) {end : ℕ} → end ≡ pick t (length x - 1) (length x) → end ≤ length x
@@ -64,7 +65,7 @@ pub piece_some : (l x : List ℕ) (i : ℕ) → length x ≡ min (i + 1) (length
 piece_some l x i n some = omega (arith, n, some)
 
 pub piece_end : (l x r : List ℕ) (i : ℕ) → l ≡ x ++ r → length x ≡ min (i + 1) (length l) → IsFirstMatchOrLen (λ b. eqb b 10) l i → 0 < length l
-    → {end : ℕ} → end ≡ pick (eqb (get_or x (length x - 1) 0) 10) (length x - 1) (length x) → take end x ≡ up_to 10 x
+    → {end : ℕ} → end ≡ unended x → take end x ≡ up_to 10 x
 piece_end l x r i e n h some {end} ee =
     let is = first_is l i h in
     let long : length (up_to 10 x) ≡ i = ap (λ (k : List ℕ). length k) (piece_line l x r i e n h) ∙ sym is in

@@ -1,5 +1,5 @@
 -- Document 02, Item 11: "A program reads such lines from standard input, one per drive, and prints one line".
-use Rattle.std.specs.Prelude.{ℕ, ◌+◌, Bool, List, [], ◌∷◌, ◌++◌, eqb, ltb, Ok, Err}
+use Rattle.std.specs.Prelude.{ℕ, ◌+◌, ◌-◌, Bool, List, [], ◌∷◌, ◌++◌, eqb, ltb, length, get_or, Ok, Err}
 use Rattle.base.specs.Pick.{pick, both}
 use Rattle.line.specs.Decimal.{decimal}
 use Rattle.line.specs.Lines.{newline}
@@ -19,6 +19,10 @@ before b (l ∷ ls) = (b ∷ l) ∷ ls
 unfoldable pub lines_of : List ℕ → List (List ℕ)
 lines_of [] = []
 lines_of (b ∷ t) = pick (eqb b 10) ([] ∷ lines_of t) (before b (lines_of t))
+
+-- how long a piece is without the newline at its end, which the last line may lack
+abbrev pub unended : List ℕ → ℕ
+unended x = pick (eqb (get_or x (length x - 1) 0) 10) (length x - 1) (length x)
 
 -- the next line is taken and isn't "the 257th"
 unfoldable pub goes : Fleet → List ℕ → Bool

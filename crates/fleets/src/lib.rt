@@ -2,11 +2,10 @@
 // It touches `standings` to read each drive's line, `totals` to join the drives, and `line` to put the fleet's line.
 #![tactic(auto)]
 
-ghost use Rattle.std.specs.Prelude.{◌≡◌, ◌-◌, ◌<◌, ◌≤◌, eqb, length, get_or, take};
-ghost use Rattle.base.specs.Pick.{pick};
+ghost use Rattle.std.specs.Prelude.{◌≡◌, ◌<◌, ◌≤◌, length, take};
 ghost use Rattle.line.specs.Lines.{Put};
 ghost use Rattle.totals.specs.Fleet.{Summed};
-ghost use Rattle.fleets.specs.Lines.{with_line, closed_line, open_line, gathered_in, fleet_line};
+ghost use Rattle.fleets.specs.Lines.{unended, with_line, closed_line, open_line, gathered_in, fleet_line};
 
 use line::Page;
 use totals::Fleet;
@@ -34,10 +33,10 @@ fn with_line(f: Fleet, line: &[u8]) -> Result<Fleet, Open>
     }
 }
 
-// How long a line is without its newline, which the last one may lack: its last byte tells, so that no line is gone over for it.
+// Its last byte tells where a line ends, so that no line is gone over for it.
 fn unended(line: &[u8]) -> usize
     requires { 0 < length line.now }
-    ensures { result ≡ pick (eqb (get_or line.now (length line.now - 1) 0) 10) (length line.now - 1) (length line.now) }
+    ensures { result ≡ unended line.now }
 {
     let last = line.len() - 1;
     if line[last] == b'\n' {
